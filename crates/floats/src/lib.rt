@@ -1,0 +1,87 @@
+// Document 01's float helpers and the square root of an f64. Each call is total, and its contract is an equation with a definition of specs/.
+ghost use mathlib.Core.Path.{_≡_};
+ghost use Rattle.floats.specs.Helpers as helpers;
+ghost use Rattle.floats.specs.Sqrt as def;
+
+mod root;
+
+// lo if v < lo, else hi if v > hi, else v: also for bounds that are NaN, infinite or inverted.
+pub fn clamp(v: f64, lo: f64, hi: f64) -> f64
+    ensures { λ r. ⌜ r ≡ helpers.clamp v lo hi ⌝ }
+{
+    if v < lo {
+        return lo;
+    }
+    if v > hi {
+        return hi;
+    }
+    v
+}
+
+// The larger of two: the one that isn't NaN, NaN if both are, and of +0 and -0 +0.
+pub fn larger(x: f64, y: f64) -> f64
+    ensures { λ r. ⌜ r ≡ helpers.larger x y ⌝ }
+{
+    if x != x {
+        return y;
+    }
+    if y != y {
+        return x;
+    }
+    if x < y {
+        return y;
+    }
+    if y < x {
+        return x;
+    }
+    if x == 0.0 {
+        return x + y;
+    }
+    x
+}
+
+// v without its sign.
+pub fn abs(v: f64) -> f64
+    ensures { λ r. ⌜ r ≡ helpers.abs v ⌝ }
+{
+    if v == 0.0 {
+        return 0.0;
+    }
+    if v < 0.0 {
+        return -v;
+    }
+    v
+}
+
+pub fn is_nan(v: f64) -> bool
+    ensures { λ r. ⌜ r ≡ helpers.isNaN v ⌝ }
+{
+    v != v
+}
+
+// Neither NaN nor an infinity. (An infinity is no constant of the language; 1.0 / 0.0 is one.)
+pub fn is_finite(v: f64) -> bool
+    ensures { λ r. ⌜ r ≡ helpers.isFinite v ⌝ }
+{
+    if v > -1.0 / 0.0 {
+        return v < 1.0 / 0.0;
+    }
+    false
+}
+
+// The square root of v, rounded to nearest: of ±0 and +∞ that number, of NaN and negatives NaN.
+pub fn sqrt(v: f64) -> f64
+    ensures { λ r. ⌜ r ≡ def.sqrt v ⌝ }
+{
+    if v > 0.0 {
+        let b = f64::to_bits(v);
+        if b < 0x7ff0_0000_0000_0000 {
+            return f64::from_bits(root::root_bits(b));
+        }
+        return v;
+    }
+    if v == 0.0 {
+        return v;
+    }
+    0.0 / 0.0
+}

@@ -1,0 +1,46 @@
+-- A loop that fills a list from the front, over any type (borrow.Author.Fill has it over ℕ), in the form in which `search` applies it.
+use mathlib.Core.Path.{_≡_, refl, sym, ap, _∙_}
+use mathlib.Core.List.{List, [], _∷_, _++_, append-nil, append-assoc}
+use Prim.Native.Nat.{ℕ, zero, suc, _+_, _≤_, _<_}
+use native.Mathlib.Nat.{not-suc-le-zero, le-of-suc-le-suc}
+use native.Mathlib.Numerals.{add-one}
+use native.Mathlib.Omega.{arith}
+use lib.Seq.{drop-cons, set-at}
+use Rattle.loops.specs.Loops.{tab, turns}
+use lib.ListN.{length, length-append, set, drop, replicate, drop-of-length-le}
+
+module _ {A : Type 0} where
+  pub fill-start : (v : A) (d : List A) → d ≡ replicate 0 v ++ drop 0 d
+  fill-start v d = refl
+
+  fill-suc : (n : ℕ) (v : A) (d : List A) → n < length d → set (replicate n v ++ drop n d) n v ≡ replicate (suc n) v ++ drop (suc n) d
+  fill-suc n v [] l = absurd (not-suc-le-zero l)
+  fill-suc zero v (x ∷ d) l = refl
+  fill-suc (suc n) v (x ∷ d) l = ap (λ (t : List A). v ∷ t) (fill-suc n v d (le-of-suc-le-suc l))
+
+  pub fill-again : (n : ℕ) (v : A) (d s : List A) → s ≡ replicate n v ++ drop n d → length s ≡ length d → n < length s → set s n v ≡ replicate (n + 1) v ++ drop (n + 1) d
+  fill-again n v d s e g l = rw (add-one, e) (fill-suc n v d (omega arith))
+
+  pub fill-done : (n : ℕ) (v : A) (d s : List A) → s ≡ replicate n v ++ drop n d → length s ≡ length d → n ≤ length d → length s ≤ n → s ≡ replicate (length d) v
+  fill-done n v d s e f g h = let q : n ≡ length d = omega arith in e ∙ rw (drop-of-length-le d {i = n} (omega arith), append-nil, q)
+
+-- the same with f 0, f 1, .. for one value
+module _ {A : Type 0} (f : ℕ → A) where
+  tab-length : (n : ℕ) → length (tab f n) ≡ n
+  unfolding tab turns
+  tab-length zero = refl
+  tab-length (suc n) = length-append (tab f n) (f n ∷ []) ∙ rw (tab-length n) (add-one n)
+
+  pub tab-start : (d : List A) → d ≡ tab f 0 ++ drop 0 d
+  unfolding tab turns
+  tab-start d = refl
+
+  pub tab-again : (n : ℕ) (d s : List A) → s ≡ tab f n ++ drop n d → length s ≡ length d → n < length s → set s n (f n) ≡ tab f (n + 1) ++ drop (n + 1) d
+  unfolding tab turns
+  tab-again n d s e g l =
+      let h : n < length d = omega arith in
+      let q : length (tab f n) ≡ n = tab-length n in
+      rw (add-one, e, drop-cons d n (f n) h, set-at (tab f n) _ _ (f n) n q, append-assoc)
+
+  pub tab-done : (n : ℕ) (d s : List A) → s ≡ tab f n ++ drop n d → length s ≡ length d → n ≤ length d → length s ≤ n → s ≡ tab f (length d)
+  tab-done n d s e k g h = let q : n ≡ length d = omega arith in e ∙ rw (drop-of-length-le d {i = n} (omega arith), append-nil, q)
