@@ -1,2 +1,9 @@
+pub mod Rank
+pub mod Order
+pub mod Maximum
+pub mod Box
+pub mod Meaning
 pub mod Infinity
+pub mod Rounding
+pub mod Bound
 pub mod SquareRoot

@@ -2,17 +2,20 @@
 use mathlib.Core.Path.{_≡_, refl, sym, ap, _∙_, subst}
 use mathlib.Core.Logic.{_⊎_, inl, inr}
 use Prim.Native.Nat.{ℕ, zero, suc, _+_, _-_, _*_, _/_, _%_, _^_, _≤_, _<_, zero-le}
-use native.Mathlib.Nat.{le-refl, le-trans, le-of-eq, le-of-lt, lt-of-le-of-lt, lt-of-lt-of-le, lt-irrefl, le-antisymm, eq-or-lt-of-le, lt-of-not-le, not-le-of-lt, le-of-suc-le-suc, mul-one, mul-pos, mul-le-mul, mul-le-mul-right, mul-lt-mul-of-pos-right, mul-lt-mul-of-pos-left, pow-succ', add-zero, add-suc, le-add-right, lt-trans, add-le-add, zero-mul}
+use native.Mathlib.Nat.{le-refl, le-trans, le-of-eq, le-of-lt, lt-of-le-of-lt, lt-of-lt-of-le, lt-irrefl, le-antisymm, eq-or-lt-of-le, lt-of-not-le, not-le-of-lt, le-of-suc-le-suc, mul-one, mul-pos, mul-le-mul, mul-le-mul-right, mul-lt-mul-of-pos-right, mul-lt-mul-of-pos-left, pow-succ', add-zero, add-suc, le-add-right, lt-trans, add-le-add, zero-mul, zero-lt-suc}
 use native.Mathlib.Numerals.{add-one-le}
 use borrow.Author.Tests.{lt-ltb}
 use lib.Ieee.Positive.{positive}
 use lib.Ieee.Fits.{up-pos}
 use native.Mathlib.Omega.{arith}
-use mathlib.Core.Bool.{Bool, true, false, not}
-use lib.Dec.{T, leb, leb→le, nleb→lt, ltb→lt, lit<}
+use mathlib.Core.Bool.{Bool, true, false, not, true≢false}
+use lib.Dec.{T, leb, leb→le, nleb→lt, ltb→lt, lt→ltb, lit<}
 use lib.Pow.{pow-pos}
 use lib.Ieee.{Float, nan, inf, fin, binary64, odd, ofBits, toBits, isNan, fits, lt, up, down}
 use lib.Ieee.Bits.{ofBits-toBits, toBits-ofBits, nanBits-is}
+use lib.IntN.{pos}
+use Rattle.floats.proofs.Rank.{ticks, zero-is}
+use Rattle.floats.proofs.Order.{ticks-pos}
 use Rattle.floats.specs.Sqrt.{wholeRoot, sqrt}
 use Rattle.floats.specs.Nearest.{unitsOf, above, below, Between}
 use Rattle.floats.proofs.SquareRoot.Whole.{Whole, root-lt, root-whole}
@@ -307,8 +310,8 @@ nearest v f p =
     let z = found b (i .0) (i .1) in
     subst (λ (x : Float). Between x (sqrt x)) e (subst (λ (x : Float). Between (ofBits binary64 b) x) (sym (z .1 .is)) (between-of b (z .0) (z .1 .fin) (z .1 .sides)))
 
-pub only : (v r : Float) → T (fits binary64 v) → T (positive v) → T (fits binary64 r) → T (positive r) → Between v r → r ≡ sqrt v
-only v r f p g q t =
+only-positive : (v r : Float) → T (fits binary64 v) → T (positive v) → T (fits binary64 r) → T (positive r) → Between v r → r ≡ sqrt v
+only-positive v r f p g q t =
     let b = toBits binary64 v in
     let c = toBits binary64 r in
     let e : ofBits binary64 b ≡ v = ofBits-toBits binary64 v f in
@@ -318,3 +321,49 @@ only v r f p g q t =
     let z = found b (i .0) (i .1) in
     let s = sides-of b c (k .1) (subst (λ (x : Float). Between (ofBits binary64 b) x) (sym d) (subst (λ (x : Float). Between x r) (sym e) t)) in
     sym d ∙ ap (ofBits binary64) (only-sides (val b * 2 ^ 1074) (z .0) c (z .1 .pos) (z .1 .fin) (k .0) (k .1) (z .1 .sides) s) ∙ sym (z .1 .is) ∙ ap sqrt e
+
+-- ---- no other f64 than the positive finite ones comes into question, but for the negative, whose squares are those of the positive
+
+some-units : (v : Float) → T (fits binary64 v) → T (positive v) → 0 < unitsOf v
+unfolding ticks
+some-units nan f p = absurd p
+some-units (inf s) f p = absurd p
+some-units (fin true m e) f p = absurd p
+some-units (fin false zero e) f p = absurd (lt-irrefl 0 (ltb→lt 0 0 p))
+some-units (fin false (suc m) e) f p = ticks-pos binary64 false m e f
+
+none-below : (u x : ℕ) → 0 < u → x ≡ 0 → 4 * (u * 2 ^ 1074) < x * x → ⊥
+none-below u x h e l = let z : x * x ≡ 0 = rw e in not-le-of-lt l (subst (λ (y : ℕ). y ≤ 4 * (u * 2 ^ 1074)) (sym z) zero-le)
+
+none-at-one : (u w x : ℕ) → 0 < u → 0 < w → x ≡ 1 → 4 * (u * w) < x * x → ⊥
+none-at-one u w x h k e l = let z : x * x ≡ 1 = rw e in let g : 0 < u * w = mul-pos h k in omega arith
+
+at-nan : unitsOf nan + unitsOf (above nan) ≡ 0
+unfolding ofBits toBits
+at-nan = refl
+
+at-infinity : unitsOf (inf false) + unitsOf (above (inf false)) ≡ 0
+unfolding ofBits toBits
+at-infinity = refl
+
+at-zero : (s : Bool) → unitsOf (fin s 0 (pos 0)) + unitsOf (above (fin s 0 (pos 0))) ≡ 1
+unfolding ofBits toBits
+at-zero true = refl
+at-zero false = refl
+
+not-negative-positive : (v r : Float) → T (fits binary64 v) → T (positive v) → T (fits binary64 r) → lt r Z ≡ false → Between v r → T (positive r)
+unfolding lt ofBits
+not-negative-positive v nan f p g n t = absurd (none-below (unitsOf v) _ (some-units v f p) at-nan (t .high))
+not-negative-positive v (inf true) f p g n t = absurd (true≢false n)
+not-negative-positive v (inf false) f p g n t = absurd (none-below (unitsOf v) _ (some-units v f p) at-infinity (t .high))
+not-negative-positive v (fin s zero e) f p g n t =
+    let z = zero-is binary64 s e g in
+    absurd (none-at-one (unitsOf v) (2 ^ 1074) _ (some-units v f p) (pow-pos 1074) (at-zero s) (rw z at (t .high)))
+not-negative-positive v (fin true (suc m) e) f p g n t =
+    let k : 0 < suc m * up e * 1 = mul-pos (mul-pos (zero-lt-suc m) (up-pos e)) (zero-lt-suc 0) in
+    absurd (true≢false (sym (lt-ltb 0 (suc m * up e * 1 + 0 * 1 * down e) (omega arith)) ∙ n))
+not-negative-positive v (fin false (suc m) e) f p g n t = lt→ltb 0 (suc m) (zero-lt-suc m)
+
+-- of the f64s not below zero, v lies between the squares of the midpoints to the neighbours of one only
+pub only : (v r : Float) → T (fits binary64 v) → T (positive v) → T (fits binary64 r) → lt r Z ≡ false → Between v r → r ≡ sqrt v
+only v r f p g n t = only-positive v r f p g (not-negative-positive v r f p g n t) t
