@@ -1,21 +1,20 @@
 -- Values that are zero or NaN, the sign of a quotient, and a multiplier on its bound that a step does not push inside: its distance from the clamped step is zero or NaN.
-use Prim.Native.Nat.{ℕ, zero, suc, _+_, _-_, _*_, _^_, _≤_, _<_}
+use Prim.Native.Nat.{ℕ, zero, suc, _+_, _-_, _*_, _^_, _<_}
 use mathlib.Core.Path.{_≡_, refl, sym, _∙_, ap, subst}
-use mathlib.Core.Bool.{Bool, true, false, not, cond, _&&_, _||_, Bool·beq, true≢false}
-use mathlib.Core.List.{List}
+use mathlib.Core.Bool.{Bool, true, false, not, cond, _&&_, _||_, true≢false}
 use native.Mathlib.Omega.{arith}
 use native.Mathlib.Nat.{mul-pos, zero-mul, zero-lt-suc}
-use lib.IntN.{ℤ, pos, negsuc}
-use lib.Dec.{T, leb, ltb, eqb}
+use lib.IntN.{pos}
+use lib.Dec.{T, eqb}
 use lib.Pow.{pow-pos}
-use lib.Ieee.{Float, nan, inf, fin, Format, binary64, prec, emax, low, up, down, unlike, fits, ofBits, round, sum, add, sub, mul, div, neg, lt, le, eq, ne, below, level}
+use lib.Ieee.{Float, nan, inf, fin, Format, binary64, prec, emax, low, up, down, unlike, fits, ofBits, round, sum, add, sub, div, neg, lt, le, eq, ne, level}
 use lib.Ieee.Fits.{up-pos, down-pos, round-fits, sub-fits}
 use lib.Ieee.Compare.{differs-from-itself}
-use lib.Ieee.Exact.{HasValue, round-exact}
-use borrow.Author.Tests.{ltb-true, ltb-false, lt-ltb, le-ltb, eqb-true, not-true, not-false}
+use lib.Ieee.Exact.{round-exact}
+use borrow.Author.Tests.{lt-ltb, le-ltb, eqb-true}
 use Rattle.floats.specs.Ops.{_⊖_, _⊘_, 0ᶠ, 1e-9, Fits}
 use Rattle.floats.specs.Helpers.{clamp, abs}
-use Rattle.floats.proofs.Order.{total, le-left, le-right, not-above, le-lt, lt-le, equal}
+use Rattle.floats.proofs.Order.{total, le-left, le-right, le-lt, lt-le, equal}
 use Rattle.floats.proofs.Rounding.{value-unique, notNegative, notPositive, nonneg, nonneg-round, sub-down, sub-up, round-neg}
 
 -- ---- zero or NaN

@@ -1,14 +1,13 @@
 -- `larger` picks the value of higher rank. So on values that binary64 holds it is commutative, associative, and its result is one of the two.
-use Prim.Native.Nat.{ℕ, zero, suc, _+_, _-_, _*_, _≤_, _<_}
-use mathlib.Core.Path.{_≡_, refl, sym, _∙_, ap, subst}
-use mathlib.Core.Bool.{Bool, true, false, not, cond, _&&_, _||_, Bool·beq}
+use Prim.Native.Nat.{ℕ, zero, suc, _+_, _-_, _*_, _<_}
+use mathlib.Core.Path.{_≡_, refl, sym, _∙_, ap}
+use mathlib.Core.Bool.{Bool, true, false, cond}
 use native.Mathlib.Omega.{arith}
 use native.Mathlib.Nat.{mul-pos, zero-lt-suc}
-use lib.IntN.{ℤ, pos, negsuc}
-use lib.Dec.{T, leb, ltb, eqb, eqb-refl}
-use lib.Ieee.{Float, nan, inf, fin, Format, binary64, up, down, fits, ofBits, ofFields, odd, add, sum, round, size, span, climb, units, lt, eq, ne, below, level}
-use lib.Ieee.Bits.{is-true}
-use lib.Ieee.Fits.{up-pos, down-pos, cond-fits, nan-fits}
+use lib.IntN.{ℤ}
+use lib.Dec.{ltb, eqb}
+use lib.Ieee.{Float, nan, inf, fin, binary64, up, down, ofBits, add, sum, lt, eq, ne, below}
+use lib.Ieee.Fits.{up-pos, down-pos, cond-fits}
 use borrow.Author.Tests.{ltb-true, ltb-false, lt-ltb, le-ltb, ne-eqb}
 use Rattle.floats.specs.Ops.{_⊕_, 0ᶠ, Fits}
 use Rattle.floats.specs.Helpers.{larger}

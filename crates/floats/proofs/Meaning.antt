@@ -1,19 +1,19 @@
 -- What the float helpers, written with comparisons, mean of a value's kind, sign bit and order.
-use Prim.Native.Nat.{ℕ, zero, suc, _+_, _-_, _*_, _%_, _/_, _^_, _≤_, _<_}
-use mathlib.Core.Path.{_≡_, refl, sym, _∙_, ap, subst}
-use mathlib.Core.Bool.{Bool, true, false, not, cond, _&&_, _||_, and-false, true≢false}
+use Prim.Native.Nat.{ℕ, zero, suc, _+_, _-_, _*_, _%_, _^_, _≤_, _<_}
+use mathlib.Core.Path.{_≡_, refl, sym, _∙_, ap}
+use mathlib.Core.Bool.{Bool, true, false, cond, _&&_, and-false, true≢false}
 use native.Mathlib.Omega.{arith}
-use native.Mathlib.Nat.{mul-pos, zero-mul, zero-lt-suc, mod-eq-of-lt, add-assoc, zero-add, add-mod-left}
+use native.Mathlib.Nat.{mul-pos, zero-mul, zero-lt-suc, zero-add}
 use lib.IntN.{ℤ}
-use lib.Dec.{T, ltb, eqb, lit<}
-use lib.Ieee.{Float, nan, inf, fin, binary64, up, down, size, top, hid, ones, prec, low, fits, ofBits, toBits, isNan, neg, lt, le, eq, ne}
+use lib.Dec.{ltb, eqb, lit<}
+use lib.Ieee.{Float, nan, inf, fin, binary64, up, down, top, fits, ofBits, toBits, isNan, neg, lt, le, eq, ne}
 use lib.Ieee.Bits.{toBits-lt}
-use lib.Ieee.Fits.{up-pos, down-pos}
+use lib.Ieee.Fits.{up-pos}
 use borrow.Author.Tests.{lt-ltb, le-ltb, ltb-true, ltb-false, eqb-true, eq-eqb, ne-eqb}
-use Rattle.floats.specs.Ops.{0ᶠ, ∞, −∞, Fits}
-use Rattle.floats.specs.Helpers.{clamp, larger, abs, isNaN, isFinite}
+use Rattle.floats.specs.Ops.{0ᶠ, Fits}
+use Rattle.floats.specs.Helpers.{larger, abs, isNaN, isFinite}
 use Rattle.floats.proofs.Rank.{rank, zero-is, ticks, ticks-lt, middle}
-use Rattle.floats.proofs.Order.{level-self, le-self, total, lt-self, not-above, lt-right}
+use Rattle.floats.proofs.Order.{level-self, le-self, total, lt-self}
 use Rattle.floats.proofs.Maximum.{larger-rank, not-zero}
 
 -- ---- kinds

@@ -1,13 +1,13 @@
 -- The order of floats: where neither is NaN one of two is at most the other, and for values that a format holds it is the order of whole numbers.
 use Prim.Native.Nat.{ℕ, zero, suc, _+_, _-_, _*_, _^_, _≤_, _<_}
 use mathlib.Core.Path.{_≡_, refl, sym, _∙_, ap}
-use mathlib.Core.Bool.{Bool, true, false, not, cond, _&&_, _||_, Bool·beq, true≢false}
+use mathlib.Core.Bool.{Bool, true, false, not, _&&_, _||_, true≢false}
 use native.Mathlib.Omega.{arith}
 use native.Mathlib.Nat.{mul-pos, zero-mul, zero-lt-suc}
 use lib.IntN.{ℤ}
-use lib.Dec.{T, leb, ltb, eqb, eqb-refl}
+use lib.Dec.{T, ltb, eqb, eqb-refl}
 use lib.Pow.{pow-pos}
-use lib.Ieee.{Float, nan, inf, fin, Format, low, up, down, fits, neg, lt, le, eq, ne, below, level}
+use lib.Ieee.{Float, nan, inf, fin, Format, low, up, down, fits, neg, lt, le, eq, below, level}
 use lib.Ieee.Bits.{is-true}
 use lib.Ieee.Fits.{up-pos, down-pos}
 use borrow.Author.Tests.{ltb-true, ltb-false, lt-ltb, le-ltb, eq-eqb, eqb-true}

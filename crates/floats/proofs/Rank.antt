@@ -1,16 +1,15 @@
 -- The larger of two floats is the one of higher rank: a natural number for each value that the format holds, no two the same.
 use Prim.Native.Nat.{ℕ, zero, suc, _+_, _-_, _*_, _/_, _%_, _^_, _≤_, _<_}
 use mathlib.Core.Path.{_≡_, refl, sym, _∙_, ap, subst}
-use mathlib.Core.Bool.{Bool, true, false, not, cond, _&&_, _||_, Bool·beq}
+use mathlib.Core.Bool.{Bool, true, false, cond, _&&_}
 use native.Mathlib.Omega.{arith}
-use native.Mathlib.Nat.{mul-assoc, mul-comm, mul-right-comm, mul-left-comm, mul-one, one-mul, zero-mul, add-zero, pow-succ', div-mul-cancel, mul-div-cancel, div-lt-iff-lt-mul, mul-lt-mul-of-pos-right, lt-of-mul-lt-mul-right, le-of-mul-le-mul-right, mul-le-mul-right, eq-of-mul-eq-mul-right, lt-irrefl, mul-pos, le-refl, zero-lt-suc}
+use native.Mathlib.Nat.{mul-assoc, mul-comm, mul-right-comm, mul-one, one-mul, zero-mul, pow-succ', mul-div-cancel, mul-lt-mul-of-pos-right, lt-of-mul-lt-mul-right, le-of-mul-le-mul-right, mul-le-mul-right, lt-irrefl, mul-pos}
 use lib.IntN.{ℤ, pos, negsuc}
 use lib.Dec.{T, leb, ltb, eqb, eqb→eq, leb→le, ltb→lt}
 use lib.Pow.{pow-pos, pow-lt, pow-add}
-use lib.Ieee.{Float, nan, inf, fin, Format, binary64, prec, emax, low, up, down, fits, toBits, ofBits, add, lt, eq, ne, below, level, round, sum}
+use lib.Ieee.{Float, nan, inf, fin, Format, prec, emax, low, up, down, fits, toBits, ofBits}
 use lib.Ieee.Bits.{ofBits-toBits}
-use lib.Ieee.Fits.{and-l, and-r, up-pos, down-pos}
-use borrow.Author.Tests.{ltb-true, ltb-false, lt-ltb, le-ltb, eqb-true, eq-eqb, ne-eqb}
+use lib.Ieee.Fits.{and-l, and-r, down-pos}
 
 -- ---- a finite value in units of the format's smallest
 

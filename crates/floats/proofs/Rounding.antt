@@ -1,20 +1,20 @@
 -- A sum with a term that is not above zero is not above the other term, and one with a term not below zero is not below it: for values that the format holds.
-use Prim.Native.Nat.{ℕ, zero, suc, _+_, _-_, _*_, _/_, _%_, _^_, _≤_, _<_}
+use Prim.Native.Nat.{ℕ, zero, suc, _+_, _-_, _*_, _%_, _^_, _≤_, _<_}
 use mathlib.Core.Path.{_≡_, refl, sym, _∙_, ap, subst}
-use mathlib.Core.Bool.{Bool, true, false, not, cond, _&&_, _||_, Bool·beq, true≢false}
+use mathlib.Core.Bool.{Bool, true, false, not, cond, _&&_, _||_, true≢false}
 use native.Mathlib.Omega.{arith}
-use native.Mathlib.Nat.{mul-assoc, mul-comm, mul-left-comm, mul-right-comm, mul-one, one-mul, zero-mul, add-zero, mul-pos, lt-of-mul-lt-mul-right, mul-lt-mul-of-pos-right, eq-of-mul-eq-mul-right, le-antisymm, le-of-eq, zero-lt-suc, mul-le-mul-right}
+use native.Mathlib.Nat.{mul-assoc, mul-comm, mul-right-comm, mul-one, one-mul, zero-mul, mul-pos, lt-of-mul-lt-mul-right, mul-lt-mul-of-pos-right, eq-of-mul-eq-mul-right, le-antisymm, le-of-eq, zero-lt-suc, mul-le-mul-right}
 use lib.IntN.{ℤ, pos, negsuc}
-use lib.Dec.{T, leb, ltb, eqb, leb→le, ltb→lt, lt→ltb}
+use lib.Dec.{T, leb, ltb, eqb, ltb→lt}
 use lib.Pow.{pow-pos, pow-add}
-use lib.Ieee.{Float, nan, inf, fin, Format, prec, emax, low, up, down, fits, odd, units, round, sum, add, sub, neg, lt, le, eq, below, level, unlike, div}
+use lib.Ieee.{Float, nan, inf, fin, Format, prec, emax, low, up, down, fits, odd, units, round, sum, add, sub, neg, lt, le}
 use lib.Ieee.Bits.{is-true}
-use lib.Ieee.Fits.{and-l, and-r, up-pos, down-pos, round-is, round-fits, core}
+use lib.Ieee.Fits.{and-l, and-r, up-pos, down-pos, round-is, round-fits}
 use lib.Ieee.Exact.{HasValue, round-exact, odd-sign}
 use lib.Ieee.Order.{round-mono}
-use borrow.Author.Tests.{ltb-true, ltb-false, lt-ltb, le-ltb, eqb-true}
+use borrow.Author.Tests.{lt-ltb, le-ltb, eqb-true}
 use Rattle.floats.proofs.Order.{lt-neg, not-above, lt-self}
-use Rattle.floats.proofs.Rank.{ticks, ticks-more, ticks-inj, zero-is, exponent, low-enough, high-enough}
+use Rattle.floats.proofs.Rank.{ticks-more, ticks-inj, exponent, low-enough, high-enough}
 
 -- ---- a value is known by its sign and size
 

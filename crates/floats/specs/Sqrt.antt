@@ -1,6 +1,6 @@
 -- The square root of an f64, rounded to nearest. Definitions only. That the value is the nearest, and the only such, is stated in specs/Nearest.antt.
 use Prim.Native.Nat.{ℕ, zero, suc, _+_, _-_, _*_, _/_, _^_}
-use mathlib.Core.Bool.{Bool, true, false, cond}
+use mathlib.Core.Bool.{true, false, cond}
 use lib.IntN.{ℤ}
 use lib.Dec.{leb}
 use lib.Ieee.{Float, nan, inf, fin, up, down, size, odd}

@@ -1,17 +1,17 @@
 -- The cases of `sqrt`: which values each of its tests leaves. Assumes nothing.
 use mathlib.Core.Path.{_≡_, refl, sym, ap, _∙_, subst}
-use mathlib.Core.Logic.{_⊎_, inl, inr}
-use Prim.Native.Nat.{ℕ, zero, suc, _+_, _-_, _*_, _/_, _%_, _^_, _≤_, _<_, zero-le}
+use mathlib.Core.Logic.{inl, inr}
+use Prim.Native.Nat.{ℕ, zero, suc, _+_, _-_, _*_, _/_, _%_, _≤_, _<_}
 use native.Mathlib.Nat.{eq-zero-or-pos, le-antisymm, zero-mul, mul-one, mul-pos, zero-lt-suc, lt-irrefl, lt-of-lt-of-le, mod-eq-of-lt}
 use native.Mathlib.Omega.{arith}
 use mathlib.Core.Bool.{Bool, true, false, not, _&&_, _||_, Bool·beq, cond, true≢false}
-use lib.IntN.{ℤ, pos}
-use lib.Dec.{T, leb, ltb, eqb, le→leb, lt→ltb, ltb→lt, nltb→le, eqb→eq, eqb-refl, not-T, leb→le, nleb→lt}
+use lib.IntN.{ℤ}
+use lib.Dec.{T, leb, ltb, eqb, le→leb, nltb→le, eqb→eq, leb→le, nleb→lt}
 use lib.Arith.{le→nltb}
 use borrow.Author.Tests.{ltb-false}
 use lib.Ieee.{Float, nan, inf, fin, binary64, up, down, odd, ofFields, ofBits, toBits, nanBits, isNan, fits, lt, eq, div}
-use lib.Ieee.Bits.{is-true, is-false, ofBits-toBits, toBits-lt, nanBits-is, nanBits-above}
-use lib.Ieee.Fits.{up-pos, down-pos, and-l}
+use lib.Ieee.Bits.{is-true, ofBits-toBits, nanBits-is, nanBits-above}
+use lib.Ieee.Fits.{up-pos, and-l}
 use Rattle.floats.specs.Sqrt.{sqrt}
 use Rattle.floats.proofs.SquareRoot.Patterns.{H, S}
 use Rattle.floats.proofs.SquareRoot.Normal.{I}

@@ -2,7 +2,7 @@
 use mathlib.Core.Path.{_≡_, refl, sym, ap, _∙_, subst}
 use mathlib.Core.Logic.{_⊎_, inl, inr}
 use Prim.Native.Nat.{ℕ, zero, suc, _+_, _-_, _*_, _/_, _%_, _^_, _≤_, _<_, zero-le}
-use native.Mathlib.Nat.{le-refl, le-trans, le-of-eq, le-of-lt, lt-of-le-of-lt, lt-of-lt-of-le, lt-irrefl, le-antisymm, eq-or-lt-of-le, lt-of-not-le, not-le-of-lt, le-of-suc-le-suc, mul-one, mul-pos, mul-le-mul, mul-le-mul-right, mul-lt-mul-of-pos-right, mul-lt-mul-of-pos-left, pow-succ', add-zero, add-suc, le-add-right, lt-trans, add-le-add, zero-mul, zero-lt-suc}
+use native.Mathlib.Nat.{le-refl, le-trans, le-of-eq, le-of-lt, lt-of-le-of-lt, lt-of-lt-of-le, lt-irrefl, eq-or-lt-of-le, lt-of-not-le, not-le-of-lt, mul-one, mul-pos, mul-le-mul, mul-le-mul-right, mul-lt-mul-of-pos-right, mul-lt-mul-of-pos-left, pow-succ', add-zero, le-add-right, lt-trans, add-le-add, zero-mul, zero-lt-suc}
 use native.Mathlib.Numerals.{add-one-le}
 use borrow.Author.Tests.{lt-ltb}
 use lib.Ieee.Positive.{positive}
@@ -11,16 +11,16 @@ use native.Mathlib.Omega.{arith}
 use mathlib.Core.Bool.{Bool, true, false, not, true≢false}
 use lib.Dec.{T, leb, leb→le, nleb→lt, ltb→lt, lt→ltb, lit<}
 use lib.Pow.{pow-pos}
-use lib.Ieee.{Float, nan, inf, fin, binary64, odd, ofBits, toBits, isNan, fits, lt, up, down}
+use lib.Ieee.{Float, nan, inf, fin, binary64, ofBits, toBits, fits, lt, up, down}
 use lib.Ieee.Bits.{ofBits-toBits, toBits-ofBits, nanBits-is}
 use lib.IntN.{pos}
 use Rattle.floats.proofs.Rank.{ticks, zero-is}
 use Rattle.floats.proofs.Order.{ticks-pos}
 use Rattle.floats.specs.Sqrt.{wholeRoot, sqrt}
-use Rattle.floats.specs.Nearest.{unitsOf, above, below, Between}
-use Rattle.floats.proofs.SquareRoot.Whole.{Whole, root-lt, root-whole}
-use Rattle.floats.proofs.SquareRoot.Patterns.{H, S, normal, subnormal, units-odd, scaled-is, four-is}
-use Rattle.floats.proofs.SquareRoot.Normal.{I, Norm, of-normal, of-subnormal, Even, evened, p-range, root-pattern}
+use Rattle.floats.specs.Nearest.{unitsOf, above, Between}
+use Rattle.floats.proofs.SquareRoot.Whole.{Whole, root-whole}
+use Rattle.floats.proofs.SquareRoot.Patterns.{H, normal, subnormal, units-odd, scaled-is, four-is}
+use Rattle.floats.proofs.SquareRoot.Normal.{I, Norm, of-normal, of-subnormal, evened, p-range, root-pattern}
 use Rattle.floats.proofs.SquareRoot.Branches.{Z, finite-bits, bits-pos, inf-only}
 
 -- ---- the units of a pattern

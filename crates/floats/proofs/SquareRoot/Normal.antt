@@ -1,11 +1,11 @@
 -- What `root_bits` computes, on numbers: a pattern's value as s * 2 ^ e, and the pattern of its root. Assumes nothing.
-use mathlib.Core.Path.{_≡_, refl, sym, ap, _∙_, subst}
-use Prim.Native.Nat.{ℕ, zero, suc, _+_, _-_, _*_, _/_, _%_, _^_, _≤_, _<_, zero-le}
-use native.Mathlib.Nat.{le-trans, lt-of-le-of-lt, lt-of-lt-of-le, lt-of-not-le, mul-assoc, mul-one, mul-le-mul, mul-le-mul-right, mul-lt-mul-of-pos-right, not-le-of-lt}
+use mathlib.Core.Path.{_≡_, sym, ap, _∙_, subst}
+use Prim.Native.Nat.{ℕ, zero, suc, _+_, _-_, _*_, _/_, _%_, _^_, _≤_, _<_}
+use native.Mathlib.Nat.{lt-of-le-of-lt, lt-of-lt-of-le, mul-assoc, mul-one, mul-le-mul-right}
 use native.Mathlib.Omega.{arith}
 use mathlib.Core.Bool.{false}
-use lib.Dec.{lit<, lit≤}
-use lib.Pow.{pow-pos, pow-mono, pow-add, shl-lt, shl-exact}
+use lib.Dec.{lit≤}
+use lib.Pow.{pow-add, shl-lt}
 use lib.Count.{leadingZeros, leading-top}
 use lib.Ieee.{Float, binary64, odd, ofBits}
 use Rattle.floats.specs.Sqrt.{wholeRoot, nearestRoot, sqrt}

@@ -1,11 +1,11 @@
 -- The bit patterns of the positive finite values of binary64, and `sqrt` of the numbers that they stand for. Assumes nothing.
 use mathlib.Core.Path.{_≡_, refl, sym, ap, _∙_, subst}
-use Prim.Native.Nat.{ℕ, zero, suc, _+_, _-_, _*_, _/_, _%_, _^_, _≤_, _<_, zero-le}
-use native.Mathlib.Nat.{le-trans, le-of-eq, le-antisymm, lt-of-not-le, lt-of-le-of-lt, lt-of-lt-of-le, lt-irrefl, le-of-suc-le-suc, not-le-of-lt, mod-eq-of-lt, mul-assoc, mul-one, mul-pos, mul-le-mul-right, mul-div-cancel, pow-succ', zero-mul}
+use Prim.Native.Nat.{ℕ, zero, suc, _+_, _-_, _*_, _/_, _%_, _^_, _≤_, _<_}
+use native.Mathlib.Nat.{lt-of-not-le, lt-of-le-of-lt, lt-of-lt-of-le, lt-irrefl, not-le-of-lt, mod-eq-of-lt, mul-assoc, mul-pos, mul-le-mul-right, mul-div-cancel, pow-succ', zero-mul}
 use native.Mathlib.Omega.{arith}
-use mathlib.Core.Bool.{Bool, true, false, not, cond, true≢false}
+use mathlib.Core.Bool.{Bool, true, false, cond, true≢false}
 use lib.IntN.{ℤ}
-use lib.Dec.{T, leb, ltb, eqb, leb→le, eqb→eq, not-T, lit<}
+use lib.Dec.{T, leb, eqb, leb→le, eqb→eq, not-T}
 use lib.Pow.{pow-pos, pow-mono, pow-add, shl-lt}
 use lib.Ieee.{Float, nan, inf, fin, binary64, up, down, size, odd, ofFields, ofBits}
 use lib.Ieee.Bits.{is-false, cond-no}

@@ -1,8 +1,7 @@
 -- The whole part of a square root: `wholeRoot` finds it, and there is only one. Nothing here is about floats. Assumes nothing.
-use mathlib.Core.Path.{_≡_, refl, sym, ap, _∙_, subst}
-use mathlib.Core.Logic.{_⊎_, inl, inr}
-use Prim.Native.Nat.{ℕ, zero, suc, _+_, _-_, _*_, _/_, _%_, _^_, _≤_, _<_, zero-le}
-use native.Mathlib.Nat.{le-antisymm, mul-le-mul, lt-of-not-le, le-of-suc-le-suc, not-le-of-lt, lt-of-le-of-lt, zero-lt-suc, pow-succ'}
+use mathlib.Core.Path.{_≡_, subst}
+use Prim.Native.Nat.{ℕ, zero, suc, _+_, _-_, _*_, _/_, _^_, _≤_, _<_, zero-le}
+use native.Mathlib.Nat.{mul-le-mul, lt-of-not-le, not-le-of-lt, lt-of-le-of-lt, pow-succ'}
 use native.Mathlib.Omega.{arith}
 use mathlib.Core.Bool.{Bool, true, false, not, cond}
 use lib.Dec.{T, leb, leb→le, nleb→lt}

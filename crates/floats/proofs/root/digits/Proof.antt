@@ -1,8 +1,7 @@
 -- `floats::root::digits` meets its contract. Assumes nothing.
-use Prim.Native.Nat.{ℕ, _-_}
+use Prim.Native.Nat.{_-_}
 use mathlib.Core.Logic.{⊎-elim}
 use native.Mathlib.Omega.{arith}
-use borrow.Author.Needs.{needs}
 use Rattle.floats.proofs.SquareRoot.Digit.{Inv, bound, first, taken, left-out, done, moved}
 use Rattle.floats.proofs.root.digits.Statement.{statement}
 use Rattle.floats.proofs.root.digits.Tie as tie

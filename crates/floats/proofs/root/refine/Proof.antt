@@ -1,5 +1,5 @@
 -- `floats::root::refine` meets its contract. Assumes nothing.
-use Prim.Native.Nat.{ℕ, _*_, _/_, _-_}
+use Prim.Native.Nat.{_-_}
 use native.Mathlib.Omega.{arith}
 use Rattle.floats.proofs.SquareRoot.Halves.{Halved, square-lt, half, at-most, one-less}
 use borrow.Author.Needs.{needs}
