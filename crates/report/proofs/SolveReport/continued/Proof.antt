@@ -1,0 +1,24 @@
+-- `report::SolveReport::continued` meets its contract. Assumes nothing.
+use mathlib.Core.Path.{sym, _∙_}
+use Rattle.report.specs.Joins as def
+use Rattle.report.proofs.Sums.{summable}
+use borrow.Author.Needs.{needs}
+use Rattle.report.proofs.SolveReport.continued.Statement.{statement}
+use Rattle.report.proofs.SolveReport.continued.Tie as tie
+
+sums-fit-requires : tie.Need-sums-fit-requires
+sums-fit-requires c κs = search needs
+
+onward-requires : tie.Need-onward-requires
+onward-requires c κs = summable _ _ (sym (c .before .sums-fit .ensures) ∙ c .if1 .taken)
+
+returns : tie.Need-returns
+unfolding def.continued
+returns c = rw (c .onward .ensures, ← c .before .before .sums-fit .ensures, c .before .if1 .taken)
+
+returns-2 : tie.Need-returns-2
+unfolding def.continued
+returns-2 c = rw (← c .before .sums-fit .ensures, c .if1 .left)
+
+pub continued-spec : {M : Type 1} → statement M
+continued-spec = tie.close (tie.spec sums-fit-requires onward-requires returns returns-2)

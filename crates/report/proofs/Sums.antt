@@ -1,0 +1,68 @@
+-- The test of a join's sums says what each sum comes to.
+use Prim.Native.Nat.{ℕ, _+_, _-_, _≤_}
+use mathlib.Core.Path.{_≡_, refl, sym, _∙_}
+use mathlib.Core.Bool.{Bool, true, false, _&&_, true≢false}
+use native.Mathlib.Omega.{arith}
+use lib.Dec.{leb}
+use borrow.Author.Tests.{le-leb, lt-leb, leb-true, leb-false}
+use Rattle.report.specs.declared.SolveReport.{SolveReport}
+use Rattle.report.specs.Joins.{most, sumFits, sumsFit, allSumsFit, Summable, AllSummable}
+
+-- the code tests y against what x leaves
+pub room-left : (x y : ℕ) → x ≤ most → leb y (most - x) ≡ sumFits x y
+unfolding sumFits
+room-left x y h = go (leb (x + y) most) refl
+  where
+    go : (b : Bool) → leb (x + y) most ≡ b → leb y (most - x) ≡ b
+    go true e = le-leb y (most - x) (omega (arith, leb-true (x + y) most e))
+    go false e = lt-leb y (most - x) (omega (arith, leb-false (x + y) most e))
+
+fits : (x y : ℕ) → sumFits x y ≡ true → x + y ≤ most
+unfolding sumFits
+fits x y e = leb-true (x + y) most e
+
+fits-back : (x y : ℕ) → x + y ≤ most → sumFits x y ≡ true
+unfolding sumFits
+fits-back x y h = le-leb (x + y) most h
+
+-- a conjunction taken apart
+apart : (a b : Bool) → a && b ≡ true → (a ≡ true) × (b ≡ true)
+apart true b e = (refl, e)
+apart false b e = absurd (true≢false (sym e))
+
+module _ (a b : SolveReport) where
+  pub summable : sumsFit a b ≡ true → Summable a b
+  unfolding sumsFit
+  summable e =
+      let s5 = apart _ (sumFits (a .«exact_passes») (b .«exact_passes»)) e in
+      let s4 = apart _ (sumFits (a .sweeps) (b .sweeps)) (s5 .0) in
+      let s3 = apart _ (sumFits (a .anchors) (b .anchors)) (s4 .0) in
+      let s2 = apart (sumFits (a .iterations) (b .iterations)) (sumFits (a .rejected) (b .rejected)) (s3 .0) in
+      record {
+        iterations = fits (a .iterations) (b .iterations) (s2 .0);
+        rejected = fits (a .rejected) (b .rejected) (s2 .1);
+        anchors = fits (a .anchors) (b .anchors) (s3 .1);
+        sweeps = fits (a .sweeps) (b .sweeps) (s4 .1);
+        «exact_passes» = fits (a .«exact_passes») (b .«exact_passes») (s5 .1);
+      }
+
+  pub sums-fit : Summable a b → sumsFit a b ≡ true
+  unfolding sumsFit
+  sums-fit s =
+      rw (
+        fits-back (a .iterations) (b .iterations) (s .iterations),
+        fits-back (a .rejected) (b .rejected) (s .rejected),
+        fits-back (a .anchors) (b .anchors) (s .anchors),
+        fits-back (a .sweeps) (b .sweeps) (s .sweeps),
+        fits-back (a .«exact_passes») (b .«exact_passes») (s .«exact_passes»),
+      )
+
+  pub all-summable : allSumsFit a b ≡ true → AllSummable a b
+  unfolding allSumsFit
+  all-summable e =
+      let s = apart (sumFits (a .increments) (b .increments)) (sumsFit a b) e in
+      record { increments = fits (a .increments) (b .increments) (s .0); others = summable (s .1) }
+
+  pub all-sums-fit : AllSummable a b → allSumsFit a b ≡ true
+  unfolding allSumsFit
+  all-sums-fit s = rw (fits-back (a .increments) (b .increments) (s .increments), sums-fit (s .others))

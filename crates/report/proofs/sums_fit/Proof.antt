@@ -1,0 +1,35 @@
+-- `report::sums_fit` meets its contract. Assumes nothing.
+use Rattle.report.specs.Joins as def
+use borrow.Author.Needs.{needs}
+use Rattle.report.proofs.sums_fit.Statement.{statement}
+use Rattle.report.proofs.sums_fit.Tie as tie
+
+sum-fits-requires : tie.Need-sum-fits-requires
+sum-fits-requires c κs = search needs
+
+sum-fits-requires-2 : tie.Need-sum-fits-requires-2
+sum-fits-requires-2 c κs = search needs
+
+sum-fits-requires-3 : tie.Need-sum-fits-requires-3
+sum-fits-requires-3 c κs = search needs
+
+sum-fits-requires-4 : tie.Need-sum-fits-requires-4
+sum-fits-requires-4 c κs = search needs
+
+sum-fits-requires-5 : tie.Need-sum-fits-requires-5
+sum-fits-requires-5 c κs = search needs
+
+returns : tie.Need-returns
+unfolding def.sumsFit
+returns c = rw (c .before .before .before .before .sum-fits .ensures, c .before .before .before .sum-fits2 .ensures, c .before .before .sum-fits3 .ensures, c .before .sum-fits4 .ensures, c .sum-fits5 .ensures)
+
+pub sums-fit-spec : {M : Type 1} → statement M
+sums-fit-spec =
+    tie.close
+    (tie.spec
+    sum-fits-requires
+    sum-fits-requires-2
+    sum-fits-requires-3
+    sum-fits-requires-4
+    sum-fits-requires-5
+    returns)
