@@ -100,11 +100,11 @@ def stops_that_fight(maker):
     maker.show(path, *maker.step(path, rig.load_step("Two steel stops at one place, 0.3 mm too close", supports, RAM)))
 
 
-def main():
+def main(arguments=None):
     parser = argparse.ArgumentParser(description="Makes the examples again.")
     parser.add_argument("--solver", metavar="PROGRAM", help="ask this program instead of the stored answers")
     parser.add_argument("--out", default=HERE, metavar="FOLDER", help="where to write; this folder unless said")
-    options = parser.parse_args()
+    options = parser.parse_args(arguments)
     solver = shutil.which(options.solver) if options.solver else None
     if options.solver and not solver:
         parser.error(f"{options.solver}: no such program")
