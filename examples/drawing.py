@@ -67,10 +67,16 @@ def ruler(supports):
     return parts
 
 
+def sentence(support):
+    """A pad or stop in words, for a reader who hears the drawing."""
+    holds = f"holding up to {support.bound:g} N" if support.friction else f"with a gap of {support.gap:g} mm"
+    return f"{support.name} at {support.place} mm {holds}"
+
+
 def set_up(supports, load):
     title = "The set-up of shaft-six-pads"
-    rows = ", ".join(f"{s.name} at {s.place} mm " + (f"holding up to {s.bound:g} N" if s.friction else f"with a gap of {s.gap:g} mm") for s in supports)
-    summary = f"A shaft, clamped in a chuck on the left, lies over six felt pads and between two friction stops; a ram presses its blade end down. {rows}."
+    what = "A shaft, clamped in a chuck on the left, lies over six felt pads and between two friction stops; a ram presses its blade end down."
+    summary = f"{what} {', '.join(map(sentence, supports))}."
     body = chuck()
     body.append(rect(LEFT, SHAFT - 6, RIGHT - LEFT + 30, 12, "#EFEFEF"))
     for support in supports:

@@ -21,7 +21,8 @@ sys.path[:0] = [HERE, os.path.join(ROOT, "examples")]
 
 import bend  # noqa: E402
 import make  # noqa: E402
-from bendfile import answers, as_csv, as_json, binary, describe, numbers, picture, problem, tables  # noqa: E402
+from bendfile import answers, as_json, binary, describe, numbers, picture, problem  # noqa: E402
+from bendfile.axis import Axis  # noqa: E402
 
 NAN, INF, MINUS_INF = numbers.NAN, numbers.PLUS_INFINITY, numbers.MINUS_INFINITY
 
@@ -318,7 +319,7 @@ CSV_ERRORS = [
     (CSV_EXAMPLE.replace("rows,kind,scale", "rows,kind,kind"), 'line 4: found the column "kind"; expected each once'),
     (CSV_EXAMPLE.replace("1,-4", "1,-4,9"), "line 5: found 5 cells; expected at most 4, one per column"),
     (CSV_EXAMPLE.replace("1,-4", "1,-4 mm"), 'row 0 ("pad"), free_motion: found "-4 mm"; expected a number such as'),
-    (CSV_EXAMPLE.replace("pad,contact", ",contact"), "line 7: the columns of matrix: number 0 is \"pad\"; expected"),
+    (CSV_EXAMPLE.replace("pad,contact", ",contact"), "line 5: the first cell is empty; expected the name of a pad or stop"),
     (CSV_EXAMPLE.replace("matrix,pad", "matrix,pads"), 'line 7: the columns of matrix: number 0 is "pads"; expected "pad", as in the block rows'),
     (CSV_EXAMPLE.replace("pad,2", "pads,2"), 'line 7: the lines of matrix: number 0 is "pads"; expected "pad", as in the block rows'),
     (CSV_EXAMPLE.replace("pad,2", "pad,2\npad,2"), 'line 7: the lines of matrix: number 1 is "pad"; expected no more'),
@@ -554,7 +555,9 @@ class Answers(Folder):
 
     def test_notes(self):
         nan = EXAMPLE_ANSWER.replace(b"I 4000000000000000", b"I 7FF8000000000000")
-        self.assertIn(b"No load was found for row 0", run("answer", "-", stdin=nan)[1])
+        shown = run("answer", "-", self.put("a.bend", EXAMPLE_BYTES), stdin=nan)[1]
+        self.assertIn(b"No load was found for row 0", shown)
+        self.assertNotIn(b"pushes", shown)
         capped = EXAMPLE_ANSWER.replace(b"sweeps 1 passes 1 converged 1 exact 1", b"sweeps 200 passes 9 converged 0 exact 0").replace(b"residual 0", b"residual 4")
         shown = run("answer", "-", stdin=capped)[1]
         for words in (b"solved by sweeps, not converged", b"200 sweeps, 9 exact passes", b"ended at their cap", b"The residual is above 1e-9"):
@@ -571,6 +574,13 @@ class Answers(Folder):
         self.assertEqual(answers.residual(made, answer), 0.1)
         made.free_motion[0] = NAN
         self.assertEqual(answers.residual(made, answer), 0.0)
+
+    def test_idle_rule(self):
+        """A row is Idle exactly if its own entry of the matrix is NaN or not above 0."""
+        made = some_problem(random.Random(6), 1, 0)
+        for bits, idle in ((0, True), (1 << 63, True), (NAN, True), (0xFFF8000000000001, True), (MINUS_INF, True), (1, False), (INF, False)):
+            made.matrix[0][0] = bits
+            self.assertEqual(made.idle(0), idle, hex(bits))
 
     def test_full_digits(self):
         third = EXAMPLE_ANSWER.replace(b"I 4000000000000000", b"I 3FD5555555555555")
@@ -618,6 +628,23 @@ class Pictures(Folder):
         self.assertIn(f"L{picture._n(zero)} ", bracket.get("d"))
         self.assertTrue(arrow.get("d").startswith("M570 ") and arrow.get("fill") == "none")
         self.assertEqual(strip.find("{*}title").text, "pad: load 2, bounds 0 to inf, Inside: closed, pushes.")
+
+    def test_far_bound(self):
+        """A bound far beyond the loads does not press them together: it is a filled arrow at the edge, and the legend says so."""
+        record = changed(ROW, {"name": "pad", "kind": "custom", "lo": 0, "hi": 1e9, "scale": 1, "free_motion": -4})
+        made = describe.build(as_json.read(json.dumps(record).encode()))
+        tree = self.drawn(made, answers.read(EXAMPLE_ANSWER))
+        bar = tree.find("{*}g").findall("{*}rect")[1]
+        self.assertAlmostEqual(float(bar.get("width")), (570 - 178) / 1.1, delta=0.1)
+        arrow = tree.find("{*}g").findall("{*}path")[1]
+        self.assertTrue(arrow.get("d").startswith("M570 ") and arrow.get("fill") == picture.INK)
+        self.assertIn("bound outside the picture", "".join(tree.itertext()))
+
+    def test_ticks(self):
+        """Round values in their places, zero among them."""
+        made = describe.build(as_json.read(json.dumps(EXAMPLE).encode()))
+        ticks = Axis(answers.read(EXAMPLE_ANSWER), made, 0, 110).ticks()
+        self.assertEqual([(round(x, 6), label, zero) for x, label, zero in ticks], [(5 + 25 * k, f"{k / 2:g}", k == 0) for k in range(5)])
 
     def test_fights_and_idle(self):
         made = some_problem(random.Random(5), 3, 0)

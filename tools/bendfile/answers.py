@@ -74,7 +74,8 @@ def read(data):
     if first[0] == "infeasible" and len(first) == 2 and first[1] in CAUSES:
         answer = Answer("infeasible", cause=first[1])
     elif lines[0] != "solved":
-        raise BadInput(f"line 1: found {numbers.quoted(lines[0])}; expected solved, infeasible growth, infeasible pass, infeasible sweep or refused and a number")
+        known = ", ".join(f"infeasible {cause}" for cause in CAUSES)
+        raise BadInput(f"line 1: found {numbers.quoted(lines[0])}; expected solved, {known} or refused and a number")
     _read_report(answer, lines)
     rows = lines[2:]
     if answer.outcome == "infeasible":
@@ -97,7 +98,8 @@ def _read_report(answer, lines):
     found = lines[1] if len(lines) > 1 else ""
     report = _REPORT.fullmatch(found)
     if not report:
-        raise BadInput(f"line 2: found {numbers.quoted(found)}; expected sweeps, passes, converged, exact, idle and residual, each followed by its value")
+        wanted = "sweeps, passes, converged, exact, idle and residual, each followed by its value"
+        raise BadInput(f"line 2: found {numbers.quoted(found)}; expected {wanted}")
     answer.sweeps, answer.passes, answer.idle = (int(report.group(i)) for i in (1, 2, 5))
     answer.converged, answer.exact = report.group(3) == "1", report.group(4) == "1"
     answer.residual = int(report.group(6), 16)
@@ -163,11 +165,11 @@ def check_belongs(answer, problem):
     for i, state in enumerate(answer.states):
         if (state == "Z") != problem.idle(i):
             own = numbers.exact(problem.matrix[i][i])
-            raise BadInput(f"{place(problem, i)} has state {state}, and its own entry of the file's matrix is {own}; expected the answer to this file")
+            wrong = f"{place(problem, i)} has state {state}, and its own entry of the file's matrix is {own}"
+            raise BadInput(f"{wrong}; expected the answer to this file")
     if any(not numbers.to_float(bits) > 0 or not numbers.is_finite(bits) for bits in problem.scale):
         raise BadInput("the bend file has a scale that the solver refuses (number 8); expected the answer to this file")
     found = residual(problem, answer)
     if numbers.to_bits(found) != answer.residual:
-        raise BadInput(
-            f"the answer's residual is {numbers.exact(answer.residual)}, and its loads in the bend file give {found!r}; expected the answer to this file"
-        )
+        wrong = f"the answer's residual is {numbers.exact(answer.residual)}, and its loads in the bend file give {found!r}"
+        raise BadInput(f"{wrong}; expected the answer to this file")

@@ -27,7 +27,7 @@ def read(data):
         raise BadInput("tolerance: missing; expected a line such as tolerance,1e-6")
     labels = Labels(*(name(keys[k], k) if keys.get(k) else "" for k in ("title", "load unit", "motion unit")))
     rows = _rows(*blocks["rows"])
-    names = [row.get("name", "") for row in rows]
+    names = [row["name"] for row in rows]
     matrix, _ = _block("matrix", *blocks["matrix"], names, names)
     motion, labels.coordinates = _block("motion", *blocks.get("motion", (0, [["motion", *names]])), names, None)
     if all(c == f"coordinate {i}" for i, c in enumerate(labels.coordinates)):
@@ -88,6 +88,8 @@ def _rows(at, block):
     for i, cells in enumerate(block[1:]):
         if len(cells) > len(fields):
             raise BadInput(f"line {at + 1 + i}: found {len(cells)} cells; expected at most {len(fields)}, one per column")
+        if cells[0] == "":
+            raise BadInput(f"line {at + 1 + i}: the first cell is empty; expected the name of a pad or stop")
         rows.append({key: cell for key, cell in zip(fields, cells) if cell != ""})
     return rows
 

@@ -52,9 +52,9 @@ class Axis:
         values = {float(f"{k * step}e{exponent - 1}") for k in range(-TICKS, TICKS + 1)}
         found = []
         for value in sorted(values):
-            # At the ends of the f64 range a round value may not exist, and the nearest f64 stands in its place.
+            # At the ends of the f64 range a round value may not exist, and the nearest f64 or an infinity stands in its place.
             x = self.place(value)
-            if _finite(value) and self.left <= x <= self.right:
+            if self.left <= x <= self.right:
                 found.append((x, f"{value + 0.0:.6g}", value == 0))
         return found
 

@@ -19,7 +19,8 @@ def encode(problem):
     start = len(problem.before)
     length = start + 8 * len(values) + TRAILER
     if length > LARGEST_FILE:
-        raise BadInput(f"before_start: {start} bytes make a file of {length}; expected at most {LARGEST_FILE} in all, so at most {LARGEST_FILE - length + start} here")
+        room = LARGEST_FILE - (length - start)
+        raise BadInput(f"before_start: {start} bytes make a file of {length}; expected at most {LARGEST_FILE} in all, so at most {room} here")
     trailer = struct.pack("<IHHI", start, problem.rows, len(problem.motion), len(values)) + MARK
     return problem.before + struct.pack(f"<{len(values)}Q", *values) + trailer
 

@@ -91,7 +91,8 @@ def _bounds(row, where):
         return given["lo"], given["hi"]
     for key, bits in zip(("lo", "hi"), implied):
         if given.get(key, bits) != bits:
-            raise BadInput(f"{where}, {key}: found {numbers.exact(given[key])}; a {kind} row has {numbers.exact(bits)} here; expected that, or kind custom")
+            found, wanted = numbers.exact(given[key]), numbers.exact(bits)
+            raise BadInput(f"{where}, {key}: found {found}; a {kind} row has {wanted} here; expected that, or kind custom")
     return implied
 
 

@@ -95,7 +95,8 @@ def _bounds(problem, row):
 def _sentence(answer, problem, row):
     """A strip in words, for a reader who hears the picture."""
     fights = ", fights" if row in answer.fights else ""
-    return f"{problem.name(row)}: load {_with_unit(answer.loads[row], problem)}, bounds {_bounds(problem, row)}, {tables.state_text(answer, problem, row)}{fights}."
+    load, state = _with_unit(answer.loads[row], problem), tables.state_text(answer, problem, row)
+    return f"{problem.name(row)}: load {load}, bounds {_bounds(problem, row)}, {state}{fights}."
 
 
 def _heading(answer, problem):

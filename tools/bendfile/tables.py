@@ -127,7 +127,8 @@ def notes(answer, problem=None):
         return found
     missing = [i for i, load in enumerate(answer.loads) if numbers.is_nan(load)]
     if missing:
-        found.append(f"No load was found for {', '.join(f'row {i}' for i in missing)}: a number they depend on is NaN or went out of range. Do not use this answer.")
+        who = ", ".join(f"row {i}" for i in missing)
+        found.append(f"No load was found for {who}: a number behind it is NaN or went out of range. Do not use this answer.")
     if not answer.converged:
         found.append("The sweeps ended at their cap before the loads settled. Do not use this answer.")
     if numbers.to_float(answer.residual) > 1e-9:
