@@ -1,0 +1,1 @@
+"""Bend files, their readable descriptions, and the answers of bendsolve."""

@@ -1,0 +1,46 @@
+"""Writing a file whole or not at all."""
+
+import os
+import sys
+import tempfile
+
+from .problem import BadInput
+
+
+def write(path, data):
+    """Puts the bytes under a temporary name beside the target and renames, so that a reader never sees a part. `-` is standard output."""
+    if path == "-":
+        sys.stdout.flush()
+        sys.stdout.buffer.write(data)
+        sys.stdout.buffer.flush()
+        return
+    target = os.path.realpath(path)
+    if os.path.exists(target) and not os.path.isfile(target):
+        raise BadInput(f"{path}: not a regular file; expected a file's name, or - for standard output")
+    try:
+        handle, temporary = tempfile.mkstemp(prefix=".bend-", dir=os.path.dirname(target))
+    except OSError as wrong:
+        raise BadInput(f"{path}: cannot be written: {wrong.strerror}") from None
+    try:
+        with os.fdopen(handle, "wb") as out:
+            out.write(data)
+            out.flush()
+            os.fsync(out.fileno())
+        os.chmod(temporary, _mode(target))
+        os.replace(temporary, target)
+    except OSError as wrong:
+        os.unlink(temporary)
+        raise BadInput(f"{path}: cannot be written: {wrong.strerror}") from None
+    except BaseException:
+        os.unlink(temporary)
+        raise
+
+
+def _mode(target):
+    """The mode an ordinary new file would get, or the one the file already has: a temporary file starts out closed to others."""
+    try:
+        return os.stat(target).st_mode & 0o7777
+    except FileNotFoundError:
+        mask = os.umask(0)
+        os.umask(mask)
+        return 0o666 & ~mask
