@@ -1,0 +1,61 @@
+use Rattle.capi.proofs.Room.{room}
+use Rattle.capi.specs.Reports as def
+use mathlib.Core.Path.{sym, _∙_, refl}
+use borrow.Author.Needs.{needs}
+use Rattle.capi.proofs.piskorlu_continued.Statement.{statement}
+use Rattle.capi.proofs.piskorlu_continued.Tie as tie
+use Rattle.capi.proofs.piskorlu_continued.Reads as reads
+use Rattle.capi.proofs.piskorlu_continued.Lts as lts
+use Rattle.capi.proofs.reports.leave.Reads as leave-reads
+use Rattle.capi.proofs.reports.read.Reads as read-reads
+use Rattle.capi.proofs.reports.taken.Reads as taken-reads
+use Rattle.report.proofs.SolveReport.continued.Reads as continued-reads
+
+taken-requires : tie.Need-taken-requires
+taken-requires c κs = search needs
+
+read-requires : tie.Need-read-requires
+read-requires c κs = room _ _ _ _ (sym (c .before .taken .ensures) ∙ c .if1 .taken) .first
+
+read-requires-2 : tie.Need-read-requires-2
+read-requires-2 c κs = room _ _ _ _ (sym (c .before .before .taken .ensures) ∙ c .before .if1 .taken) .second
+
+continued-requires : tie.Need-continued-requires
+continued-requires c κs = search needs
+
+leave-requires : tie.Need-leave-requires
+leave-requires c κs = (room _ _ _ _ (sym (c .before .before .before .before .before .before .taken .ensures) ∙ c .before .before .before .before .before .if1 .taken) .joined, room _ _ _ _ (sym (c .before .before .before .before .before .before .taken .ensures) ∙ c .before .before .before .before .before .if1 .taken) .one)
+
+same-length : tie.Need-same-length
+same-length c = search needs
+
+same-length-2 : tie.Need-same-length-2
+same-length-2 c = search needs
+
+returns : tie.Need-returns
+returns c = rw (← c .before .before .before .before .before .before .before .before .before .before .before .taken .ensures, c .before .before .before .before .before .before .before .before .before .before .if1 .taken, ← c .before .before .before .before .before .before .before .before .before .read .ensures, ← c .before .before .before .before .before .before .before .before .read2 .ensures, ← c .before .before .before .before .before .before .before .continued .ensures) (c .before .before .before .before .leave .ensures)
+
+same-length-3 : tie.Need-same-length-3
+same-length-3 c = search needs
+
+same-length-4 : tie.Need-same-length-4
+same-length-4 c = search needs
+
+returns-2 : tie.Need-returns-2
+returns-2 c = rw (← c .before .taken .ensures, c .if1 .left) (record { number-is = refl; counts-are = refl; residual-is = refl })
+
+pub piskorlu-continued-spec : {M : Type 1} → statement M
+piskorlu-continued-spec =
+    tie.close
+    (tie.spec
+    taken-requires
+    read-requires
+    read-requires-2
+    continued-requires
+    leave-requires
+    same-length
+    same-length-2
+    returns
+    same-length-3
+    same-length-4
+    returns-2)
