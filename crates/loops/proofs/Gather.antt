@@ -134,10 +134,10 @@ module _ (test : ℕ → Bool) (l₀ : List ℕ) where
       go : (b : Bool) → test i ≡ b → k′ ≡ cond b (suc k) k → l′ ≡ cond b (set l k i) l → Gathering test l₀ (i + 1) k′ l′
       go true t e f =
           rw (add-one i)
-            (record {
-              count = rw (those-take test i t, e, g .count) (simp length-append (omega arith));
-              front = rw (those-take test i t, f, g .front, g .count) (fronted-snoc (those test i) l₀ i);
-            })
+          (record {
+            count = rw (those-take test i t, e, g .count) (simp length-append (omega arith));
+            front = rw (those-take test i t, f, g .front, g .count) (fronted-snoc (those test i) l₀ i);
+          })
       go false t e f = rw (add-one i) (record { count = rw (those-skip test i t, e) (g .count); front = rw (those-skip test i t, f) (g .front) })
 
   pub gather-done : (i n k : ℕ) (l : List ℕ) → i ≤ n → n ≤ i → Gathering test l₀ i k l → Gathering test l₀ n k l

@@ -74,3 +74,25 @@ rowSumTo-again r u nu k s t e f = rw (add-one, f, e)
 
 pub rowSumTo-done : (r : List Float) (u : Float) (nu : List Float) (k m : ℕ) (s : Float) → k ≤ m → m ≤ k → s ≡ D.rowSumTo r u nu k → s ≡ D.rowSumTo r u nu m
 rowSumTo-done r u nu k m s g h e = let q : k ≡ m = omega arith in rw (← q) e
+
+pub coordinateTo-start : (r : List Float) (nu : List Float) (before : List Float) → 0ᶠ ≡ D.coordinateTo r nu before 0
+unfolding D.coordinateTo turns
+coordinateTo-start r nu before = refl
+
+pub coordinateTo-again : (r : List Float) (nu : List Float) (before : List Float) (k : ℕ) (s t : Float) → s ≡ D.coordinateTo r nu before k → t ≡ D.coordinateCell r nu before k s → t ≡ D.coordinateTo r nu before (k + 1)
+unfolding D.coordinateTo turns
+coordinateTo-again r nu before k s t e f = rw (add-one, f, e)
+
+pub coordinateTo-done : (r : List Float) (nu : List Float) (before : List Float) (k m : ℕ) (s : Float) → k ≤ m → m ≤ k → s ≡ D.coordinateTo r nu before k → s ≡ D.coordinateTo r nu before m
+coordinateTo-done r nu before k m s g h e = let q : k ≡ m = omega arith in rw (← q) e
+
+pub motionTo-start : (motion : List Float) (n : ℕ) (nu : List Float) (before : List Float) → 0ᶠ ≡ D.motionTo motion n nu before 0
+unfolding D.motionTo turns
+motionTo-start motion n nu before = refl
+
+pub motionTo-again : (motion : List Float) (n : ℕ) (nu : List Float) (before : List Float) (k : ℕ) (s t : Float) → s ≡ D.motionTo motion n nu before k → t ≡ D.motionRow motion n nu before k s → t ≡ D.motionTo motion n nu before (k + 1)
+unfolding D.motionTo turns
+motionTo-again motion n nu before k s t e f = rw (add-one, f, e)
+
+pub motionTo-done : (motion : List Float) (n : ℕ) (nu : List Float) (before : List Float) (k m : ℕ) (s : Float) → k ≤ m → m ≤ k → s ≡ D.motionTo motion n nu before k → s ≡ D.motionTo motion n nu before m
+motionTo-done motion n nu before k m s g h e = let q : k ≡ m = omega arith in rw (← q) e

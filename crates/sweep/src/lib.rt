@@ -82,7 +82,12 @@ fn show_row(lo: &[f64], hi: &[f64], scale: &[f64], nu: &[f64], states: &mut [u8]
     ensures { λ r. ⌜ now (states .exit) ≡ def.shownRow (now (lo .entry)) (now (hi .entry)) (now (scale .entry)) (now (nu .entry)) i (now (states .entry)) ⌝ }
 {
     if acts(states, i) {
-        let s = state_of(cells::at(lo, i), cells::at(hi, i), cells::at(scale, i), cells::at(nu, i));
+        let s = state_of(
+            cells::at(lo, i),
+            cells::at(hi, i),
+            cells::at(scale, i),
+            cells::at(nu, i),
+        );
         cells::put_state(states, i, s);
     }
 }
@@ -129,7 +134,12 @@ fn begin_at(idle: bool, v: f64, lo: f64, hi: f64) -> f64
 fn begin_row(w: &[f64], n: usize, lo: &[f64], hi: &[f64], nu: &mut [f64], i: usize)
     ensures { λ r. ⌜ now (nu .exit) ≡ def.begunRow (now (w .entry)) n (now (lo .entry)) (now (hi .entry)) i (now (nu .entry)) ⌝ }
 {
-    let v = begin_at(idle_row(w, n, i), cells::at(nu, i), cells::at(lo, i), cells::at(hi, i));
+    let v = begin_at(
+        idle_row(w, n, i),
+        cells::at(nu, i),
+        cells::at(lo, i),
+        cells::at(hi, i),
+    );
     cells::put(nu, i, v);
 }
 
@@ -226,15 +236,40 @@ pub fn natural_residual(v: f64, u: f64, d: f64, lo: f64, hi: f64, s: f64) -> f64
 }
 
 // Row i's natural residual.
-pub fn row_residual(w: &[f64], u_free: &[f64], lo: &[f64], hi: &[f64], scale: &[f64], nu: &[f64], i: usize) -> f64
+pub fn row_residual(
+    w: &[f64],
+    u_free: &[f64],
+    lo: &[f64],
+    hi: &[f64],
+    scale: &[f64],
+    nu: &[f64],
+    i: usize,
+) -> f64
     ensures { λ r. ⌜ r ≡ def.ownResidual (def.problem (now (w .entry)) (now («u_free» .entry)) (now (lo .entry)) (now (hi .entry)) (now (scale .entry))) (now (nu .entry)) i ⌝ }
 {
     let row = row_of(w, u_free.len(), i);
     let u = row_sum(row, cells::at(u_free, i), nu);
-    natural_residual(cells::at(nu, i), u, cells::at(row, i), cells::at(lo, i), cells::at(hi, i), cells::at(scale, i))
+    natural_residual(
+        cells::at(nu, i),
+        u,
+        cells::at(row, i),
+        cells::at(lo, i),
+        cells::at(hi, i),
+        cells::at(scale, i),
+    )
 }
 
-fn worse(w: &[f64], u_free: &[f64], lo: &[f64], hi: &[f64], scale: &[f64], states: &[u8], nu: &[f64], i: usize, worst: f64) -> f64
+fn worse(
+    w: &[f64],
+    u_free: &[f64],
+    lo: &[f64],
+    hi: &[f64],
+    scale: &[f64],
+    states: &[u8],
+    nu: &[f64],
+    i: usize,
+    worst: f64,
+) -> f64
     ensures { λ r. ⌜ r ≡ def.residualRow (def.problem (now (w .entry)) (now («u_free» .entry)) (now (lo .entry)) (now (hi .entry)) (now (scale .entry))) (now (states .entry)) (now (nu .entry)) i worst ⌝ }
 {
     if acts(states, i) {
@@ -244,7 +279,15 @@ fn worse(w: &[f64], u_free: &[f64], lo: &[f64], hi: &[f64], scale: &[f64], state
 }
 
 // The largest natural residual over the rows that are not Idle, from 0.
-pub fn residual(w: &[f64], u_free: &[f64], lo: &[f64], hi: &[f64], scale: &[f64], states: &[u8], nu: &[f64]) -> f64
+pub fn residual(
+    w: &[f64],
+    u_free: &[f64],
+    lo: &[f64],
+    hi: &[f64],
+    scale: &[f64],
+    states: &[u8],
+    nu: &[f64],
+) -> f64
     ensures { λ r. ⌜ r ≡ def.residual (def.problem (now (w .entry)) (now («u_free» .entry)) (now (lo .entry)) (now (hi .entry)) (now (scale .entry))) (now (states .entry)) (now (nu .entry)) (length (now («u_free» .entry))) ⌝ }
 {
     let n = u_free.len();
@@ -265,10 +308,24 @@ fn updated(w: &[f64], u_free: &[f64], lo: &[f64], hi: &[f64], nu: &[f64], i: usi
 {
     let row = row_of(w, u_free.len(), i);
     let u = row_sum(row, cells::at(u_free, i), nu);
-    update(cells::at(nu, i), u, cells::at(row, i), cells::at(lo, i), cells::at(hi, i))
+    update(
+        cells::at(nu, i),
+        u,
+        cells::at(row, i),
+        cells::at(lo, i),
+        cells::at(hi, i),
+    )
 }
 
-fn sweep_row(w: &[f64], u_free: &[f64], lo: &[f64], hi: &[f64], states: &[u8], nu: &mut [f64], i: usize)
+fn sweep_row(
+    w: &[f64],
+    u_free: &[f64],
+    lo: &[f64],
+    hi: &[f64],
+    states: &[u8],
+    nu: &mut [f64],
+    i: usize,
+)
     ensures { λ r. ⌜ now (nu .exit) ≡ def.sweptRow (now (w .entry)) (now («u_free» .entry)) (now (lo .entry)) (now (hi .entry)) (now (states .entry)) i (now (nu .entry)) ⌝ }
 {
     if acts(states, i) {
@@ -320,4 +377,60 @@ pub fn grown(nu: &[f64], scale: &[f64], n: usize, rows: &mut [usize]) -> usize
         i += 1;
     }
     k
+}
+
+// ---- the motion of a sweep
+
+// How far a coordinate moved, its values being m, over the shortest of the three.
+fn coordinate(m: &[f64], nu: &[f64], before: &[f64]) -> f64
+    ensures { λ r. ⌜ r ≡ def.coordinate (now (m .entry)) (now (nu .entry)) (now (before .entry)) ⌝ }
+{
+    let k = fewer(nu.len(), before.len());
+    let n = fewer(m.len(), k);
+    let mut s = 0.0;
+    let mut i = 0;
+    while i < n {
+        s = s + m[i] * (nu[i] - before[i]);
+        i += 1;
+    }
+    s
+}
+
+fn farther(motion: &[f64], n: usize, nu: &[f64], before: &[f64], c: usize, worst: f64) -> f64
+    requires { ⌜ c * n + n ≤ length (now motion) ⌝ }
+    ensures { λ r. ⌜ r ≡ def.motionRow (now (motion .entry)) n (now (nu .entry)) (now (before .entry)) c worst ⌝ }
+{
+    let a = c * n;
+    let e = a + n;
+    floats::larger(worst, floats::abs(coordinate(&motion[a..e], nu, before)))
+}
+
+// The most that a coordinate moved from `before` to `nu`: `motion` has a row for each.
+pub fn motion_of(motion: &[f64], nu: &[f64], before: &[f64]) -> f64
+    ensures { λ r. ⌜ r ≡ def.motionOf (now (motion .entry)) (now (nu .entry)) (now (before .entry)) ⌝ }
+{
+    let n = nu.len();
+    let mut worst = 0.0;
+    if n == 0 {
+        return worst;
+    }
+    let coords = motion.len() / n;
+    let mut c = 0;
+    while c < coords {
+        worst = farther(motion, n, nu, before, c, worst);
+        c += 1;
+    }
+    worst
+}
+
+// The way from `before` to `nu`, as far as y is long.
+pub fn way(nu: &[f64], before: &[f64], y: &mut [f64])
+    ensures { λ r. ⌜ now (y .exit) ≡ def.way (now (nu .entry)) (now (before .entry)) (length (now (y .entry))) ⌝ }
+{
+    let n = y.len();
+    let mut i = 0;
+    while i < n {
+        y[i] = cells::at(nu, i) - cells::at(before, i);
+        i += 1;
+    }
 }
