@@ -3,6 +3,7 @@ ghost use mathlib.Core.Path.{_≡_};
 ghost use Prim.Native.Nat.{_+_};
 ghost use lib.ListN.{getD, set};
 ghost use Rattle.floats.specs.Ops as ops;
+ghost use Rattle.loops.specs.Loops as loop;
 
 pub fn at(v: &[f64], i: usize) -> f64
     ensures { λ r. ⌜ r ≡ ops.at (now (v .entry)) i ⌝ }
@@ -54,5 +55,25 @@ pub fn put_number(l: &mut [usize], i: usize, a: usize)
 {
     if i < l.len() {
         l[i] = a;
+    }
+}
+
+// Row i noted at place k where it passes.
+pub fn note(b: bool, rows: &mut [usize], k: usize, i: usize)
+    ensures { λ r. ⌜ now (rows .exit) ≡ loop.noted b (now (rows .entry)) k i ⌝ }
+{
+    if b {
+        put_number(rows, k, i);
+    }
+}
+
+// The numbers of l at the front of a list, as many as it holds.
+pub fn front(l: &[usize], out: &mut [usize])
+    ensures { λ r. ⌜ now (out .exit) ≡ loop.fronted (now (l .entry)) (now (out .entry)) ⌝ }
+{
+    let mut i = 0;
+    while i < l.len() {
+        put_number(out, i, l[i]);
+        i += 1;
     }
 }

@@ -355,15 +355,6 @@ pub fn past(v: f64, s: f64) -> bool
     floats::abs(v) > DIVERGENCE * s
 }
 
-// Row i noted at place k where it passes.
-fn note(b: bool, rows: &mut [usize], k: usize, i: usize)
-    ensures { λ r. ⌜ now (rows .exit) ≡ loop.noted b (now (rows .entry)) k i ⌝ }
-{
-    if b {
-        cells::put_number(rows, k, i);
-    }
-}
-
 // The rows of the first n that are past a million scales, at the front of `rows`, Idle rows included; how many.
 pub fn grown(nu: &[f64], scale: &[f64], n: usize, rows: &mut [usize]) -> usize
     ensures { λ r. ⌜ gather.Gathering (def.pastRow (now (nu .entry)) (now (scale .entry))) (now (rows .entry)) n r (now (rows .exit)) ⌝ }
@@ -372,7 +363,7 @@ pub fn grown(nu: &[f64], scale: &[f64], n: usize, rows: &mut [usize]) -> usize
     let mut i = 0;
     while i < n {
         let b = past(cells::at(nu, i), cells::at(scale, i));
-        note(b, rows, k, i);
+        cells::note(b, rows, k, i);
         k = count(b, k);
         i += 1;
     }

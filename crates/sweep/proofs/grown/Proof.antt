@@ -11,7 +11,7 @@ use Rattle.sweep.proofs.grown.Reads as reads
 use Rattle.sweep.proofs.grown.Lts as lts
 use Rattle.cells.proofs.at.Reads as at-reads
 use Rattle.sweep.proofs.count.Reads as count-reads
-use Rattle.sweep.proofs.note.Reads as note-reads
+use Rattle.cells.proofs.note.Reads as note-reads
 use Rattle.sweep.proofs.past.Reads as past-reads
 
 abbrev Inv-loop : tie.InvT-loop

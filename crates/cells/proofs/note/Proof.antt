@@ -1,11 +1,11 @@
 use Rattle.loops.specs.Loops as loop
 use native.Mathlib.Omega.{arith}
 use borrow.Author.Needs.{needs}
-use Rattle.sweep.proofs.note.Statement.{statement}
-use Rattle.sweep.proofs.note.Tie as tie
-use Rattle.sweep.proofs.note.Reads as reads
-use Rattle.sweep.proofs.note.Lts as lts
+use Rattle.cells.proofs.note.Statement.{statement}
+use Rattle.cells.proofs.note.Tie as tie
+use Rattle.cells.proofs.note.Reads as reads
+use Rattle.cells.proofs.note.Lts as lts
 use Rattle.cells.proofs.put_number.Reads as put-number-reads
 
 -- src/lib.rt:306:9
 put-number-requires : tie.Need-put-number-requires
