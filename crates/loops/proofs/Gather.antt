@@ -1,15 +1,17 @@
 -- Numbers that a loop gathers, rising: what holds of each, and the front of a list that the loop fills with them.
 use Prim.Native.Nat.{ℕ, zero, suc, _+_, _≤_, _<_, zero-le}
-use mathlib.Core.Path.{_≡_, refl, ap}
+use mathlib.Core.Path.{_≡_, refl, ap, _∙_}
 use mathlib.Core.Bool.{Bool, true, false, cond}
 use mathlib.Core.List.{List, [], _∷_, _++_}
 use native.Mathlib.Omega.{arith}
 use native.Mathlib.Nat.{not-suc-le-zero, le-of-suc-le-suc}
 use lib.Dec.{eqb}
-use lib.ListN.{length, getD, set, drop, length-append}
-use lib.Seq.{getD-set-same, getD-set-other}
+use lib.ListN.{length, getD, set, drop, take, length-append}
+use lib.Seq.{getD-set-same, getD-set-other, sets, sets-eq, take-suc, take-all, take-at, length-take-le}
+use native.Mathlib.Numerals.{add-one}
+use native.Mathlib.Nat.{add-zero, zero-add}
 use borrow.Author.Tests.{eqb-true, eqb-false}
-use Rattle.loops.specs.Loops.{turns, those}
+use Rattle.loops.specs.Loops.{turns, those, noted, counted, fronted}
 
 -- ---- a fact of each number of a list
 
@@ -106,3 +108,72 @@ getD-set l i j v d h = go (eqb j i) refl
     go : (b : Bool) → eqb j i ≡ b → getD (set l i v) j d ≡ cond b v (getD l j d)
     go true e = rw (eqb-true j i e) (getD-set-same l i v d h)
     go false e = getD-set-other l i j v d (eqb-false j i e)
+
+-- ---- the same by `noted` and `counted`, in the form in which `search` applies it
+
+sets-snoc : (l : List ℕ) (i : ℕ) (r : List ℕ) (a : ℕ) → set (sets l i r) (i + length r) a ≡ sets l i (r ++ (a ∷ []))
+sets-snoc l i [] a = rw add-zero
+sets-snoc l i (x ∷ r) a = let e : i + suc (length r) ≡ suc i + length r = omega arith in rw e (sets-snoc (set l i x) (suc i) r a)
+
+pub fronted-snoc : (r l : List ℕ) (a : ℕ) → set (fronted r l) (length r) a ≡ fronted (r ++ (a ∷ [])) l
+fronted-snoc r l a = rw (← zero-add (length r)) (sets-snoc l 0 r a)
+
+pub record Gathering (test : ℕ → Bool) (l₀ : List ℕ) (i k : ℕ) (l : List ℕ) : Type 0 where
+  pub count : k ≡ length (those test i)
+  pub front : l ≡ fronted (those test i) l₀
+
+module _ (test : ℕ → Bool) (l₀ : List ℕ) where
+  pub gather-start : Gathering test l₀ 0 0 l₀
+  unfolding those turns
+  gather-start = record { count = refl; front = refl }
+
+  pub gather-again : (i k : ℕ) (l : List ℕ) (k′ : ℕ) (l′ : List ℕ) → Gathering test l₀ i k l → k′ ≡ counted (test i) k → l′ ≡ noted (test i) l k i → Gathering test l₀ (i + 1) k′ l′
+  unfolding counted noted
+  gather-again i k l k′ l′ g e f = go (test i) refl e f
+    where
+      go : (b : Bool) → test i ≡ b → k′ ≡ cond b (suc k) k → l′ ≡ cond b (set l k i) l → Gathering test l₀ (i + 1) k′ l′
+      go true t e f =
+          rw (add-one i)
+          (record {
+            count = rw (those-take test i t, e, g .count) (simp length-append (omega arith));
+            front = rw (those-take test i t, f, g .front, g .count) (fronted-snoc (those test i) l₀ i);
+          })
+      go false t e f = rw (add-one i) (record { count = rw (those-skip test i t, e) (g .count); front = rw (those-skip test i t, f) (g .front) })
+
+  pub gather-done : (i n k : ℕ) (l : List ℕ) → i ≤ n → n ≤ i → Gathering test l₀ i k l → Gathering test l₀ n k l
+  gather-done i n k l a b g = let e : i ≡ n = omega arith in rw (← e) g
+
+  -- a count is never above the turns made
+  pub gather-le : (i k : ℕ) (l : List ℕ) → Gathering test l₀ i k l → k ≤ i
+  gather-le i k l g = omega (arith, those-le test i, g .count)
+
+-- a loop that only counts them
+module _ (test : ℕ → Bool) where
+  pub count-start : 0 ≡ length (those test 0)
+  unfolding those turns
+  count-start = refl
+
+  pub count-again : (i k k′ : ℕ) → k ≡ length (those test i) → k′ ≡ counted (test i) k → k′ ≡ length (those test (i + 1))
+  unfolding counted
+  count-again i k k′ g e = go (test i) refl e
+    where
+      go : (b : Bool) → test i ≡ b → k′ ≡ cond b (suc k) k → k′ ≡ length (those test (i + 1))
+      go true t e = rw (add-one i, those-take test i t, e, g) (simp length-append (omega arith))
+      go false t e = rw (add-one i, those-skip test i t, e) g
+
+-- ---- a list copied to the front of another, and read there
+
+module _ (l l₀ : List ℕ) where
+  pub front-start : l₀ ≡ fronted (take 0 l) l₀
+  front-start = refl
+
+  pub front-again : (i : ℕ) (s t : List ℕ) → s ≡ fronted (take i l) l₀ → i < length l → t ≡ set s i (getD l i 0) → t ≡ fronted (take (i + 1) l) l₀
+  front-again i s t e h f =
+      let q : length (take i l) ≡ i = length-take-le i l (omega arith) in
+      rw (add-one i, take-suc l i 0 h, f, e, ← fronted-snoc (take i l) l₀ (getD l i 0), q)
+
+  pub front-done : (i : ℕ) (s : List ℕ) → s ≡ fronted (take i l) l₀ → length l ≤ i → s ≡ fronted l l₀
+  front-done i s e h = e ∙ rw (take-all i l h)
+
+  pub front-read : (k : ℕ) → k ≡ length l → length l ≤ length l₀ → take k (fronted l l₀) ≡ l
+  front-read k e h = rw (e, sets-eq l l₀ 0 (omega arith)) (take-at l _ (length l) refl)

@@ -3,6 +3,7 @@ use Prim.Native.Nat.{ℕ, zero, suc, _+_, _-_}
 use mathlib.Core.Bool.{Bool, true, cond, _&&_}
 use mathlib.Core.List.{List, [], _∷_, _++_}
 use lib.ListN.{getD, set}
+use lib.Seq.{sets}
 
 module _ {S : Type 0} where
   -- s, after f 0, then f 1, up to f (k - 1): the state of a loop that counts up from 0 and has come to k
@@ -33,3 +34,14 @@ those test k = turns k [] λ i l. cond (test i) (l ++ (i ∷ [])) l
 unfoldable pub every : (ℕ → Bool) → ℕ → Bool
 every test zero = true
 every test (suc k) = every test k && test k
+
+-- A loop that gathers the numbers that pass at the front of a list lent to it: what a turn at i leaves there, and of its count k.
+unfoldable pub noted : Bool → List ℕ → ℕ → ℕ → List ℕ
+noted b l k i = cond b (set l k i) l
+
+unfoldable pub counted : Bool → ℕ → ℕ
+counted b k = cond b (suc k) k
+
+-- the list l with the numbers r at its front; where it is too short for them, with those that it holds
+abbrev pub fronted : List ℕ → List ℕ → List ℕ
+fronted r l = sets l 0 r

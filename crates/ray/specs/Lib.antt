@@ -1,0 +1,2 @@
+pub mod Rays
+pub mod Gathers

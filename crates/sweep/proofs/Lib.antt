@@ -1,0 +1,5 @@
+pub mod Steps
+pub mod Counts
+pub mod Smaller
+pub mod Motions
+pub mod Matrix

@@ -1,0 +1,21 @@
+use Rattle.sweep.specs.Rows as def
+use borrow.Author.Tests.{lt-ltb, le-ltb}
+use borrow.Author.Needs.{needs}
+use native.Mathlib.Omega.{arith}
+use Rattle.sweep.proofs.fewer.Statement.{statement}
+use Rattle.sweep.proofs.fewer.Tie as tie
+use Rattle.sweep.proofs.fewer.Reads as reads
+use Rattle.sweep.proofs.fewer.Lts as lts
+
+-- src/lib.rt:27:9
+returns : tie.Need-returns
+unfolding def.fewer
+returns c = rw (lt-ltb _ _ (c .if1 .taken))
+
+-- src/lib.rt:23:1
+returns-2 : tie.Need-returns-2
+unfolding def.fewer
+returns-2 c = rw (le-ltb _ _ (c .if1 .left))
+
+pub fewer-spec : {M : Type 1} → statement M
+fewer-spec = tie.close (tie.spec returns returns-2)

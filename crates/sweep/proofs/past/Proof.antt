@@ -1,0 +1,20 @@
+use Rattle.sweep.specs.Rows as def
+use native.Mathlib.Omega.{arith}
+use borrow.Author.Needs.{needs}
+use Rattle.sweep.proofs.past.Statement.{statement}
+use Rattle.sweep.proofs.past.Tie as tie
+use Rattle.sweep.proofs.past.Reads as reads
+use Rattle.sweep.proofs.past.Lts as lts
+use Rattle.floats.proofs.abs.Reads as abs-reads
+
+-- src/lib.rt:298:5
+abs-requires : tie.Need-abs-requires
+abs-requires c κs = search needs
+
+-- src/lib.rt:295:1
+returns : tie.Need-returns
+unfolding def.past
+returns c = rw (c .abs .ensures)
+
+pub past-spec : {M : Type 1} → statement M
+past-spec = tie.close (tie.spec abs-requires returns)
