@@ -1,0 +1,211 @@
+//! Lists of tallied solves.
+
+use super::joins::same_report;
+use super::solve::{self, Answer as SolveAnswer};
+use super::{Call, Zeros};
+use crate::cases::random::Rng;
+use crate::cases::solve as cases;
+use crate::coverage::{Class, Coverage};
+use crate::reference::report::{tallied, SolveReport, NOTHING};
+use crate::reference::rule::{Place, Rule};
+
+pub struct Tallied;
+
+/// A tally and the solves that join it.
+pub struct Case {
+    tally: SolveReport,
+    solves: Vec<cases::Case>,
+    /// The order in which they are made.
+    order: Vec<usize>,
+    /// Whether the tally starts as NOTHING.
+    empty: bool,
+}
+
+/// The tally at the end and each solve's answer, in the list's order.
+pub struct Answer {
+    tally: SolveReport,
+    answers: Vec<SolveAnswer>,
+}
+
+const LISTS: &str = "tallied/lists";
+const FULL: &str = "tallied/full";
+
+/// Makes the solves in the given order.
+fn run(
+    case: &Case,
+    order: &[usize],
+    mut make: impl FnMut(&cases::Case, &mut SolveReport) -> SolveAnswer,
+) -> Answer {
+    let mut tally = case.tally;
+    let mut answers: Vec<Option<SolveAnswer>> = case.solves.iter().map(|_| None).collect();
+    for &k in order {
+        answers[k] = Some(make(&case.solves[k], &mut tally));
+    }
+    Answer {
+        tally,
+        answers: answers.into_iter().flatten().collect(),
+    }
+}
+
+/// A tally at and around the limits that 11 names.
+fn full_tally(rng: &mut Rng) -> SolveReport {
+    let near = rng.between(-3, 3);
+    let at = |limit: u32| (i64::from(limit) + near).min(i64::from(u32::MAX)) as u32;
+    let mut tally = SolveReport {
+        residual: 0.5,
+        increments: 7,
+        sweeps: 30,
+        exact_passes: 9,
+        ..NOTHING
+    };
+    match rng.below(4) {
+        0 => tally.increments = at(u32::MAX),
+        1 => tally.sweeps = at(4_294_967_095),
+        2 => tally.exact_passes = at(4_294_967_286),
+        _ => tally.iterations = u32::MAX,
+    }
+    tally
+}
+
+impl Call for Tallied {
+    type Case = Case;
+    type Answer = Answer;
+
+    const NAME: &'static str = "tallied solves";
+    const PLACES: &'static [Place] = &[Place::Tally];
+    const CLASSES: &'static [Class] = &[
+        Class {
+            group: "number",
+            names: &["0", "5", "6", "7", "8", "9", "10", "11"],
+        },
+        Class {
+            group: "solves",
+            names: &["1", "2", "3", "4", "5"],
+        },
+        Class {
+            group: "outcome",
+            names: &[
+                "solved exact",
+                "solved by sweeps",
+                "solved at the cap",
+                "infeasible growth",
+                "infeasible pass",
+                "infeasible sweep",
+            ],
+        },
+    ];
+
+    fn families() -> Vec<&'static str> {
+        vec![LISTS, FULL]
+    }
+
+    fn case(family: &str, rng: &mut Rng) -> Option<Case> {
+        let empty = match family {
+            LISTS => true,
+            FULL => false,
+            _ => return None,
+        };
+        let tally = if empty { NOTHING } else { full_tally(rng) };
+        let families = cases::families();
+        let count = 1 + rng.below(5);
+        let solves: Vec<cases::Case> = (0..count)
+            .filter_map(|_| {
+                let lengths = rng.chance(25);
+                let family = if lengths {
+                    "solve/lengths"
+                } else {
+                    rng.pick(&families)
+                };
+                cases::case(family, rng)
+            })
+            .collect();
+        let order = rng.permutation(solves.len());
+        Some(Case {
+            tally,
+            solves,
+            order,
+            empty,
+        })
+    }
+
+    fn reference(case: &Case, rule: Rule) -> Answer {
+        run(case, &case.order, |one, tally| {
+            solve::lend(one, |lent| tallied(&one.problem.lend(), lent, tally, rule))
+        })
+    }
+
+    #[cfg(not(original))]
+    fn original(_: &Case, _: &Answer) -> Option<Answer> {
+        None
+    }
+
+    /// From an empty tally the original makes the list front to back, so that
+    /// another order of the reference must leave the same tally and answers.
+    #[cfg(original)]
+    fn original(case: &Case, reference: &Answer) -> Option<Answer> {
+        use super::joins::theirs;
+        let front_to_back: Vec<usize> = (0..case.solves.len()).collect();
+        let order = if case.empty {
+            &front_to_back
+        } else {
+            &case.order
+        };
+        let mut places = order.iter();
+        Some(run(case, order, |one, tally| {
+            let known = &reference.answers[*places.next().unwrap_or(&0)];
+            let Some(answer) = solve::original(one, known) else {
+                return known.clone();
+            };
+            if let Some((_, report)) = &answer.ending {
+                let joined = SolveReport {
+                    increments: 1,
+                    sweeps: report.sweeps,
+                    exact_passes: report.exact_passes,
+                    converged: report.converged,
+                    exact: report.exact,
+                    residual: report.residual,
+                    ..NOTHING
+                };
+                *tally = theirs::back(&theirs::of(tally).and(theirs::of(&joined)));
+            }
+            answer
+        }))
+    }
+
+    fn port(_: &Case) -> Option<Answer> {
+        None
+    }
+
+    fn difference(expected: &Answer, found: &Answer, zeros: Zeros) -> Option<&'static str> {
+        for (a, b) in expected.answers.iter().zip(&found.answers) {
+            if let Some(part) = solve::difference(a, b, zeros) {
+                return Some(part);
+            }
+        }
+        (!same_report(&expected.tally, &found.tally, zeros)).then_some("tally")
+    }
+
+    fn cover(case: &Case, answer: &Answer, coverage: &mut Coverage) {
+        coverage.number("solves", case.solves.len());
+        for (one, answer) in case.solves.iter().zip(&answer.answers) {
+            solve::cover(one, answer, coverage);
+        }
+    }
+
+    fn show_case(case: &Case) -> String {
+        let solves: String = case.solves.iter().map(solve::Solve::show_case).collect();
+        format!(
+            "tally {:?}, empty {}\norder {:?}\n{solves}",
+            case.tally, case.empty, case.order
+        )
+    }
+
+    fn show_answer(answer: &Answer) -> String {
+        let answers: String = answer
+            .answers
+            .iter()
+            .map(solve::Solve::show_answer)
+            .collect();
+        format!("  tally {:?}\n{answers}", answer.tally)
+    }
+}

@@ -1,0 +1,15 @@
+//! The cases: each is made from its family, a seed and an index, and from
+//! nothing else, so that any of them can be made again.
+
+pub mod aimed;
+pub mod files;
+pub mod least_norm;
+pub mod lengths;
+pub mod marked;
+pub mod problem;
+pub mod random;
+pub mod rays;
+pub mod reports;
+pub mod roots;
+pub mod solve;
+pub mod sweeps;

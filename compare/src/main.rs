@@ -1,0 +1,283 @@
+//! Holds the port, and a reference written from document 01, against the
+//! original Rust. See `compare help`.
+
+mod bench;
+mod calls;
+mod cases;
+mod coverage;
+mod mutations;
+#[cfg(original)]
+mod original;
+mod plot;
+mod port;
+mod reference;
+mod run;
+#[cfg(test)]
+mod tests;
+mod vectors;
+
+use calls::bend::Bend;
+use calls::joins::Joins;
+use calls::least_norm::LeastNorm;
+use calls::solve::Solve;
+use calls::tallied::Tallied;
+use calls::Call;
+use run::{run, show, Totals};
+use std::process::ExitCode;
+use std::time::Instant;
+
+const HELP: &str = "\
+compare COMMAND
+  short                   the gate's comparison; last line 'compare: N passed, M failed'
+  long [CASES]            solves by default 10,000,000, and a third as many of each other call
+  sqrt [COUNT]            the square root on 100,000,000 patterns, and its time
+  mutations [EACH [RULE]] each error (or one) put into the reference: is it caught?
+  vectors DIR             writes the original's answers for replay
+  bench [--write]         times of port and original; --write: docs/PERFORMANCE.md and performance.svg
+  one FAMILY SEED INDEX   one case in full, with every answer to it
+  families                the names of the families";
+
+/// The checks of a run, passed and failed.
+#[derive(Default)]
+struct Checks {
+    passed: u32,
+    failed: u32,
+}
+
+impl Checks {
+    fn note(&mut self, passed: bool, line: &str) {
+        if passed {
+            self.passed += 1;
+        } else {
+            self.failed += 1;
+        }
+        println!("{} {line}", if passed { "pass" } else { "FAIL" });
+    }
+
+    fn end(&self) -> ExitCode {
+        println!("compare: {} passed, {} failed", self.passed, self.failed);
+        if self.failed == 0 {
+            ExitCode::SUCCESS
+        } else {
+            ExitCode::FAILURE
+        }
+    }
+
+    /// Notes a run's pairs and its coverage.
+    fn totals<C: Call>(&mut self, totals: &Totals, coverage: bool) {
+        let port = if cfg!(original) {
+            "port with original"
+        } else {
+            "port with reference"
+        };
+        for (name, pair) in [
+            ("reference with original", &totals.reference),
+            (port, &totals.port),
+        ] {
+            if pair.cases > 0 {
+                let line = format!(
+                    "{}: {name}: {} cases, differing {}",
+                    C::NAME,
+                    pair.cases,
+                    pair.differing
+                );
+                self.note(pair.differing == 0, &line);
+                pair.first.iter().for_each(|which| println!("  {which}"));
+            }
+        }
+        if totals.port.cases == 0 {
+            println!("     {}: the static library has no such call", C::NAME);
+        }
+        let (classes, missing) = totals.coverage.missing(C::CLASSES);
+        let line = format!(
+            "{}: {} of {classes} classes reached",
+            C::NAME,
+            classes - missing.len()
+        );
+        self.note(missing.is_empty(), &line);
+        missing
+            .iter()
+            .for_each(|class| println!("  not reached: {class}"));
+        if coverage {
+            print!("{}", totals.coverage.lines(C::CLASSES));
+        }
+    }
+}
+
+fn main() -> ExitCode {
+    let words: Vec<String> = std::env::args().skip(1).collect();
+    let words: Vec<&str> = words.iter().map(String::as_str).collect();
+    #[cfg(original)]
+    original::expect_panics();
+    if !cfg!(original) {
+        println!("compare: the original's files are not at hand (PISKORLU_ORIGINAL): nothing is held against them");
+    }
+    if port::SQRT.is_none() && port::LEAST_NORM.is_none() {
+        println!("compare: no static library (rt staticlib capi, or PISKORLU_STATICLIB): the port is not compared");
+    }
+    match words.as_slice() {
+        ["short"] => short(),
+        ["long"] => long(10_000_000),
+        ["long", cases] => number(cases).map_or_else(usage, long),
+        ["sqrt"] => sqrt(100_000_000),
+        ["sqrt", count] => number(count).map_or_else(usage, sqrt),
+        ["mutations"] => exit(mutations::print(3_000, None)),
+        ["mutations", each] => {
+            number(each).map_or_else(usage, |each| exit(mutations::print(each, None)))
+        }
+        ["mutations", each, rule] => {
+            number(each).map_or_else(usage, |each| exit(mutations::print(each, Some(rule))))
+        }
+        ["vectors", folder] => outcome(vectors::write(folder.as_ref())),
+        ["bench"] => outcome(bench::run(false)),
+        ["bench", "--write"] => outcome(bench::run(true)),
+        ["one", family, seed, index] => one(family, number(seed), number(index)),
+        ["families"] => families(),
+        _ => usage(),
+    }
+}
+
+fn usage() -> ExitCode {
+    eprintln!("{HELP}");
+    ExitCode::from(2)
+}
+
+fn number(word: &str) -> Option<u64> {
+    word.parse().ok()
+}
+
+fn exit(well: bool) -> ExitCode {
+    if well {
+        ExitCode::SUCCESS
+    } else {
+        ExitCode::FAILURE
+    }
+}
+
+fn outcome(result: Result<(), String>) -> ExitCode {
+    match result {
+        Ok(()) => ExitCode::SUCCESS,
+        Err(message) => {
+            eprintln!("compare: {message}");
+            ExitCode::FAILURE
+        }
+    }
+}
+
+/// The gate's comparison: every call on fixed cases.
+fn short() -> ExitCode {
+    let mut checks = Checks::default();
+    let start = Instant::now();
+    square_root(&mut checks, 5_000_000);
+    checks.totals::<LeastNorm>(&run::<LeastNorm>(1, 20_000), false);
+    checks.totals::<Solve>(&run::<Solve>(1, 8_000), false);
+    checks.totals::<Joins>(&run::<Joins>(1, 50_000), false);
+    checks.totals::<Tallied>(&run::<Tallied>(1, 15_000), false);
+    checks.totals::<Bend>(&run::<Bend>(1, 10_000), false);
+    println!("{:.0} s", start.elapsed().as_secs_f64());
+    checks.end()
+}
+
+fn square_root(checks: &mut Checks, count: u64) {
+    let Some(call) = port::SQRT else {
+        println!("     square root: the static library has no such call");
+        return;
+    };
+    let (differing, first) = calls::sqrt::compare(call, 1, count);
+    checks.note(
+        differing == 0,
+        &format!("square root: port with hardware: {count} patterns, differing {differing}"),
+    );
+    if let Some(bits) = first {
+        println!("  {bits:016X}");
+    }
+}
+
+/// At least `cases` solves, and a third as many of each other call.
+fn long(cases: u64) -> ExitCode {
+    let mut checks = Checks::default();
+    let start = Instant::now();
+    let seed = 2;
+    let each = |families: usize, cases: u64| cases.div_ceil(families as u64);
+    square_root(&mut checks, cases);
+    let mut differing = 0;
+    differing += long_call::<LeastNorm>(
+        &mut checks,
+        seed,
+        each(LeastNorm::families().len(), cases / 3),
+    );
+    differing += long_call::<Solve>(&mut checks, seed, each(Solve::families().len(), cases));
+    differing += long_call::<Joins>(&mut checks, seed, each(Joins::families().len(), cases / 3));
+    differing += long_call::<Tallied>(
+        &mut checks,
+        seed,
+        each(Tallied::families().len(), cases / 10),
+    );
+    differing += long_call::<Bend>(&mut checks, seed, each(Bend::families().len(), cases / 30));
+    println!("{:.0} s", start.elapsed().as_secs_f64());
+    println!("differing {differing}");
+    checks.end()
+}
+
+fn long_call<C: Call>(checks: &mut Checks, seed: u64, each: u64) -> u64 {
+    let start = Instant::now();
+    let totals = run::<C>(seed, each);
+    println!(
+        "{}: {} cases, {:.0} s",
+        C::NAME,
+        totals.cases,
+        start.elapsed().as_secs_f64()
+    );
+    checks.totals::<C>(&totals, true);
+    totals.reference.differing + totals.port.differing
+}
+
+/// The square root on many patterns, and its time beside the hardware's.
+fn sqrt(count: u64) -> ExitCode {
+    let Some(call) = port::SQRT else {
+        return exit(false);
+    };
+    let (differing, first) = calls::sqrt::compare(call, 1, count);
+    println!("square root: {count} patterns, differing {differing}");
+    if let Some(bits) = first {
+        println!("  {bits:016X}");
+    }
+    let times = calls::sqrt::times(call);
+    println!(
+        "a root, on arrays: port {:.2} ns, hardware called {:.2} ns, hardware inlined {:.2} ns",
+        times.port, times.hardware_called, times.hardware_inlined
+    );
+    println!(
+        "port / hardware: called {:.2}, inlined {:.2}",
+        times.port / times.hardware_called,
+        times.port / times.hardware_inlined
+    );
+    exit(differing == 0)
+}
+
+fn one(family: &str, seed: Option<u64>, index: Option<u64>) -> ExitCode {
+    let (Some(seed), Some(index)) = (seed, index) else {
+        return usage();
+    };
+    let shown = show::<LeastNorm>(family, seed, index)
+        || show::<Solve>(family, seed, index)
+        || show::<Joins>(family, seed, index)
+        || show::<Tallied>(family, seed, index)
+        || show::<Bend>(family, seed, index);
+    if !shown {
+        eprintln!("compare: no family of that name");
+    }
+    exit(shown)
+}
+
+fn families() -> ExitCode {
+    let names = [
+        LeastNorm::families(),
+        Solve::families(),
+        Joins::families(),
+        Tallied::families(),
+        Bend::families(),
+    ];
+    names.concat().iter().for_each(|name| println!("{name}"));
+    ExitCode::SUCCESS
+}

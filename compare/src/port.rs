@@ -1,0 +1,82 @@
+//! The port, through its C interface. This is the only unsafe code here: each
+//! call lends whole Rust slices as a pointer and a length, which is what
+//! include/piskorlu.h asks for. A call that the static library lacks is `None`.
+
+/// The square root.
+pub type Sqrt = fn(f64) -> f64;
+
+/// Least norm: a, m, n, b, x, workspace and the place for the rank; 0, or the
+/// number of the refusal.
+pub type LeastNorm =
+    fn(&mut [f64], usize, usize, &mut [f64], &mut [f64], &mut [f64], &mut [u32]) -> u32;
+
+#[cfg(port_sqrt)]
+pub const SQRT: Option<Sqrt> = Some(sqrt);
+#[cfg(not(port_sqrt))]
+pub const SQRT: Option<Sqrt> = None;
+
+#[cfg(port_least_norm)]
+pub const LEAST_NORM: Option<LeastNorm> = Some(least_norm);
+#[cfg(not(port_least_norm))]
+pub const LEAST_NORM: Option<LeastNorm> = None;
+
+#[cfg(port_sqrt)]
+extern "C" {
+    fn piskorlu_sqrt(v: f64) -> f64;
+}
+
+#[cfg(port_least_norm)]
+extern "C" {
+    fn piskorlu_least_norm(
+        a: *mut f64,
+        a_len: usize,
+        m: usize,
+        n: usize,
+        b: *mut f64,
+        b_len: usize,
+        x: *mut f64,
+        x_len: usize,
+        workspace: *mut f64,
+        workspace_len: usize,
+        rank: *mut u32,
+        rank_len: usize,
+    ) -> u32;
+}
+
+#[cfg(port_sqrt)]
+#[inline]
+fn sqrt(v: f64) -> f64 {
+    // SAFETY: the function takes and returns a number and is total.
+    unsafe { piskorlu_sqrt(v) }
+}
+
+#[cfg(port_least_norm)]
+#[inline]
+fn least_norm(
+    a: &mut [f64],
+    m: usize,
+    n: usize,
+    b: &mut [f64],
+    x: &mut [f64],
+    workspace: &mut [f64],
+    rank: &mut [u32],
+) -> u32 {
+    // SAFETY: each pointer and length is one exclusively borrowed slice, and
+    // the function writes within the lengths it is given.
+    unsafe {
+        piskorlu_least_norm(
+            a.as_mut_ptr(),
+            a.len(),
+            m,
+            n,
+            b.as_mut_ptr(),
+            b.len(),
+            x.as_mut_ptr(),
+            x.len(),
+            workspace.as_mut_ptr(),
+            workspace.len(),
+            rank.as_mut_ptr(),
+            rank.len(),
+        )
+    }
+}

@@ -1,0 +1,22 @@
+//! An implementation of document 01 of its own, in that document's order. It
+//! is held against the original, and it gives what the original has no word
+//! for: refusal numbers, causes, what a lent buffer keeps, the tally and the
+//! bend file.
+//!
+//! Every part takes a [`Rule`], the single error put in on purpose. In
+//! ordinary use it is [`Rule::None`]; the command `mutations` puts in each
+//! error in turn and counts the cases that show it.
+
+pub mod bend;
+pub mod float;
+pub mod least_norm;
+pub mod pass;
+pub mod print;
+pub mod problem;
+pub mod ray;
+pub mod report;
+pub mod rule;
+pub mod solve;
+pub mod state;
+
+pub use rule::Rule;

@@ -1,0 +1,207 @@
+//! Reports joined, the tally and the tallied solve.
+
+use super::float::{larger, larger_or_nan};
+use super::problem::{Lent, Problem};
+use super::rule::Rule;
+use super::solve::{solve, BoxReport, Outcome};
+
+/// The refusal of a sum too large.
+pub const TOO_LARGE: u32 = 13;
+
+/// The refusal of a tally too full.
+pub const TALLY_FULL: u32 = 11;
+
+/// Counts and the worst residual of one or more solves.
+#[derive(Clone, Copy, Debug)]
+pub struct SolveReport {
+    pub increments: u32,
+    pub iterations: u32,
+    pub most_iterations: u32,
+    pub rejected: u32,
+    pub anchors: u32,
+    pub sweeps: u32,
+    pub exact_passes: u32,
+    pub converged: bool,
+    pub exact: bool,
+    pub residual: f64,
+}
+
+/// The report of no solve: the empty tally.
+pub const NOTHING: SolveReport = SolveReport {
+    increments: 0,
+    iterations: 0,
+    most_iterations: 0,
+    rejected: 0,
+    anchors: 0,
+    sweeps: 0,
+    exact_passes: 0,
+    converged: true,
+    exact: true,
+    residual: 0.0,
+};
+
+/// A count's sum, or 13 above 4,294,967,295.
+fn count(a: u32, b: u32, rule: Rule) -> Result<u32, u32> {
+    match rule {
+        Rule::SumWraps => Ok(a.wrapping_add(b)),
+        Rule::SumStopsAtLimit => Ok(a.saturating_add(b)),
+        Rule::SumLimitRefused => a.checked_add(b).filter(|&s| s < u32::MAX).ok_or(TOO_LARGE),
+        _ => a.checked_add(b).ok_or(TOO_LARGE),
+    }
+}
+
+impl SolveReport {
+    /// One increment that goes on as `then` reports.
+    pub fn continued(self, then: Self, rule: Rule) -> Result<Self, u32> {
+        let iterations = count(self.iterations, then.iterations, rule)?;
+        let most = if rule.is(Rule::ContinuedMostLarger) {
+            self.most_iterations.max(then.most_iterations)
+        } else {
+            iterations
+        };
+        let increments = if rule.is(Rule::ContinuedIncrementsSummed) {
+            count(self.increments, then.increments, rule)?
+        } else {
+            self.increments.max(then.increments)
+        };
+        Ok(Self {
+            increments,
+            iterations,
+            most_iterations: most,
+            rejected: count(self.rejected, then.rejected, rule)?,
+            anchors: count(self.anchors, then.anchors, rule)?,
+            sweeps: count(self.sweeps, then.sweeps, rule)?,
+            exact_passes: count(self.exact_passes, then.exact_passes, rule)?,
+            converged: then.converged && (self.converged || !rule.is(Rule::ContinuedConvergedBoth)),
+            exact: then.exact && (self.exact || rule.is(Rule::ContinuedExactLast)),
+            residual: match rule {
+                Rule::ContinuedResidualFirst => self.residual,
+                Rule::ContinuedResidualLarger => larger(self.residual, then.residual),
+                _ => then.residual,
+            },
+        })
+    }
+
+    /// Two reports together.
+    pub fn and(self, other: Self, rule: Rule) -> Result<Self, u32> {
+        let most = match rule {
+            Rule::AndMostSummed => count(self.most_iterations, other.most_iterations, rule)?,
+            _ => self.most_iterations.max(other.most_iterations),
+        };
+        let (sweeps, passes) = match rule {
+            Rule::PassesAddedToSweeps => (other.exact_passes, other.exact_passes),
+            _ => (other.sweeps, other.exact_passes),
+        };
+        Ok(Self {
+            increments: count(self.increments, other.increments, rule)?,
+            iterations: count(self.iterations, other.iterations, rule)?,
+            most_iterations: most,
+            rejected: count(self.rejected, other.rejected, rule)?,
+            anchors: count(self.anchors, other.anchors, rule)?,
+            sweeps: count(self.sweeps, sweeps, rule)?,
+            exact_passes: count(self.exact_passes, passes, rule)?,
+            converged: if rule.is(Rule::AndConvergedLast) {
+                other.converged
+            } else {
+                self.converged && other.converged
+            },
+            exact: if rule.is(Rule::AndExactEither) {
+                self.exact || other.exact
+            } else {
+                self.exact && other.exact
+            },
+            residual: and_residual(self.residual, other.residual, rule),
+        })
+    }
+}
+
+fn and_residual(first: f64, second: f64, rule: Rule) -> f64 {
+    match rule {
+        Rule::AndResidualFirst => first,
+        Rule::AndResidualLast => second,
+        Rule::AndResidualNan => larger_or_nan(first, second),
+        Rule::AndResidualMinusZero if first == 0.0 && second == 0.0 => -0.0,
+        _ => larger(first, second),
+    }
+}
+
+/// A list joined by `and`, front to back from NOTHING.
+pub fn joined(reports: &[SolveReport], rule: Rule) -> Result<SolveReport, u32> {
+    if let (Rule::ListFromFirst, Some((first, rest))) = (rule, reports.split_first()) {
+        return rest
+            .iter()
+            .try_fold(*first, |sum, &report| sum.and(report, rule));
+    }
+    if rule.is(Rule::ListBackToFront) {
+        return reports
+            .iter()
+            .rev()
+            .try_fold(NOTHING, |sum, &report| report.and(sum, rule));
+    }
+    reports
+        .iter()
+        .try_fold(NOTHING, |sum, &report| sum.and(report, rule))
+}
+
+/// Whether the tally has no place for one more solve.
+fn tally_full(tally: &SolveReport, rule: Rule) -> bool {
+    let (increments, sweeps, passes) = match rule {
+        Rule::TallyIncrementsLow => (u32::MAX - 1, 4_294_967_095, 4_294_967_286),
+        Rule::TallySweepsHigh => (u32::MAX, 4_294_967_096, 4_294_967_286),
+        Rule::TallySweepsLow => (u32::MAX, 4_294_967_094, 4_294_967_286),
+        Rule::TallyPassesHigh => (u32::MAX, 4_294_967_095, 4_294_967_287),
+        Rule::TallyPassesLow => (u32::MAX, 4_294_967_095, 4_294_967_285),
+        _ => (u32::MAX, 4_294_967_095, 4_294_967_286),
+    };
+    let counted = tally.increments >= increments && !rule.is(Rule::TallyIncrementsHigh);
+    counted || tally.sweeps > sweeps || tally.exact_passes > passes
+}
+
+/// The report of one solve as the tally takes it.
+fn as_solve_report(report: &BoxReport, rule: Rule) -> SolveReport {
+    SolveReport {
+        increments: 1,
+        iterations: if rule.is(Rule::TallyIterationsOfSweeps) {
+            report.sweeps
+        } else {
+            0
+        },
+        sweeps: report.sweeps,
+        exact_passes: report.exact_passes,
+        converged: report.converged,
+        exact: report.exact,
+        residual: report.residual,
+        ..NOTHING
+    }
+}
+
+/// A solve that joins the tally; 5 to 10 first, then 11. A refused one joins
+/// nothing.
+pub fn tallied(
+    p: &Problem,
+    lent: &mut Lent,
+    tally: &mut SolveReport,
+    rule: Rule,
+) -> Result<(Outcome, BoxReport), u32> {
+    if rule.is(Rule::ElevenBeforeFive) && tally_full(tally, rule) {
+        return Err(TALLY_FULL);
+    }
+    if let Some(number) = p.refused(lent, rule) {
+        if rule.is(Rule::TallyCountsRefused) {
+            tally.increments = tally.increments.saturating_add(1);
+        }
+        return Err(number);
+    }
+    if tally_full(tally, rule) && !rule.is(Rule::ElevenAfterSolve) {
+        return Err(TALLY_FULL);
+    }
+    let (outcome, report) = solve(p, lent, rule)?;
+    if tally_full(tally, rule) {
+        return Err(TALLY_FULL);
+    }
+    if rule.is(Rule::TallyWithoutInfeasible) && outcome != Outcome::Solved {
+        return Ok((outcome, report));
+    }
+    *tally = tally.and(as_solve_report(&report, rule), rule)?;
+    Ok((outcome, report))
+}
