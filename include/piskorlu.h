@@ -27,6 +27,9 @@ extern "C" {
 /* Least norm: lengths that do not agree, or are too large or too small. */
 #define PISKORLU_REFUSED_LEAST_NORM 12u
 
+/* Joins: a count's sum above 4,294,967,295, or a buffer too short. */
+#define PISKORLU_REFUSED_JOIN 13u
+
 /* The most rows, and the most columns, of a least-norm system. */
 #define PISKORLU_MOST 32
 
@@ -59,6 +62,42 @@ uint32_t piskorlu_least_norm(double *a, size_t a_len, size_t m, size_t n,
                              double *x, size_t x_len,
                              double *workspace, size_t workspace_len,
                              uint32_t *rank, size_t rank_len);
+
+/*
+ * Reports of solves joined. A report is nine counts and a residual; the counts
+ * are, in this order: increments, iterations, most_iterations, rejected,
+ * anchors, sweeps, exact_passes, and the flags converged and exact, where 0 is
+ * no and any other value yes (a joined report has 1 for yes). The report of no
+ * solve at all is {0, 0, 0, 0, 0, 0, 0, 1, 1} with residual 0.
+ */
+#define PISKORLU_REPORT_COUNTS 9
+
+/*
+ * Two reports together, as one procedure's: counts added, the larger
+ * most_iterations and residual, flags that both have.
+ *
+ * a, b       the counts of each report, at least PISKORLU_REPORT_COUNTS.
+ * counts     receives the counts in its first PISKORLU_REPORT_COUNTS places.
+ * residual   receives the residual in residual[0].
+ *
+ * Returns PISKORLU_ACCEPTED, or PISKORLU_REFUSED_JOIN where a sum is too large
+ * or a buffer too short, and then nothing is written.
+ */
+uint32_t piskorlu_and(const uint32_t *a, size_t a_len, double a_residual,
+                      const uint32_t *b, size_t b_len, double b_residual,
+                      uint32_t *counts, size_t counts_len,
+                      double *residual, size_t residual_len);
+
+/*
+ * One increment begun as a reports and gone on from there as b reports: its
+ * steps and sweeps added up, the larger increments, most_iterations the sum of
+ * the iterations; converged and residual are b's, exact that of both.
+ * Parameters and answer as for piskorlu_and.
+ */
+uint32_t piskorlu_continued(const uint32_t *a, size_t a_len, double a_residual,
+                            const uint32_t *b, size_t b_len, double b_residual,
+                            uint32_t *counts, size_t counts_len,
+                            double *residual, size_t residual_len);
 
 #ifdef __cplusplus
 }

@@ -10,6 +10,25 @@ pub type Sqrt = fn(f64) -> f64;
 pub type LeastNorm =
     fn(&mut [f64], usize, usize, &mut [f64], &mut [f64], &mut [f64], &mut [u32]) -> u32;
 
+/// A report as the C interface has it: nine counts, the two flags last among
+/// them, and the residual.
+pub type Report<'a> = (&'a [u32], f64);
+
+/// A join of two reports into nine counts and a residual; 0, or the number of
+/// the refusal.
+pub type Join = fn(Report, Report, &mut [u32], &mut [f64]) -> u32;
+
+/// Both joins.
+pub struct Joins {
+    pub and: Join,
+    pub continued: Join,
+}
+
+#[cfg(port_joins)]
+pub const JOINS: Option<Joins> = Some(Joins { and, continued });
+#[cfg(not(port_joins))]
+pub const JOINS: Option<Joins> = None;
+
 #[cfg(port_sqrt)]
 pub const SQRT: Option<Sqrt> = Some(sqrt);
 #[cfg(not(port_sqrt))]
@@ -80,3 +99,47 @@ fn least_norm(
         )
     }
 }
+
+/// The joins' one signature, with its wrapper.
+#[cfg(port_joins)]
+macro_rules! join {
+    ($wrapper:ident, $function:ident) => {
+        extern "C" {
+            fn $function(
+                a: *const u32,
+                a_len: usize,
+                a_residual: f64,
+                b: *const u32,
+                b_len: usize,
+                b_residual: f64,
+                counts: *mut u32,
+                counts_len: usize,
+                residual: *mut f64,
+                residual_len: usize,
+            ) -> u32;
+        }
+
+        fn $wrapper(a: Report, b: Report, counts: &mut [u32], residual: &mut [f64]) -> u32 {
+            // SAFETY: as for least_norm.
+            unsafe {
+                $function(
+                    a.0.as_ptr(),
+                    a.0.len(),
+                    a.1,
+                    b.0.as_ptr(),
+                    b.0.len(),
+                    b.1,
+                    counts.as_mut_ptr(),
+                    counts.len(),
+                    residual.as_mut_ptr(),
+                    residual.len(),
+                )
+            }
+        }
+    };
+}
+
+#[cfg(port_joins)]
+join!(and, piskorlu_and);
+#[cfg(port_joins)]
+join!(continued, piskorlu_continued);

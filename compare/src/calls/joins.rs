@@ -4,7 +4,8 @@ use super::{same, Call, Zeros};
 use crate::cases::random::Rng;
 use crate::cases::reports::{Case, FAMILIES};
 use crate::coverage::{Class, Coverage};
-use crate::reference::report::{joined, SolveReport};
+use crate::port;
+use crate::reference::report::{joined, SolveReport, NOTHING};
 use crate::reference::rule::{Place, Rule};
 
 pub struct Joins;
@@ -80,6 +81,77 @@ pub mod theirs {
     }
 }
 
+/// The reports as the port's C interface has them, and back.
+mod ours {
+    use crate::port::Join;
+    use crate::reference::report::SolveReport;
+
+    /// What the slices hold before a join and past its answer.
+    const GUARD: u32 = 0xA5A5_5A5A;
+
+    fn counts(r: &SolveReport) -> [u32; 9] {
+        [
+            r.increments,
+            r.iterations,
+            r.most_iterations,
+            r.rejected,
+            r.anchors,
+            r.sweeps,
+            r.exact_passes,
+            r.converged as u32,
+            r.exact as u32,
+        ]
+    }
+
+    fn back(counts: &[u32], residual: f64) -> SolveReport {
+        SolveReport {
+            increments: counts[0],
+            iterations: counts[1],
+            most_iterations: counts[2],
+            rejected: counts[3],
+            anchors: counts[4],
+            sweeps: counts[5],
+            exact_passes: counts[6],
+            converged: counts[7] == 1,
+            exact: counts[8] == 1,
+            residual,
+        }
+    }
+
+    /// One join. Lengths of 8 and 0 must get 13, and a refusal or a longer
+    /// slice must keep what it held; otherwise the answer is a number that no
+    /// party gives.
+    pub fn join(join: Join, a: &SolveReport, b: &SolveReport) -> Result<SolveReport, u32> {
+        const CHANGED: u32 = u32::MAX;
+        let (first, second) = (counts(a), counts(b));
+        let (a, b) = ((&first[..], a.residual), (&second[..], b.residual));
+        let mut left = [GUARD; 11];
+        let mut residual = [-7.0; 2];
+        let kept = |left: &[u32; 11], residual: &[f64; 2], from: usize| {
+            left[from..].iter().all(|&c| c == GUARD) && residual[from / 9..].iter().all(|&r| r == -7.0)
+        };
+        let short = [
+            join((&first[..8], a.1), b, &mut left, &mut residual),
+            join(a, (&second[..8], b.1), &mut left, &mut residual),
+            join(a, b, &mut left[..8], &mut residual),
+            join(a, b, &mut left, &mut residual[..0]),
+        ];
+        if short != [13; 4] || !kept(&left, &residual, 0) {
+            return Err(CHANGED);
+        }
+        let number = join(a, b, &mut left, &mut residual);
+        let from = if number == 0 { 9 } else { 0 };
+        if !kept(&left, &residual, from) {
+            return Err(CHANGED);
+        }
+        if number == 0 {
+            Ok(back(&left, residual[0]))
+        } else {
+            Err(number)
+        }
+    }
+}
+
 impl Call for Joins {
     type Case = Case;
     type Answer = Answer;
@@ -147,8 +219,18 @@ impl Call for Joins {
         })
     }
 
-    fn port(_: &Case) -> Option<Answer> {
-        None
+    /// The port joins a list by `and` from NOTHING, report by report.
+    fn port(case: &Case) -> Option<Answer> {
+        let joins = port::JOINS?;
+        let list = case
+            .list
+            .iter()
+            .try_fold(NOTHING, |sum, r| ours::join(joins.and, &sum, r));
+        Some(Answer {
+            continued: ours::join(joins.continued, &case.first, &case.second),
+            and: ours::join(joins.and, &case.first, &case.second),
+            list,
+        })
     }
 
     fn difference(expected: &Answer, found: &Answer, zeros: Zeros) -> Option<&'static str> {
