@@ -5,3 +5,4 @@ pub mod Index
 pub mod Exchange
 pub mod Places
 pub mod Every
+pub mod Paste
