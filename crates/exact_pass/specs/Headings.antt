@@ -1,20 +1,20 @@
--- An exact pass of boxed.rs, by its moves. Definitions only. l is the list of the rows inside.
-use Prim.Native.Nat.{ℕ, zero, suc, _+_, _*_}
-use mathlib.Core.Bool.{Bool, true, false, cond}
+-- A move of an exact pass (boxed.rs), from the solution of its system on: where it heads, what stops it, which row is freed. Definitions only. l is the list of the rows inside.
+use Prim.Native.Nat.{ℕ}
+use mathlib.Core.Path.{_≡_}
+use mathlib.Core.Bool.{cond}
 use mathlib.Core.List.{List, [], _∷_}
-use lib.Dec.{eqb, ltb}
+use lib.Dec.{eqb}
 use lib.ListN.{set, length, replicate}
 use lib.Ieee.{Float}
-use Rattle.loops.specs.Loops.{turns, those, fronted}
+use Rattle.loops.specs.Loops.{fronted}
 use Rattle.floats.specs.Ops.{at, 0ᶠ, 1ᶠ, ∞}
 use Rattle.floats.specs.Helpers.{isFinite}
-use Rattle.least_norm.specs.LeastNorm.{leastNorm}
-use Rattle.sweep.specs.Rows.{Problem, rows, acts, shown}
+use Rattle.sweep.specs.Rows.{Problem, rows}
 use Rattle.ray.specs.Rays.{ray}
-use Rattle.moves.specs.Moves.{held, inside, side, matrix, left, inconsistent, along, toTarget, room, moved, pushed}
+use Rattle.moves.specs.Moves.{inconsistent, along, toTarget, room, moved, pushed}
 use Rattle.moves.specs.declared.Blocking.{Blocking}
 use Rattle.exact_pass.specs.declared.Exact.{Exact}
-use Rattle.exact_pass.specs.declared.Exact.the-variants.{Moving, Found, Failed, Infeasible, Refused}
+use Rattle.exact_pass.specs.declared.Exact.the-variants.{Moving, Found, Failed, Infeasible}
 
 -- ---- a move: the multipliers tried and the states, and how it goes on
 
@@ -37,12 +37,12 @@ unfoldable pub release : Problem → Trial → Pass
 release p t = released p t (pushed p (t .states) (t .nu) (rows p) .row)
 
 -- the row that stopped the move, if any, is held on its bound
-abbrev pub boundAt : Problem → ℕ → ℕ → Float
-boundAt p stop a = cond (eqb stop 2) (at (p .hi) a) (at (p .lo) a)
+abbrev pub boundAt : List Float → List Float → ℕ → ℕ → Float
+boundAt lo hi stop a = cond (eqb stop 2) (at hi a) (at lo a)
 
 unfoldable pub stopped : Problem → Trial → Blocking → Pass
 stopped p t r =
-    cond (eqb (r .stop) 0) (release p t) (moving (trial (set (t .nu) (r .row) (boundAt p (r .stop) (r .row))) (set (t .states) (r .row) (r .stop))))
+    cond (eqb (r .stop) 0) (release p t) (moving (trial (set (t .nu) (r .row) (boundAt (p .lo) (p .hi) (r .stop) (r .row))) (set (t .states) (r .row) (r .stop))))
 
 -- no bound is met: the rows fight, or the pass has failed
 unfoldable pub fought : Trial → List ℕ → Pass
@@ -64,43 +64,6 @@ headedBy p t l z r y =
 unfoldable pub headed : Problem → Trial → List ℕ → List Float → List Float → Pass
 headed p t l z r = headedBy p t l z r (along l r (replicate (rows p) 0ᶠ) (length l))
 
-unfoldable pub aimed : Problem → Trial → List ℕ → List Float → List Float → Pass
-aimed p t l rhs z = headed p t l z (left (p .w) (rows p) (p .scale) l rhs z (length l))
-
--- the target is the least-norm solution of the system of the rows inside
-unfoldable pub towardBy : Problem → Trial → List ℕ → List Float → Pass
-towardBy p t l rhs = aimed p t l rhs (leastNorm (length l) (length l) (matrix (p .w) (rows p) (p .scale) l (length l)) rhs .x)
-
-unfoldable pub toward : Problem → Trial → List ℕ → Pass
-toward p t l = towardBy p t l (side (p .w) (p .free) (t .states) (t .nu) l (length l))
-
-unfoldable pub step : Problem → Trial → List ℕ → Pass
-step p t [] = release p t
-step p t (a ∷ l) = toward p t (a ∷ l)
-
-abbrev pub stuck : List ℕ → ℕ → List ℕ
-stuck st n = those (inside st) n
-
-unfoldable pub move : Problem → ℕ → Pass → Pass
-move p k (moving t) = step p t (stuck (t .states) (rows p))
-move p k (found t) = found t
-move p k (failed t) = failed t
-move p k (fighting l t) = fighting l t
-
--- ---- the pass: at most 8 moves for each row that acts, and 8
-
-unfoldable pub moves : Problem → Trial → ℕ → Pass
-moves p t k = turns k (moving t) (move p)
-
-abbrev pub limit : List ℕ → ℕ → ℕ
-limit st n = 8 * length (those (acts st) n) + 8
-
-unfoldable pub passFrom : Problem → List ℕ → List Float → Pass
-passFrom p st nu = moves p (trial (held p st nu (rows p)) st) (limit st (rows p))
-
-unfoldable pub exactPass : Problem → List ℕ → List Float → Pass
-exactPass p st nu = passFrom p (shown p nu st (rows p)) nu
-
 -- ---- what the code answers and leaves
 
 abbrev pub exactOf : Pass → Exact
@@ -114,6 +77,10 @@ trialOf (moving t) = t
 trialOf (found t) = t
 trialOf (failed t) = t
 trialOf (fighting l t) = t
+
+-- the answer where so many rows fight
+abbrev pub foughtOf : ℕ → Exact
+foughtOf k = cond (eqb k 0) Failed (Infeasible k)
 
 -- the row list: the rows that fight at its front
 abbrev pub rowsLeft : Pass → List ℕ → List ℕ
