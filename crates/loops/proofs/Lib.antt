@@ -4,4 +4,5 @@ pub mod Gather
 pub mod Index
 pub mod Exchange
 pub mod Places
+pub mod Updates
 pub mod Every
