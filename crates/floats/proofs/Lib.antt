@@ -1,2 +1,4 @@
 pub mod Infinity
+pub mod Sums
+pub mod Commute
 pub mod SquareRoot
