@@ -1,7 +1,7 @@
 // Reads and stores at any place of a list: past the end a value is NaN or 0, and a store is nothing. So the loops that use them ask for no lengths.
 ghost use mathlib.Core.Path.{_≡_};
 ghost use Prim.Native.Nat.{_+_};
-ghost use lib.ListN.{getD, set};
+ghost use lib.ListN.{length, getD, set, replicate};
 ghost use Rattle.floats.specs.Ops as ops;
 ghost use Rattle.loops.specs.Loops as loop;
 
@@ -74,6 +74,28 @@ pub fn front(l: &[usize], out: &mut [usize])
     let mut i = 0;
     while i < l.len() {
         put_number(out, i, l[i]);
+        i += 1;
+    }
+}
+
+// Every value 0.
+pub fn clear(v: &mut [f64])
+    ensures { λ r. ⌜ now (v .exit) ≡ replicate (length (now (v .entry))) ops.0ᶠ ⌝ }
+{
+    let mut i = 0;
+    while i < v.len() {
+        v[i] = 0.0;
+        i += 1;
+    }
+}
+
+// The values of a list at the front of another, as many as it holds.
+pub fn copy(from: &[f64], to: &mut [f64])
+    ensures { λ r. ⌜ now (to .exit) ≡ loop.pasted (now (from .entry)) (now (to .entry)) ⌝ }
+{
+    let mut i = 0;
+    while i < from.len() {
+        put(to, i, from[i]);
         i += 1;
     }
 }

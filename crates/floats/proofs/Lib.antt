@@ -4,6 +4,8 @@ pub mod Maximum
 pub mod Box
 pub mod Meaning
 pub mod Infinity
+pub mod Commute
+pub mod Sums
 pub mod Rounding
 pub mod Bound
 pub mod SquareRoot

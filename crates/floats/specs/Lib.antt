@@ -1,5 +1,6 @@
 pub mod Ops
 pub mod Helpers
+pub mod Sums
 pub mod Sqrt
 pub mod Nearest
 pub mod Examples

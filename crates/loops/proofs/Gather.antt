@@ -12,6 +12,7 @@ use native.Mathlib.Numerals.{add-one}
 use native.Mathlib.Nat.{add-zero, zero-add}
 use borrow.Author.Tests.{eqb-true, eqb-false}
 use Rattle.loops.specs.Loops.{turns, those, noted, counted, fronted}
+use Rattle.loops.proofs.Paste.{pasted-snoc}
 
 -- ---- a fact of each number of a list
 
@@ -111,12 +112,8 @@ getD-set l i j v d h = go (eqb j i) refl
 
 -- ---- the same by `noted` and `counted`, in the form in which `search` applies it
 
-sets-snoc : (l : List ℕ) (i : ℕ) (r : List ℕ) (a : ℕ) → set (sets l i r) (i + length r) a ≡ sets l i (r ++ (a ∷ []))
-sets-snoc l i [] a = rw add-zero
-sets-snoc l i (x ∷ r) a = let e : i + suc (length r) ≡ suc i + length r = omega arith in rw e (sets-snoc (set l i x) (suc i) r a)
-
 pub fronted-snoc : (r l : List ℕ) (a : ℕ) → set (fronted r l) (length r) a ≡ fronted (r ++ (a ∷ [])) l
-fronted-snoc r l a = rw (← zero-add (length r)) (sets-snoc l 0 r a)
+fronted-snoc r l a = pasted-snoc r l a
 
 pub record Gathering (test : ℕ → Bool) (l₀ : List ℕ) (i k : ℕ) (l : List ℕ) : Type 0 where
   pub count : k ≡ length (those test i)
@@ -160,20 +157,3 @@ module _ (test : ℕ → Bool) where
       go : (b : Bool) → test i ≡ b → k′ ≡ cond b (suc k) k → k′ ≡ length (those test (i + 1))
       go true t e = rw (add-one i, those-take test i t, e, g) (simp length-append (omega arith))
       go false t e = rw (add-one i, those-skip test i t, e) g
-
--- ---- a list copied to the front of another, and read there
-
-module _ (l l₀ : List ℕ) where
-  pub front-start : l₀ ≡ fronted (take 0 l) l₀
-  front-start = refl
-
-  pub front-again : (i : ℕ) (s t : List ℕ) → s ≡ fronted (take i l) l₀ → i < length l → t ≡ set s i (getD l i 0) → t ≡ fronted (take (i + 1) l) l₀
-  front-again i s t e h f =
-      let q : length (take i l) ≡ i = length-take-le i l (omega arith) in
-      rw (add-one i, take-suc l i 0 h, f, e, ← fronted-snoc (take i l) l₀ (getD l i 0), q)
-
-  pub front-done : (i : ℕ) (s : List ℕ) → s ≡ fronted (take i l) l₀ → length l ≤ i → s ≡ fronted l l₀
-  front-done i s e h = e ∙ rw (take-all i l h)
-
-  pub front-read : (k : ℕ) → k ≡ length l → length l ≤ length l₀ → take k (fronted l l₀) ≡ l
-  front-read k e h = rw (e, sets-eq l l₀ 0 (omega arith)) (take-at l _ (length l) refl)

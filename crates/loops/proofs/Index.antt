@@ -10,6 +10,10 @@ use lib.Seq.{ext-getD}
 pub place : (m n i j : ℕ) → i < m → j < n → i * n + j < m * n
 place m n i j hi hj = omega (arith, mul-le-mul-right n hi, suc-mul i n)
 
+-- where a row ends, no place is past the last row's
+pub row-end : (m n i : ℕ) → i < m → i * n + n ≤ m * n
+row-end m n i h = omega (arith, mul-le-mul-right n h, suc-mul i n)
+
 -- few rows and columns make few places
 pub product : (m n : ℕ) → m ≤ 32 → n ≤ 32 → m * n ≤ 1024
 product m n h k = omega (arith, mul-le-mul h k)

@@ -4,4 +4,6 @@ pub mod Gather
 pub mod Index
 pub mod Exchange
 pub mod Places
+pub mod Updates
 pub mod Every
+pub mod Paste

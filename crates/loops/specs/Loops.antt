@@ -42,6 +42,9 @@ noted b l k i = cond b (set l k i) l
 unfoldable pub counted : Bool → ℕ → ℕ
 counted b k = cond b (suc k) k
 
--- the list l with the numbers r at its front; where it is too short for them, with those that it holds
+-- the list l with r at its front; where it is too short for that, with as much of it as it holds
+abbrev pub pasted : {A : Type 0} → List A → List A → List A
+pasted r l = sets l 0 r
+
 abbrev pub fronted : List ℕ → List ℕ → List ℕ
-fronted r l = sets l 0 r
+fronted r l = pasted r l

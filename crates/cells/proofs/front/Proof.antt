@@ -1,4 +1,4 @@
-use Rattle.loops.proofs.Gather.{front-start, front-again, front-done}
+use Rattle.loops.proofs.Paste.{front-start, front-again, front-done}
 use Rattle.loops.specs.Loops.{fronted}
 use lib.ListN.{length, take}
 use mathlib.Core.Path.{_≡_}
@@ -43,7 +43,7 @@ loop-less c = search needs
 
 -- src/lib.rt:75:5
 loop-again : tie.Need-loop-again Inv-loop μ-loop
-loop-again c = search (front-again, needs)
+loop-again c = (search needs, search needs, front-again _ _ (c .before .before .before .before .before .before .loop .i) 0 (c .before .before .before .before .before .before .loop .out) _ (c .before .before .before .before .before .before .loop .inv .2) (c .before .before .before .before .before .loop-test .taken) (c .before .before .put-number .ensures))
 
 -- src/lib.rt:71:1
 same-length : tie.Need-same-length Inv-loop μ-loop
@@ -51,7 +51,7 @@ same-length c = search needs
 
 -- src/lib.rt:71:1
 returns : tie.Need-returns Inv-loop μ-loop
-returns c = search (front-done, needs)
+returns c = front-done _ _ (c .before .loop .i) (c .before .loop .out) (c .before .loop .inv .2) (c .loop-test .left)
 
 pub front-spec : {M : Type 1} → statement M
 front-spec =

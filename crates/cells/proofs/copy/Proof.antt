@@ -1,0 +1,71 @@
+use Rattle.loops.proofs.Paste.{front-start, front-again, front-done}
+use Rattle.loops.specs.Loops.{pasted}
+use lib.Ieee.{nan}
+use lib.ListN.{length, take}
+use mathlib.Core.Path.{_≡_}
+use Prim.Native.Nat.{_≤_, _-_}
+use borrow.Author.Needs.{needs}
+use native.Mathlib.Omega.{arith}
+use Rattle.cells.proofs.copy.Statement.{statement}
+use Rattle.cells.proofs.copy.Tie as tie
+use Rattle.cells.proofs.copy.Reads as reads
+use Rattle.cells.proofs.copy.Lts as lts
+use Rattle.cells.proofs.put.Reads as put-reads
+
+abbrev Inv-loop : tie.InvT-loop
+Inv-loop from to₀ i₀ to i = (i ≤ length from) × (length to ≡ length to₀) × (to ≡ pasted (take i from) to₀)
+
+abbrev μ-loop : tie.MeasureT-loop
+μ-loop from to₀ i₀ to i = length from - i
+
+-- src/lib.rt:97:5
+loop-holds : tie.Need-loop-holds Inv-loop μ-loop
+loop-holds c = search (front-start, needs)
+
+-- src/lib.rt:98:20
+mul-put : tie.Need-mul-put Inv-loop μ-loop
+mul-put c = search needs
+
+-- src/lib.rt:98:20
+shared-slice-read-put : tie.Need-shared-slice-read-put Inv-loop μ-loop
+shared-slice-read-put c = search needs
+
+-- src/lib.rt:98:9
+put-requires : tie.Need-put-requires Inv-loop μ-loop
+put-requires c κs = search needs
+
+-- src/lib.rt:99:9
+add-i : tie.Need-add-i Inv-loop μ-loop
+add-i c = search needs
+
+-- src/lib.rt:97:5
+loop-less : tie.Need-loop-less Inv-loop μ-loop
+loop-less c = search needs
+
+-- src/lib.rt:97:5
+loop-again : tie.Need-loop-again Inv-loop μ-loop
+loop-again c = (search needs, search needs, front-again _ _ (c .before .before .before .before .before .before .loop .i) nan (c .before .before .before .before .before .before .loop .to) _ (c .before .before .before .before .before .before .loop .inv .2) (c .before .before .before .before .before .loop-test .taken) (c .before .before .put .ensures))
+
+-- src/lib.rt:93:1
+same-length : tie.Need-same-length Inv-loop μ-loop
+same-length c = search needs
+
+-- src/lib.rt:93:1
+returns : tie.Need-returns Inv-loop μ-loop
+returns c = front-done _ _ (c .before .loop .i) (c .before .loop .to) (c .before .loop .inv .2) (c .loop-test .left)
+
+pub copy-spec : {M : Type 1} → statement M
+copy-spec =
+    tie.close
+    (tie.spec
+    Inv-loop
+    μ-loop
+    loop-holds
+    mul-put
+    shared-slice-read-put
+    put-requires
+    add-i
+    loop-less
+    loop-again
+    same-length
+    returns)

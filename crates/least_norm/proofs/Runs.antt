@@ -1,0 +1,309 @@
+-- Straight-line runs: what the calls of a function leave, put together, is its definition. The last call comes first.
+use Prim.Native.Nat.{ℕ, zero, suc, _+_, _-_, _*_, _≤_, _<_, min}
+use mathlib.Core.Path.{_≡_, refl, sym, _∙_, ap}
+use mathlib.Core.Bool.{Bool, true, false, cond}
+use mathlib.Core.List.{List, _++_}
+use native.Mathlib.Omega.{arith}
+use native.Mathlib.Nat.{add-zero, zero-add, not-suc-le-zero}
+use native.Mathlib.Numerals.{add-one}
+use borrow.Author.Tests.{eq-eqb, ne-eqb, lt-ltb, le-ltb, lt-leb, le-leb}
+use lib.ListN.{length, getD, set, replicate, take, drop}
+use lib.Seq.{length-take-le, drop-append-add, drop-drop, getD-set-same, getD-set-other}
+use lib.Ieee.{Float, nan, binary64, add, sub, lt, eq}
+use Rattle.loops.specs.Loops.{between, swap, tab, turns}
+use Rattle.loops.specs.Updates.{updated}
+use Rattle.loops.proofs.Turns.{between-join, between-shift, between-more, between-done, turns-from, downward-from, stays}
+use Rattle.loops.proofs.Updates.{between-ext, updated-here, updated-long}
+use Rattle.floats.specs.Ops.{_⊕_, _⊖_, _⊗_, _⊘_, at, 0ᶠ, 2ᶠ, 1e-11}
+use Rattle.floats.specs.Helpers.{abs}
+use Rattle.floats.specs.Sums.{gathered, sum, difference}
+use Rattle.floats.proofs.Sums.{gathered-ext}
+use Rattle.least_norm.specs.declared.Pivot.{Pivot}
+use Rattle.least_norm.specs.declared.Scan.{Scan}
+use Rattle.least_norm.specs.declared.Householder.{Householder}
+use Rattle.least_norm.specs.declared.Outcome.the-variants.{Rank, Refused}
+use Rattle.least_norm.specs.Reflector as H
+use Rattle.least_norm.specs.LeastNorm as def
+use Rattle.least_norm.specs.Promise as promise
+use Rattle.least_norm.specs.Blocks.{squares}
+use Rattle.least_norm.proofs.Blocks.{norms-are}
+
+-- ---- a reflector on other places and entries that are the same
+
+module _ (first : ℕ) (π ρ : ℕ → ℕ) (v0 : Float) (v w : ℕ → Float) (vtv : Float) (lo hi : ℕ) (z : List Float) (some : lo ≤ hi) (places : (t : ℕ) → lo ≤ t → t < hi → π t ≡ ρ t) (entries : (t : ℕ) → lo ≤ t → t < hi → v t ≡ w t) where
+  factor-ext : H.factor first π v0 v vtv lo hi z ≡ H.factor first ρ v0 w vtv lo hi z
+  unfolding H.factor
+  factor-ext = ap (λ (x : Float). 2ᶠ ⊗ x ⊘ vtv) (gathered-ext (add binary64) (v0 ⊗ at z first) _ lo _ hi some λ t l u. rw (places t l u, entries t l u))
+
+  pub reflect-ext : H.reflect first π v0 v vtv lo hi z ≡ H.reflect first ρ v0 w vtv lo hi z
+  unfolding H.reflect H.less updated
+  reflect-ext = rw factor-ext (between-ext _ _ _ lo hi some λ t x l u. rw (places t l u, entries t l u))
+
+-- ---- the pivot
+
+zeros : (k t : ℕ) → t < k → at (replicate k 0ᶠ) t ≡ 0ᶠ
+zeros zero t h = absurd (not-suc-le-zero h)
+zeros (suc k) zero h = refl
+zeros (suc k) (suc t) h = zeros k t (omega arith)
+
+pub column-norm-run : (a : List Float) (n j m c : ℕ) (s : List Float) → s ≡ squares a n c 1 (replicate 8 0ᶠ) j m → j ≤ m → at s 0 ≡ def.norm2 a n c j m
+column-norm-run a n j m c s e h = rw e (rw (add-zero c) at (norms-are a n j m c 1 (replicate 8 0ᶠ) (omega arith) h 0 (omega arith) refl))
+
+pub pick-block-run : (a : List Float) (m n j c k : ℕ) (best r : Pivot) (s : List Float) → r ≡ between 0 k best (λ (t : ℕ) (p : Pivot). def.picked (c + t) (at s t) p) → s ≡ squares a n c k (replicate 8 0ᶠ) j m → k ≤ 8 → j ≤ m → r ≡ between c (c + k) best (def.better a m n j)
+unfolding def.better
+pick-block-run a m n j c k best r s e f g h =
+    e ∙ rw f (between-ext best _ _ 0 k (omega arith) λ t p l u. rw (norms-are a n j m c k (replicate 8 0ᶠ) g h t u (zeros 8 t (omega arith)))) ∙ sym (between-shift best _ c k)
+
+pub find-run : (a : List Float) (m n j : ℕ) (norm : Float) (e f g : Scan) → promise.Scanned a m n j (f .next) 1 (f .best) g → promise.Scanned a m n j (e .next) 4 (e .best) f → promise.Scanned a m n j (j + 1) 8 (record { col = j; norm = norm }) e → norm ≡ def.norm2 a n j j m →
+    (g .best ≡ def.pivot a m n j) × (g .best .col < n)
+unfolding def.pivot
+find-run a m n j norm e f g sg sf se en =
+    let q : g .next ≡ n = omega (arith, sg .to, sg .few) in
+    let x : e .best ≡ between (suc j) (e .next) (record { col = j; norm = def.norm2 a n j j m }) (def.better a m n j) = rw (add-one, en) at (se .pivot) in
+    let l : suc j ≤ e .next = omega (arith, se .from) in
+    let y : f .best ≡ between (suc j) (f .next) (record { col = j; norm = def.norm2 a n j j m }) (def.better a m n j) = between-more _ _ (suc j) (e .next) (f .next) (e .best) (f .best) (sf .pivot) x l (sf .from) in
+    let z : g .best ≡ between (suc j) (g .next) (record { col = j; norm = def.norm2 a n j j m }) (def.better a m n j) = between-more _ _ (suc j) (f .next) (g .next) (f .best) (g .best) (sg .pivot) y (omega (arith, sf .from)) (sg .from) in
+    (rw q at z, omega (arith, sg .before))
+
+pub brought-still : (m n j c : ℕ) (a b : List Float) (p : List ℕ) → c ≡ j → def.factors a b p ≡ def.brought m n j c (def.factors a b p)
+unfolding def.brought
+brought-still m n j c a b p e = rw (eq-eqb c j e)
+
+pub brought-run : (m n j c : ℕ) (a b : List Float) (p : List ℕ) (a1 : List Float) (p1 : List ℕ) → p1 ≡ swap 0 p j c → a1 ≡ def.swapColumns n j c a m → (c ≡ j → ⊥) → def.factors a1 b p1 ≡ def.brought m n j c (def.factors a b p)
+unfolding def.brought
+brought-run m n j c a b p a1 p1 ep ea e = rw (ne-eqb c j e, ep, ea)
+
+-- ---- a column's reflector
+
+module _ (a : List Float) (m n j : ℕ) (v v1 : List Float) (sigma beta : Float) (copied : v1 ≡ updated nan (λ (row : ℕ). row) (λ (row : ℕ) (x : Float). at a (row * n + j)) j m v) (room : m ≤ length v) (low : j < m) (sums : sigma ≡ sum 0ᶠ (λ (t : ℕ). at v1 (0 + t) ⊗ at v1 (0 + t)) (j + 1) m) (signed : beta ≡ H.beta (at v1 j) sigma) where
+  entry : (row : ℕ) → j ≤ row → row < m → at v1 row ≡ at a (row * n + j)
+  entry row l u = rw copied (updated-here nan (λ row. row) (λ row x. at a (row * n + j)) j v (λ t w h e. omega arith) m row l u (omega arith))
+
+  long : length v1 ≡ length v
+  long = rw copied (updated-long nan (λ row. row) (λ row x. at a (row * n + j)) j v m (omega arith))
+
+  sigma-is : sigma ≡ def.norm2 a n j (suc j) m
+  unfolding def.norm2
+  sigma-is = sums ∙ rw add-one (gathered-ext (add binary64) 0ᶠ _ (suc j) _ m low λ t l u. rw (zero-add t, entry t (omega arith) u))
+
+  parts : record { beta = beta; v0 = at v1 j ⊖ beta; vtv = (at v1 j ⊖ beta) ⊗ (at v1 j ⊖ beta) ⊕ sigma } ≡ def.householder a m n j
+  unfolding def.householder
+  parts = rw (signed, sigma-is, entry j (omega arith) low)
+
+  pub householder-run : promise.Reflects a m n j (record { beta = beta; v0 = at v1 j ⊖ beta; vtv = (at v1 j ⊖ beta) ⊗ (at v1 j ⊖ beta) ⊕ sigma }) (set v1 j (at v1 j ⊖ beta))
+  householder-run =
+      record {
+        parts = parts;
+        first = getD-set-same v1 j (at v1 j ⊖ beta) nan (omega (arith, long));
+        below = λ row l u. getD-set-other v1 j row (at v1 j ⊖ beta) nan (λ e. omega arith) ∙ entry row (omega arith) u;
+      }
+
+pub columns-run : (n j c d r : ℕ) (f : ℕ → List Float → List Float) (a a1 a2 a3 : List Float) → a3 ≡ between d r a2 f → a2 ≡ between c d a1 f → a1 ≡ between (j + 1) c a f → j + 1 ≤ c → c ≤ d → d ≤ r → r ≤ n → n < r + 1 → a3 ≡ between (suc j) n a f
+columns-run n j c d r f a a1 a2 a3 e3 e2 e1 h1 h2 h3 h4 h5 =
+    let q : r ≡ n = omega arith in
+    let x : a1 ≡ between (suc j) c a f = rw add-one at e1 in
+    let y : a2 ≡ between (suc j) d a f = between-more a f (suc j) c d a1 a2 e2 x (omega arith) h2 in
+    rw q at (between-more a f (suc j) d r a2 a3 e3 y (omega arith) h3)
+
+module _ (m n j : ℕ) (a b v : List Float) (h : Householder) (refl-of : promise.Reflects a m n j h v) (low : j < m) (small : j < n) where
+  columns-same : between (suc j) n a (def.reflectColumn m n j (at v j) (λ row. at v row) (h .vtv)) ≡ between (suc j) n a (def.reflectColumn m n j (h .v0) (λ row. at a (row * n + j)) (h .vtv))
+  unfolding def.reflectColumn
+  columns-same =
+      between-ext a _ _ (suc j) n small λ c x l u.
+      rw (refl-of .first) (reflect-ext (j * n + c) (λ row. row * n + c) (λ row. row * n + c) (h .v0) (λ row. at v row) (λ row. at a (row * n + j)) (h .vtv) (suc j) m x low (λ t l u. refl) (refl-of .below))
+
+  side-same : H.reflect j (λ (t : ℕ). 0 + t) (h .v0) (λ (t : ℕ). at v (0 + t)) (h .vtv) (suc j) m b ≡ H.reflect j (λ row. row) (h .v0) (λ row. at a (row * n + j)) (h .vtv) (suc j) m b
+  side-same = reflect-ext j (λ t. 0 + t) (λ row. row) (h .v0) (λ t. at v (0 + t)) (λ row. at a (row * n + j)) (h .vtv) (suc j) m b low (λ t l u. zero-add t) (λ t l u. rw (zero-add t) (refl-of .below t l u))
+
+  pub eliminated-run : (p : List ℕ) (a1 a2 a3 b1 : List Float) → a3 ≡ def.zeroBelow n j a2 m → a2 ≡ set a1 (j * n + j) (h .beta) → b1 ≡ H.reflect j (λ (t : ℕ). 0 + t) (h .v0) (λ (t : ℕ). at v (0 + t)) (h .vtv) (j + 1) m b →
+      a1 ≡ between (suc j) n a (def.reflectColumn m n j (at v j) (λ row. at v row) (h .vtv)) → def.factors a3 b1 p ≡ def.eliminated m n j (def.factors a b p)
+  unfolding def.eliminated
+  eliminated-run p a1 a2 a3 b1 e3 e2 eb e1 =
+      let x : b1 ≡ H.reflect j (λ (t : ℕ). 0 + t) (h .v0) (λ (t : ℕ). at v (0 + t)) (h .vtv) (suc j) m b = rw add-one at eb in
+      rw (e3, e2, x, e1, columns-same, side-same, refl-of .parts)
+
+pub reduce-run : (m n j : ℕ) (a b : List Float) (p : List ℕ) (a2 b1 a1 : List Float) (p1 : List ℕ) (q : Pivot) →
+    ((r : List ℕ) → def.factors a2 b1 r ≡ def.eliminated m n j (def.factors a1 b r)) → ((b : List Float) → def.factors a1 b p1 ≡ def.brought m n j (q .col) (def.factors a b p)) → eq (q .norm) 0ᶠ ≡ false → q ≡ def.pivot a m n j →
+    promise.standing true j (def.factors a2 b1 p1) ≡ def.reduce m n j (def.going (def.factors a b p))
+unfolding def.reduce
+reduce-run m n j a b p a2 b1 a1 p1 q er eb et eq0 = let t : eq (def.pivot a m n j .norm) 0ᶠ ≡ false = rw (← eq0) et in rw (er p1, eb b, t, ← eq0)
+
+pub reduce-ended : (m n j : ℕ) (a b : List Float) (p : List ℕ) (a1 : List Float) (p1 : List ℕ) (q : Pivot) →
+    ((b : List Float) → def.factors a1 b p1 ≡ def.brought m n j (q .col) (def.factors a b p)) → eq (q .norm) 0ᶠ ≡ true → q ≡ def.pivot a m n j →
+    promise.standing false j (def.factors a1 b p1) ≡ def.reduce m n j (def.going (def.factors a b p))
+unfolding def.reduce
+reduce-ended m n j a b p a1 p1 q eb et eq0 = let t : eq (def.pivot a m n j .norm) 0ᶠ ≡ true = rw (← eq0) et in rw (eb b, t, ← eq0)
+
+-- ---- the columns' loop
+
+pub reduced-from : (m n : ℕ) (a b : List Float) (p : List ℕ) → p ≡ tab (λ (i : ℕ). i) n → def.going (def.factors a b p) ≡ def.reduced m n a b 0
+unfolding def.reduced
+reduced-from m n a b p e = rw e (turns-from _ _)
+
+module _ (m n : ℕ) (a b : List Float) (j : ℕ) (s t : def.Factors) (r : Bool) (work : promise.standing r j t ≡ def.reduce m n j (def.going s)) (so-far : def.going s ≡ def.reduced m n a b j) where
+  next : promise.standing r j t ≡ def.reduced m n a b (suc j)
+  unfolding def.reduced turns
+  next = work ∙ ap (def.reduce m n j) so-far
+
+  pub reduced-again : r ≡ true → def.going t ≡ def.reduced m n a b (j + 1)
+  reduced-again h = let g : promise.standing true j t ≡ def.reduced m n a b (suc j) = rw h at next in rw add-one g
+
+  pub reduced-ended : (k : ℕ) → r ≡ false → j < k → promise.Stopped k (def.reduced m n a b k) j t
+  unfolding def.reduced def.reduce
+  reduced-ended k h l =
+      let g : promise.standing false j t ≡ def.reduced m n a b (suc j) = rw h at next in
+      let i : def.reduced m n a b k ≡ def.ended j t = stays (def.reduce m n) (def.going (def.factors a b (tab (λ (i : ℕ). i) n))) (def.ended j t) (suc j) (sym g) (λ i b. refl) k l in
+      rw i (record { columns = refl; most = omega arith; factors = refl })
+
+pub reduced-done : (m n : ℕ) (a b : List Float) (j k : ℕ) (s : def.Factors) → def.going s ≡ def.reduced m n a b j → j ≤ k → k ≤ j → promise.Stopped k (def.reduced m n a b k) k s
+reduced-done m n a b j k s e g h =
+    let q : j ≡ k = omega arith in
+    let f : def.going s ≡ def.reduced m n a b k = rw q at e in
+    rw (← f) (record { columns = refl; most = omega arith; factors = refl })
+
+-- ---- the rank
+
+pub leads-run : (n : ℕ) (a : List Float) (i : ℕ) (x y v w : Float) → x ≡ abs v → y ≡ abs w → v ≡ at a (0 * n + 0) → w ≡ at a (i * n + i) → lt (1e-11 ⊗ x) y ≡ def.leads n a i
+unfolding def.leads
+leads-run n a i x y v w ex ey ev ew = let q : 0 * n + 0 ≡ 0 = omega arith in rw (ex, ey, ev, ew, q)
+
+module _ (n : ℕ) (a : List Float) (i r : ℕ) where
+  pub counted-up : (l : Bool) → l ≡ def.leads n a i → l ≡ true → r ≡ i → r + 1 ≡ def.counted n a i r
+  unfolding def.counted
+  counted-up l e t q = let u : def.leads n a i ≡ true = sym e ∙ t in rw (eq-eqb r i q, u) (add-one r)
+
+  pub counted-same : (l : Bool) → l ≡ def.leads n a i → l ≡ false → r ≡ i → r ≡ def.counted n a i r
+  unfolding def.counted
+  counted-same l e t q = let u : def.leads n a i ≡ false = sym e ∙ t in rw (eq-eqb r i q, u)
+
+  pub counted-before : (r ≡ i → ⊥) → r ≡ def.counted n a i r
+  unfolding def.counted
+  counted-before q = rw (ne-eqb r i q)
+
+-- ---- the trapezoid: p is where row i starts
+
+module _ (n rank i : ℕ) (p : ℕ) (start : p ≡ i * n + 0) where
+  row : p ≡ i * n
+  row = omega arith
+
+  pub row-norm-run : (a : List Float) (s r : Float) → r ≡ sum s (λ (t : ℕ). at a (p + t) ⊗ at a (p + t)) rank n → r ≡ def.rowNorm2 n rank i a s
+  unfolding def.rowNorm2
+  row-norm-run a s r e = rw row at e
+
+  pub kept-run : (q : ℕ) (a right right1 : List Float) → right1 ≡ updated nan (λ (t : ℕ). q + t) (λ (t : ℕ) (v : Float). at a (p + t)) rank n right → q ≡ i * n + 0 → right1 ≡ def.keptRow n rank i a right
+  unfolding def.keptRow
+  kept-run q a right right1 e f = let g : q ≡ i * n = omega arith in rw (row, g) at e
+
+  pub known-run : (a b y : List Float) (r : Float) → r ≡ difference (at b i) (λ (t : ℕ). at a (p + t) ⊗ at y (0 + t)) (i + 1) rank → i < rank → r ≡ def.known n rank a b y i
+  unfolding def.known
+  known-run a b y r e h = e ∙ rw (add-one, row) (gathered-ext (sub binary64) (at b i) _ (suc i) _ rank h λ t l u. rw (zero-add t))
+
+  pub reflect-row-run : (right : List Float) (u0 utu : Float) (k q first : ℕ) (a a1 : List Float) → a1 ≡ H.reflect first (λ (t : ℕ). q + t) u0 (λ (t : ℕ). at right (p + t)) utu rank n a → q ≡ k * n + 0 → first ≡ k * n + i → a1 ≡ def.reflectRow n rank i right u0 utu k a
+  unfolding def.reflectRow
+  reflect-row-run right u0 utu k q first a a1 e f g = let h : q ≡ k * n = omega arith in rw (row, h, g) at e
+
+  pub turn-run : (right y y1 : List Float) (u0 utu : Float) → y1 ≡ H.reflect i (λ (t : ℕ). 0 + t) u0 (λ (t : ℕ). at right (p + t)) utu rank n y → eq utu 0ᶠ ≡ false → utu ≡ def.rowNorm2 n rank i right (u0 ⊗ u0) → u0 ≡ at right (i * n + i) → rank ≤ n → y1 ≡ def.turn n rank right i y
+  unfolding def.turn
+  turn-run right y y1 u0 utu e h d u l =
+      let q : eq (def.rowNorm2 n rank i right (at right (i * n + i) ⊗ at right (i * n + i))) 0ᶠ ≡ false = rw (← u, ← d) h in
+      e ∙ rw (row, q, ← u, ← d) (reflect-ext i (λ t. 0 + t) (λ t. t) u0 (λ t. at right (i * n + t)) (λ t. at right (i * n + t)) utu rank n y l (λ t l u. zero-add t) (λ t l u. refl))
+
+pub turn-still : (n rank : ℕ) (right : List Float) (i : ℕ) (y : List Float) (utu u0 : Float) → eq utu 0ᶠ ≡ true → utu ≡ def.rowNorm2 n rank i right (u0 ⊗ u0) → u0 ≡ at right (i * n + i) → y ≡ def.turn n rank right i y
+unfolding def.turn
+turn-still n rank right i y utu u0 h d u = let q : eq (def.rowNorm2 n rank i right (at right (i * n + i) ⊗ at right (i * n + i))) 0ᶠ ≡ true = rw (← u, ← d) h in rw q
+
+module _ (n rank i : ℕ) (a right : List Float) (alpha sigma : Float) (sums : sigma ≡ def.rowNorm2 n rank i a 0ᶠ) where
+  pub clear-still : eq sigma 0ᶠ ≡ true → def.trapezoid a right ≡ def.clear n rank i (def.trapezoid a right)
+  unfolding def.clear
+  clear-still h = let q : eq (def.rowNorm2 n rank i a 0ᶠ) 0ᶠ ≡ true = rw (← sums) h in rw q
+
+  pub clear-run : (a1 u u1 : List Float) (g : Float) → a1 ≡ def.reflectRows n rank i u (alpha ⊖ g) ((alpha ⊖ g) ⊗ (alpha ⊖ g) ⊕ sigma) a (suc i) → u ≡ def.keptRow n rank i a u1 → u1 ≡ set right (i * n + i) (alpha ⊖ g) → g ≡ H.beta alpha sigma →
+      eq sigma 0ᶠ ≡ false → alpha ≡ at a (i * n + i) → def.trapezoid a1 u ≡ def.clear n rank i (def.trapezoid a right)
+  unfolding def.clear
+  clear-run a1 u u1 g ea eu e1 eg h el = let q : eq (def.rowNorm2 n rank i a 0ᶠ) 0ᶠ ≡ false = rw (← sums) h in rw (q, ea, eu, e1, eg, sums, el)
+
+pub cleared-some : (n rank : ℕ) (a : List Float) (t : def.Trapezoid) → t ≡ def.cleared n rank a 0 → rank < n → t ≡ def.cleared n rank a (def.lastCleared n rank)
+unfolding def.lastCleared
+cleared-some n rank a t e h = rw (lt-ltb rank n h) e
+
+pub cleared-none : (n rank : ℕ) (a right : List Float) (k : ℕ) → right ≡ replicate k 0ᶠ → k ≡ rank * n → n ≤ rank → def.trapezoid a right ≡ def.cleared n rank a (def.lastCleared n rank)
+unfolding def.lastCleared def.cleared
+cleared-none n rank a right k e q h = rw (le-ltb rank n h, e, q) (downward-from _ _ rank)
+
+-- ---- the solution
+
+pub turned-some : (n rank : ℕ) (right y z : List Float) → z ≡ def.turned n rank right y rank → rank < n → z ≡ def.turned n rank right y (def.firstTurned n rank)
+unfolding def.firstTurned
+turned-some n rank right y z e h = rw (lt-ltb rank n h) e
+
+pub turned-none : (n rank : ℕ) (right y : List Float) → n ≤ rank → y ≡ def.turned n rank right y (def.firstTurned n rank)
+unfolding def.firstTurned def.turned
+turned-none n rank right y h = rw (le-ltb rank n h) (turns-from _ _)
+
+pub replicate-at : (s : List Float) (v : Float) (k l : ℕ) → s ≡ replicate k v → k ≡ l → s ≡ replicate l v
+replicate-at s v k l e q = rw (← q) e
+
+pub tab-at : (s : List ℕ) (k l : ℕ) → s ≡ tab (λ (i : ℕ). i) k → k ≡ l → s ≡ tab (λ (i : ℕ). i) l
+tab-at s k l e q = rw (← q) e
+
+pub solved-run : (n rank : ℕ) (a b : List Float) (perm : List ℕ) (x z y u a1 : List Float) →
+    x ≡ def.unpermuted (length perm) perm z (length perm) → length perm ≡ n → z ≡ def.turned n rank u y (def.firstTurned n rank) → y ≡ def.substituted n rank a1 b 0 → def.trapezoid a1 u ≡ def.cleared n rank a (def.lastCleared n rank) → 0 < rank →
+    def.solution rank a1 b x ≡ def.solved n (def.factors a b perm) rank
+unfolding def.solved
+solved-run n zero a b perm x z y u a1 ex q ez ey et h = absurd (not-suc-le-zero h)
+solved-run n (suc r) a b perm x z y u a1 ex q ez ey et h = rw (← et, ex, q, ez, ey)
+
+pub solved-none : (n rank : ℕ) (a b : List Float) (perm : List ℕ) (x : List Float) → rank ≡ 0 → x ≡ replicate n 0ᶠ → def.solution rank a b x ≡ def.solved n (def.factors a b perm) rank
+unfolding def.solved
+solved-none n rank a b perm x e ex = rw (e, ex)
+
+-- the front of a list changed, what lies past it is as it was
+pub past-front : (w v : List Float) (k l : ℕ) → length v ≡ length (take k w) → k ≤ length w → k ≤ l → drop l (v ++ drop k w) ≡ drop l w
+past-front w v k l e h g =
+    let p : length v ≡ k = e ∙ length-take-le k w h in
+    let q : l ≡ length v + (l - k) = omega arith in
+    let r : l ≡ k + (l - k) = omega arith in
+    ap (λ (x : ℕ). drop x (v ++ drop k w)) q ∙ drop-append-add v (drop k w) (l - k) ∙ drop-drop (l - k) k w ∙ ap (λ (x : ℕ). drop x w) (sym r)
+
+pub least-run : (m n : ℕ) (a b : List Float) (k c rank : ℕ) (s : def.Factors) (x a2 : List Float) →
+    def.solution rank a2 (s .b) x ≡ def.solved n s rank → rank ≡ def.leading n (s .a) c → promise.Stopped k (def.reduced m n a b k) c s → k ≡ min m n → def.solution rank a2 (s .b) x ≡ def.leastNorm m n a b
+unfolding def.leastNorm def.ranked
+least-run m n a b k c rank s x a2 ea er es ek = rw (← ek, ← es .factors, ← es .columns, ← er) ea
+
+-- ---- the public call
+
+module _ (m n : ℕ) (a b x : List Float) (room : ℕ) where
+  pub wrong-m : 32 < m → promise.reply m n a b x room ≡ promise.refused 12
+  unfolding promise.reply
+  wrong-m h = rw (lt-leb m 32 h)
+
+  pub wrong-n : m ≤ 32 → 32 < n → promise.reply m n a b x room ≡ promise.refused 12
+  unfolding promise.reply
+  wrong-n g h = rw (le-leb m 32 g, lt-leb n 32 h)
+
+  pub wrong-a : m ≤ 32 → n ≤ 32 → (length a ≡ m * n → ⊥) → promise.reply m n a b x room ≡ promise.refused 12
+  unfolding promise.reply
+  wrong-a g h e = rw (le-leb m 32 g, le-leb n 32 h, ne-eqb (length a) (m * n) e)
+
+  pub wrong-b : m ≤ 32 → n ≤ 32 → length a ≡ m * n → (length b ≡ m → ⊥) → promise.reply m n a b x room ≡ promise.refused 12
+  unfolding promise.reply
+  wrong-b g h e f = rw (le-leb m 32 g, le-leb n 32 h, eq-eqb (length a) (m * n) e, ne-eqb (length b) m f)
+
+  pub wrong-x : m ≤ 32 → n ≤ 32 → length a ≡ m * n → length b ≡ m → (length x ≡ n → ⊥) → promise.reply m n a b x room ≡ promise.refused 12
+  unfolding promise.reply
+  wrong-x g h e f k = rw (le-leb m 32 g, le-leb n 32 h, eq-eqb (length a) (m * n) e, eq-eqb (length b) m f, ne-eqb (length x) n k)
+
+  pub wrong-room : m ≤ 32 → n ≤ 32 → length a ≡ m * n → length b ≡ m → length x ≡ n → room < 1056 → promise.reply m n a b x room ≡ promise.refused 12
+  unfolding promise.reply
+  wrong-room g h e f k l = rw (le-leb m 32 g, le-leb n 32 h, eq-eqb (length a) (m * n) e, eq-eqb (length b) m f, eq-eqb (length x) n k, lt-leb 1056 room l)
+
+  right-sizes : m ≤ 32 → n ≤ 32 → length a ≡ m * n → length b ≡ m → length x ≡ n → 1056 ≤ room → promise.reply m n a b x room ≡ promise.answered (def.leastNorm m n a b)
+  unfolding promise.reply
+  right-sizes g h e f k l = rw (le-leb m 32 g, le-leb n 32 h, eq-eqb (length a) (m * n) e, eq-eqb (length b) m f, eq-eqb (length x) n k, le-leb 1056 room l)
+
+  pub refuse : (w : List Float) → promise.reply m n a b x room ≡ promise.refused 12 → promise.Replied (promise.reply m n a b x room) Refused a a b b x x w w
+  refuse w e = rw e (record { number-is = refl; rank-is = refl; rank-small = omega arith; a-left = refl; b-left = refl; x-left = refl; workspace-left = refl })
+
+  pub answer : (rank : ℕ) (a1 b1 x1 w w1 : List Float) → def.solution rank a1 b1 x1 ≡ def.leastNorm m n a b → drop 1056 w1 ≡ drop 1056 w → rank ≤ 32 → m ≤ 32 → n ≤ 32 → length a ≡ m * n → length b ≡ m → length x ≡ n → 1056 ≤ room →
+      promise.Replied (promise.reply m n a b x room) (Rank rank) a a1 b b1 x x1 w w1
+  answer rank a1 b1 x1 w w1 ea ew er g h e f k l = rw (right-sizes g h e f k l, ← ea) (record { number-is = refl; rank-is = refl; rank-small = er; a-left = refl; b-left = refl; x-left = refl; workspace-left = ew })

@@ -1,0 +1,62 @@
+-- `least_norm::columns::add_products` meets its contract. Assumes nothing.
+use Prim.Native.Nat.{_-_, _≤_}
+use borrow.Author.Needs.{needs}
+use lib.ListN.{length}
+use mathlib.Core.Path.{_≡_}
+use Rattle.least_norm.proofs.Steps.{products-start, products-again, products-done}
+use Rattle.least_norm.specs.Blocks.{products}
+use Rattle.least_norm.proofs.columns.add_products.Statement.{statement}
+use Rattle.least_norm.proofs.columns.add_products.Tie as tie
+
+abbrev Inv-loop : tie.InvT-loop
+Inv-loop a m n from c k v s₀ row₀ s row = (from ≤ row) × (row ≤ m) × (length s ≡ length s₀) × (s ≡ products a n c k v s₀ from row)
+
+abbrev μ-loop : tie.MeasureT-loop
+μ-loop a m n from c k v s₀ row₀ s row = m - row
+
+loop-holds : tie.Need-loop-holds Inv-loop μ-loop
+loop-holds c = search (products-start, needs)
+
+place-requires : tie.Need-place-requires Inv-loop μ-loop
+place-requires c κs = search needs
+
+mul-add-scaled : tie.Need-mul-add-scaled Inv-loop μ-loop
+mul-add-scaled c = search needs
+
+shared-slice-read-add-scaled : tie.Need-shared-slice-read-add-scaled Inv-loop μ-loop
+shared-slice-read-add-scaled c = search needs
+
+add-scaled-requires : tie.Need-add-scaled-requires Inv-loop μ-loop
+add-scaled-requires c κs = search needs
+
+add-row : tie.Need-add-row Inv-loop μ-loop
+add-row c = search needs
+
+loop-less : tie.Need-loop-less Inv-loop μ-loop
+loop-less c = search needs
+
+loop-again : tie.Need-loop-again Inv-loop μ-loop
+loop-again c = search (products-again, needs)
+
+same-length : tie.Need-same-length Inv-loop μ-loop
+same-length c = search needs
+
+returns : tie.Need-returns Inv-loop μ-loop
+returns c = search (products-done, needs)
+
+pub add-products-spec : {M : Type 1} → statement M
+add-products-spec =
+    tie.close
+    (tie.spec
+    Inv-loop
+    μ-loop
+    loop-holds
+    place-requires
+    mul-add-scaled
+    shared-slice-read-add-scaled
+    add-scaled-requires
+    add-row
+    loop-less
+    loop-again
+    same-length
+    returns)

@@ -1,0 +1,50 @@
+-- `least_norm::columns::householder` meets its contract. Assumes nothing.
+use borrow.Author.Needs.{needs}
+use Rattle.least_norm.proofs.Runs.{householder-run}
+use Rattle.least_norm.proofs.columns.householder.Statement.{statement}
+use Rattle.least_norm.proofs.columns.householder.Tie as tie
+
+copy-column-requires : tie.Need-copy-column-requires
+copy-column-requires c κs = search needs
+
+mul-alpha : tie.Need-mul-alpha
+mul-alpha c = search needs
+
+slice-read-alpha : tie.Need-slice-read-alpha
+slice-read-alpha c = search needs
+
+add-dot : tie.Need-add-dot
+add-dot c = search needs
+
+dot-requires : tie.Need-dot-requires
+dot-requires c κs = search needs
+
+beta-requires : tie.Need-beta-requires
+beta-requires c κs = search needs
+
+mul-v : tie.Need-mul-v
+mul-v c = search needs
+
+slice-write-v : tie.Need-slice-write-v
+slice-write-v c = search needs
+
+same-length : tie.Need-same-length
+same-length c = search needs
+
+returns : tie.Need-returns
+returns c = householder-run _ _ _ _ _ _ _ _ (c .before .before .before .before .before .before .copy-column .ensures) (c .before .before .before .before .before .before .before .before .before .before .pre .3) (c .before .before .before .before .before .before .before .before .before .before .pre .2) (c .before .dot .ensures) (c .beta .ensures)
+
+pub householder-spec : {M : Type 1} → statement M
+householder-spec =
+    tie.close
+    (tie.spec
+    copy-column-requires
+    mul-alpha
+    slice-read-alpha
+    add-dot
+    dot-requires
+    beta-requires
+    mul-v
+    slice-write-v
+    same-length
+    returns)

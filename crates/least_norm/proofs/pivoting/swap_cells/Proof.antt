@@ -1,0 +1,29 @@
+-- `least_norm::pivoting::swap_cells` meets its contract. Assumes nothing.
+use borrow.Author.Needs.{needs}
+use Rattle.loops.specs.Loops.{swap}
+use Rattle.least_norm.proofs.pivoting.swap_cells.Statement.{statement}
+use Rattle.least_norm.proofs.pivoting.swap_cells.Tie as tie
+
+cell-requires : tie.Need-cell-requires
+cell-requires c κs = search needs
+
+cell-requires-2 : tie.Need-cell-requires-2
+cell-requires-2 c κs = search needs
+
+put-requires : tie.Need-put-requires
+put-requires c κs = search needs
+
+put-requires-2 : tie.Need-put-requires-2
+put-requires-2 c κs = search needs
+
+same-length : tie.Need-same-length
+same-length c = search needs
+
+returns : tie.Need-returns
+unfolding swap
+returns c = cc
+
+pub swap-cells-spec : {M : Type 1} → statement M
+swap-cells-spec =
+    tie.close
+    (tie.spec cell-requires cell-requires-2 put-requires put-requires-2 same-length returns)

@@ -1,0 +1,53 @@
+-- `least_norm::pivoting::swap_columns` meets its contract. Assumes nothing.
+use Prim.Native.Nat.{_-_, _≤_}
+use borrow.Author.Needs.{needs}
+use lib.ListN.{length}
+use mathlib.Core.Path.{_≡_}
+use Rattle.least_norm.specs.LeastNorm.{swapColumns}
+use Rattle.loops.proofs.Turns.{turns-from, turns-again, turns-done}
+use Rattle.least_norm.proofs.pivoting.swap_columns.Statement.{statement}
+use Rattle.least_norm.proofs.pivoting.swap_columns.Tie as tie
+
+abbrev Inv-loop : tie.InvT-loop
+Inv-loop a₀ m n j c row₀ a row = (row ≤ m) × (length a ≡ length a₀) × (a ≡ swapColumns n j c a₀ row)
+
+abbrev μ-loop : tie.MeasureT-loop
+μ-loop a₀ m n j c row₀ a row = m - row
+
+loop-holds : tie.Need-loop-holds Inv-loop μ-loop
+unfolding swapColumns
+loop-holds c = search (turns-from, needs)
+
+swap-cells-requires : tie.Need-swap-cells-requires Inv-loop μ-loop
+swap-cells-requires c κs = search needs
+
+add-row : tie.Need-add-row Inv-loop μ-loop
+add-row c = search needs
+
+loop-less : tie.Need-loop-less Inv-loop μ-loop
+loop-less c = search needs
+
+loop-again : tie.Need-loop-again Inv-loop μ-loop
+unfolding swapColumns
+loop-again c = search (turns-again, needs)
+
+same-length : tie.Need-same-length Inv-loop μ-loop
+same-length c = search needs
+
+returns : tie.Need-returns Inv-loop μ-loop
+unfolding swapColumns
+returns c = search (turns-done, needs)
+
+pub swap-columns-spec : {M : Type 1} → statement M
+swap-columns-spec =
+    tie.close
+    (tie.spec
+    Inv-loop
+    μ-loop
+    loop-holds
+    swap-cells-requires
+    add-row
+    loop-less
+    loop-again
+    same-length
+    returns)

@@ -1,0 +1,53 @@
+-- `least_norm::solution::turn_each` meets its contract. Assumes nothing.
+use Prim.Native.Nat.{_-_, _≤_}
+use borrow.Author.Needs.{needs}
+use lib.ListN.{length}
+use mathlib.Core.Path.{_≡_}
+use Rattle.least_norm.specs.LeastNorm.{turned}
+use Rattle.loops.proofs.Turns.{turns-from, turns-again, turns-done}
+use Rattle.least_norm.proofs.solution.turn_each.Statement.{statement}
+use Rattle.least_norm.proofs.solution.turn_each.Tie as tie
+
+abbrev Inv-loop : tie.InvT-loop
+Inv-loop right n rank y₀ i₀ y i = (i ≤ rank) × (length y ≡ length y₀) × (y ≡ turned n rank right y₀ i)
+
+abbrev μ-loop : tie.MeasureT-loop
+μ-loop right n rank y₀ i₀ y i = rank - i
+
+loop-holds : tie.Need-loop-holds Inv-loop μ-loop
+unfolding turned
+loop-holds c = search (turns-from, needs)
+
+turn-requires : tie.Need-turn-requires Inv-loop μ-loop
+turn-requires c κs = search needs
+
+add-i : tie.Need-add-i Inv-loop μ-loop
+add-i c = search needs
+
+loop-less : tie.Need-loop-less Inv-loop μ-loop
+loop-less c = search needs
+
+loop-again : tie.Need-loop-again Inv-loop μ-loop
+unfolding turned
+loop-again c = search (turns-again, needs)
+
+same-length : tie.Need-same-length Inv-loop μ-loop
+same-length c = search needs
+
+returns : tie.Need-returns Inv-loop μ-loop
+unfolding turned
+returns c = search (turns-done, needs)
+
+pub turn-each-spec : {M : Type 1} → statement M
+turn-each-spec =
+    tie.close
+    (tie.spec
+    Inv-loop
+    μ-loop
+    loop-holds
+    turn-requires
+    add-i
+    loop-less
+    loop-again
+    same-length
+    returns)

@@ -1,0 +1,59 @@
+-- `least_norm::solve_at` meets its contract. Assumes nothing.
+use Prim.Native.Nat.{_*_}
+use borrow.Author.Needs.{needs}
+use lib.Seq.{length-take-le}
+use mathlib.Core.Path.{refl, sym}
+use native.Mathlib.Omega.{arith}
+use Rattle.least_norm.proofs.Runs.{replicate-at, solved-none, past-front}
+use Rattle.loops.proofs.Index.{product}
+use Rattle.least_norm.proofs.solve_at.Statement.{statement}
+use Rattle.least_norm.proofs.solve_at.Tie as tie
+
+returns : tie.Need-returns
+returns c = (solved-none _ _ _ _ _ _ (c .if1 .taken) (c .before .before .before .before .before .before .before .pre .7), refl)
+
+mul-w : tie.Need-mul-w
+mul-w c = omega (arith, product (c .before .before .before .before .before .before .before .args .rank) (c .before .before .before .before .before .before .before .args .n) (omega arith) (omega arith))
+
+zero-requires : tie.Need-zero-requires
+zero-requires c κs = search needs
+
+slice-relend-prefix-solve-ranked : tie.Need-slice-relend-prefix-solve-ranked
+slice-relend-prefix-solve-ranked c = omega (arith, product (c .before .before .before .before .before .before .before .before .before .before .before .before .before .args .rank) (c .before .before .before .before .before .before .before .before .before .before .before .before .before .args .n) (omega arith) (omega arith))
+
+slice-aggregate-solve-ranked : tie.Need-slice-aggregate-solve-ranked
+slice-aggregate-solve-ranked c = sym (length-take-le _ _ (omega (arith, product (c .before .before .before .before .before .before .before .before .before .before .before .before .before .before .args .rank) (c .before .before .before .before .before .before .before .before .before .before .before .before .before .before .args .n) (omega arith) (omega arith))))
+
+solve-ranked-requires : tie.Need-solve-ranked-requires
+solve-ranked-requires c κs = ((search needs, search needs, search needs, search needs, search needs, length-take-le _ _ (omega (arith, product (c .before .before .before .before .before .before .before .before .before .before .before .before .before .before .before .args .rank) (c .before .before .before .before .before .before .before .before .before .before .before .before .before .before .before .args .n) (omega arith) (omega arith)))), omega (arith, c .before .before .before .before .before .before .before .before .if1 .left), search needs, search needs, search needs, replicate-at _ _ _ _ (c .before .before .before .before .before .before .zero .ensures) (c .before .before .before .before .before .before .before .before .before .before .before .before .before .before .before .pre .6), c .before .before .before .before .before .before .before .before .before .before .before .before .before .before .before .pre .7)
+
+same-length : tie.Need-same-length
+same-length c = search needs
+
+same-length-2 : tie.Need-same-length-2
+same-length-2 c = search needs
+
+same-length-3 : tie.Need-same-length-3
+same-length-3 c = search needs
+
+same-length-4 : tie.Need-same-length-4
+same-length-4 c = search needs
+
+returns-2 : tie.Need-returns-2
+returns-2 c = (c .before .before .before .before .before .before .before .before .solve-ranked .ensures, past-front _ (c .before .before .before .before .before .before .before .before .solve-ranked .last .1 .1 .1 .1 .1 .0) (c .before .before .before .before .before .before .before .before .before .before .before .before .before .before .before .before .before .before .before .before .before .before .before .before .args .rank * c .before .before .before .before .before .before .before .before .before .before .before .before .before .before .before .before .before .before .before .before .before .before .before .before .args .n) 1056 (c .before .before .before .before .before .before .before .before .solve-ranked .kept .1 .1 .1 .1 .1 .0) (omega (arith, product (c .before .before .before .before .before .before .before .before .before .before .before .before .before .before .before .before .before .before .before .before .before .before .before .before .args .rank) (c .before .before .before .before .before .before .before .before .before .before .before .before .before .before .before .before .before .before .before .before .before .before .before .before .args .n) (omega arith) (omega arith))) (omega (arith, product (c .before .before .before .before .before .before .before .before .before .before .before .before .before .before .before .before .before .before .before .before .before .before .before .before .args .rank) (c .before .before .before .before .before .before .before .before .before .before .before .before .before .before .before .before .before .before .before .before .before .before .before .before .args .n) (omega arith) (omega arith))))
+
+pub solve-at-spec : {M : Type 1} → statement M
+solve-at-spec =
+    tie.close
+    (tie.spec
+    returns
+    mul-w
+    zero-requires
+    slice-relend-prefix-solve-ranked
+    slice-aggregate-solve-ranked
+    solve-ranked-requires
+    same-length
+    same-length-2
+    same-length-3
+    same-length-4
+    returns-2)

@@ -1,0 +1,48 @@
+-- `least_norm::solve_ranked` meets its contract. Assumes nothing.
+use borrow.Author.Needs.{needs}
+use mathlib.Core.Path.{sym}
+use native.Mathlib.Omega.{arith}
+use Rattle.least_norm.proofs.Runs.{replicate-at, solved-run}
+use Rattle.least_norm.proofs.solve_ranked.Statement.{statement}
+use Rattle.least_norm.proofs.solve_ranked.Tie as tie
+
+clear-requires : tie.Need-clear-requires
+clear-requires c κs = search needs
+
+substitute-requires : tie.Need-substitute-requires
+substitute-requires c κs = (omega (arith, c .before .before .before .before .before .before .before .before .before .before .before .before .before .before .before .pre .0, c .before .before .before .before .before .before .clear .kept .0), omega arith, omega arith, omega arith, omega arith, c .before .before .before .before .before .before .before .before .before .before .before .before .before .before .before .pre .5)
+
+turn-back-requires : tie.Need-turn-back-requires
+turn-back-requires c κs = search needs
+
+unpermute-requires : tie.Need-unpermute-requires
+unpermute-requires c κs = (search needs, replicate-at _ _ _ _ (c .before .before .before .before .before .before .before .before .before .before .before .before .before .before .before .before .before .before .before .before .before .before .before .before .before .pre .6) (sym (c .before .before .before .before .before .before .before .before .before .before .before .before .before .before .before .before .before .before .before .before .before .before .before .before .before .pre .3)), search needs)
+
+same-length : tie.Need-same-length
+same-length c = search needs
+
+same-length-2 : tie.Need-same-length-2
+same-length-2 c = search needs
+
+same-length-3 : tie.Need-same-length-3
+same-length-3 c = search needs
+
+same-length-4 : tie.Need-same-length-4
+same-length-4 c = search needs
+
+returns : tie.Need-returns
+returns c = solved-run _ _ _ _ _ _ _ _ _ _ (c .before .before .unpermute .ensures) (c .before .before .before .before .before .before .before .before .before .before .before .before .before .before .before .before .before .before .before .before .before .before .before .before .before .before .before .before .pre .3) (c .before .before .before .before .before .before .before .turn-back .ensures) (c .before .before .before .before .before .before .before .before .before .before .before .before .substitute .ensures) (c .before .before .before .before .before .before .before .before .before .before .before .before .before .before .before .before .before .before .before .clear .ensures) (c .before .before .before .before .before .before .before .before .before .before .before .before .before .before .before .before .before .before .before .before .before .before .before .before .before .before .before .before .pre .1)
+
+pub solve-ranked-spec : {M : Type 1} → statement M
+solve-ranked-spec =
+    tie.close
+    (tie.spec
+    clear-requires
+    substitute-requires
+    turn-back-requires
+    unpermute-requires
+    same-length
+    same-length-2
+    same-length-3
+    same-length-4
+    returns)

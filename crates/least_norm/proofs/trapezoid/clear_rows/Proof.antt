@@ -1,0 +1,57 @@
+-- `least_norm::trapezoid::clear_rows` meets its contract. Assumes nothing.
+use Prim.Native.Nat.{_≤_}
+use borrow.Author.Needs.{needs}
+use lib.ListN.{length}
+use mathlib.Core.Path.{_≡_}
+use Rattle.least_norm.proofs.Steps.{cleared-from}
+use Rattle.least_norm.specs.LeastNorm.{trapezoid, cleared}
+use Rattle.loops.proofs.Turns.{downward-again, downward-done}
+use Rattle.least_norm.proofs.trapezoid.clear_rows.Statement.{statement}
+use Rattle.least_norm.proofs.trapezoid.clear_rows.Tie as tie
+
+abbrev Inv-loop : tie.InvT-loop
+Inv-loop a₀ m n rank right₀ i₀ a right i = (i ≤ rank) × (length a ≡ length a₀) × (length right ≡ length right₀) × (trapezoid a right ≡ cleared n rank a₀ i)
+
+abbrev μ-loop : tie.MeasureT-loop
+μ-loop a₀ m n rank right₀ i₀ a right i = i
+
+loop-holds : tie.Need-loop-holds Inv-loop μ-loop
+loop-holds c = search (cleared-from, needs)
+
+sub-i : tie.Need-sub-i Inv-loop μ-loop
+sub-i c = search needs
+
+clear-row-requires : tie.Need-clear-row-requires Inv-loop μ-loop
+clear-row-requires c κs = search needs
+
+loop-less : tie.Need-loop-less Inv-loop μ-loop
+loop-less c = search needs
+
+loop-again : tie.Need-loop-again Inv-loop μ-loop
+unfolding cleared
+loop-again c = search (downward-again, needs)
+
+same-length : tie.Need-same-length Inv-loop μ-loop
+same-length c = search needs
+
+same-length-2 : tie.Need-same-length-2 Inv-loop μ-loop
+same-length-2 c = search needs
+
+returns : tie.Need-returns Inv-loop μ-loop
+unfolding cleared
+returns c = search (downward-done, needs)
+
+pub clear-rows-spec : {M : Type 1} → statement M
+clear-rows-spec =
+    tie.close
+    (tie.spec
+    Inv-loop
+    μ-loop
+    loop-holds
+    sub-i
+    clear-row-requires
+    loop-less
+    loop-again
+    same-length
+    same-length-2
+    returns)

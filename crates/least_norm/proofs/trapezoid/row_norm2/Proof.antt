@@ -1,0 +1,17 @@
+-- `least_norm::trapezoid::row_norm2` meets its contract. Assumes nothing.
+use borrow.Author.Needs.{needs}
+use Rattle.least_norm.proofs.Runs.{row-norm-run}
+use Rattle.least_norm.proofs.trapezoid.row_norm2.Statement.{statement}
+use Rattle.least_norm.proofs.trapezoid.row_norm2.Tie as tie
+
+place-requires : tie.Need-place-requires
+place-requires c κs = search needs
+
+dot-requires : tie.Need-dot-requires
+dot-requires c κs = search needs
+
+returns : tie.Need-returns
+returns c = row-norm-run _ _ _ _ (c .before .place .ensures .0) _ _ _ (c .dot .ensures)
+
+pub row-norm2-spec : {M : Type 1} → statement M
+row-norm2-spec = tie.close (tie.spec place-requires dot-requires returns)

@@ -1,0 +1,4 @@
+pub mod Reflector
+pub mod LeastNorm
+pub mod Promise
+pub mod Blocks

@@ -1,0 +1,41 @@
+// The rank: how many leading diagonal entries are above 1e-11 of the first.
+ghost use mathlib.Core.Path.{_≡_};
+ghost use Prim.Native.Nat.{_+_, _≤_, _<_};
+ghost use Rattle.least_norm.specs.LeastNorm as def;
+ghost use Rattle.least_norm.specs.Promise.{Matrix};
+use crate::place;
+
+fn leads(a: &[f64], m: usize, n: usize, i: usize) -> bool
+    requires { ⌜ Matrix (now a) m n × (i < m) × (i < n) ⌝ }
+    ensures { λ s. ⌜ s ≡ def.leads n (now (a .entry)) i ⌝ }
+{
+    let largest = floats::abs(place::cell(a, m, n, 0, 0));
+    let this = floats::abs(place::cell(a, m, n, i, i));
+    this > 0.00000000001 * largest
+}
+
+// r of the first i entries lead; one more does where all of them do.
+fn counted(a: &[f64], m: usize, n: usize, i: usize, r: usize) -> usize
+    requires { ⌜ Matrix (now a) m n × (i < m) × (i < n) × (r ≤ i) ⌝ }
+    ensures { λ s. ⌜ (s ≡ def.counted n (now (a .entry)) i r) × (s ≤ i + 1) ⌝ }
+{
+    if r == i {
+        if leads(a, m, n, i) {
+            return r + 1;
+        }
+    }
+    r
+}
+
+pub fn leading(a: &[f64], m: usize, n: usize, k: usize) -> usize
+    requires { ⌜ Matrix (now a) m n × (k ≤ m) × (k ≤ n) ⌝ }
+    ensures { λ r. ⌜ (r ≡ def.leading n (now (a .entry)) k) × (r ≤ k) ⌝ }
+{
+    let mut r = 0;
+    let mut i = 0;
+    while i < k {
+        r = counted(a, m, n, i, r);
+        i += 1;
+    }
+    r
+}

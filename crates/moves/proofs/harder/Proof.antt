@@ -1,0 +1,31 @@
+use mathlib.Core.Path.{sym, _∙_}
+use Rattle.moves.specs.Moves as def
+use native.Mathlib.Omega.{arith}
+use borrow.Author.Needs.{needs}
+use Rattle.moves.proofs.harder.Statement.{statement}
+use Rattle.moves.proofs.harder.Tie as tie
+use Rattle.moves.proofs.harder.Reads as reads
+use Rattle.moves.proofs.harder.Lts as lts
+use Rattle.moves.proofs.wrong.Reads as wrong-reads
+
+-- src/lib.rt:381:8
+wrong-requires : tie.Need-wrong-requires
+wrong-requires c κs = search needs
+
+-- src/lib.rt:383:13
+returns : tie.Need-returns
+unfolding def.harder
+returns c = rw (sym (c .before .before .before .wrong .ensures) ∙ c .before .before .if1 .taken, c .if2 .taken)
+
+-- src/lib.rt:385:9
+returns-2 : tie.Need-returns-2
+unfolding def.harder
+returns-2 c = rw (sym (c .before .before .before .wrong .ensures) ∙ c .before .before .if1 .taken, c .if2 .left)
+
+-- src/lib.rt:378:1
+returns-3 : tie.Need-returns-3
+unfolding def.harder
+returns-3 c = rw (sym (c .before .wrong .ensures) ∙ c .if1 .left)
+
+pub harder-spec : {M : Type 1} → statement M
+harder-spec = tie.close (tie.spec wrong-requires returns returns-2 returns-3)
