@@ -1,9 +1,9 @@
 -- A product of two f64 is the same either way round.
-use Prim.Native.Nat.{ℕ, _*_}
-use mathlib.Core.Path.{_≡_, refl, _∙_, ap}
+use Prim.Native.Nat.{_*_}
+use mathlib.Core.Path.{_≡_, refl}
 use mathlib.Core.Bool.{Bool, true, false}
 use native.Mathlib.Nat.{mul-comm}
-use lib.Ieee.{Float, nan, inf, fin, binary64, mul, round, up, down, unlike}
+use lib.Ieee.{Float, nan, inf, fin, mul, up, down, unlike}
 use Rattle.floats.specs.Ops.{_⊗_}
 
 unlike-comm : (s t : Bool) → unlike s t ≡ unlike t s

@@ -1,6 +1,6 @@
 -- The laws of sums: where each starts, its next term and its end, in the form in which `search` applies them, and that sums of the same terms are the same.
 use Prim.Native.Nat.{ℕ, suc, _+_, _≤_, _<_}
-use mathlib.Core.Path.{_≡_, refl, sym, _∙_, ap}
+use mathlib.Core.Path.{_≡_, sym, ap}
 use native.Mathlib.Omega.{arith}
 use native.Mathlib.Numerals.{add-one}
 use lib.Ieee.{Float, binary64, add, sub}
