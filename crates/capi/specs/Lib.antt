@@ -1,1 +1,2 @@
+pub mod LeastNorm
 pub mod Reports
