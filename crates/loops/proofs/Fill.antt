@@ -26,7 +26,7 @@ module _ {A : Type 0} where
 
 -- the same with f 0, f 1, .. for one value
 module _ {A : Type 0} (f : ℕ → A) where
-  tab-length : (n : ℕ) → length (tab f n) ≡ n
+  pub tab-length : (n : ℕ) → length (tab f n) ≡ n
   unfolding tab turns
   tab-length zero = refl
   tab-length (suc n) = length-append (tab f n) (f n ∷ []) ∙ rw (tab-length n) (add-one n)
