@@ -1,4 +1,4 @@
--- Which patterns `from_bits` does not take: those of a NaN, which the definition reads as the NaN.
+-- Which patterns `from_bits` takes, and what `to_bits` asks: no NaN. Every pattern of a NaN is the one NaN.
 use Prim.Native.Nat.{ℕ, _%_, _≤_, _<_}
 use mathlib.Core.Path.{_≡_, refl, sym, _∙_, subst}
 use mathlib.Core.Bool.{Bool, true, false, not, true≢false}

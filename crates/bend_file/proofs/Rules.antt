@@ -1,0 +1,81 @@
+-- What the reader's tests, one after another, say of the file.
+use Prim.Native.Nat.{ℕ, suc, _+_, _-_, _*_, _≤_, _<_}
+use mathlib.Core.Path.{_≡_, refl, sym, _∙_}
+use mathlib.Core.Bool.{Bool, true, false, not, cond, _&&_, and-false, true≢false}
+use mathlib.Core.List.{List}
+use native.Mathlib.Omega.{arith}
+use native.Mathlib.Nat.{mul-le-mul}
+use lib.Dec.{leb, eqb}
+use lib.ListN.{length}
+use borrow.Author.Tests.{le-leb, lt-leb, leb-true, eq-eqb, ne-eqb, eqb-true}
+use Rattle.bend_file.specs.Little.{u16, u32}
+use Rattle.bend_file.specs.Trailer.{start, rows, coords, count, sized, marked, small, Small, wanted, counted, reaching, number, shape}
+use Rattle.bend_file.specs.declared.trailer.Shape.{Shape}
+use Rattle.bend_file.specs.declared.trailer.Shape.the-variants.{Refused, At}
+
+-- a conjunction taken apart
+pub apart : (a b : Bool) → a && b ≡ true → (a ≡ true) × (b ≡ true)
+apart true b e = (refl, e)
+apart false b e = absurd (true≢false (sym e))
+
+pub small-is : (n c : ℕ) → small n c ≡ true → Small n c
+unfolding small
+small-is n c e =
+    let s = apart (leb n 32) (leb (c * n) 2048) e in
+    let h = leb-true n 32 (s .0) in
+    record { few = h; square = mul-le-mul h h; moving = leb-true (c * n) 2048 (s .1) }
+
+-- the product that rule 3 tests does not wrap
+pub moving-fits : (n c : ℕ) → n < 65536 → c < 65536 → c * n ≤ 65536 * 65536
+moving-fits n c h k = mul-le-mul {n₁ = c} {m₁ = n} {n₂ = 65536} {m₂ = 65536} (omega arith) (omega arith)
+
+-- ---- the rules in their order
+
+module _ (f : List ℕ) where
+  abbrev end : ℕ
+  end = length f
+
+  refused : (k : ℕ) → number f ≡ suc k → Refused (suc k) ≡ shape f
+  unfolding shape
+  refused k e = rw (e, ne-eqb (suc k) 0 (λ (h : suc k ≡ 0). omega arith))
+
+  pub short : end < 16 → Refused 1 ≡ shape f
+  unfolding number sized
+  short h = refused 0 (rw (lt-leb 16 end h))
+
+  pub long : 65536 < end → Refused 1 ≡ shape f
+  unfolding number sized
+  long h = refused 0 (rw (lt-leb end 65536 h, and-false))
+
+  -- m, n, c, s, k: what the reader found of the mark, rows, coords, start and count
+  module _ (low : 16 ≤ end) (high : end ≤ 65536) (m : Bool) (is-m : m ≡ marked f end) where
+    in-size : sized end ≡ true
+    unfolding sized
+    in-size = rw (le-leb 16 end low, le-leb end 65536 high)
+
+    pub unmarked : m ≡ false → Refused 2 ≡ shape f
+    unfolding number
+    unmarked h = refused 1 (rw (in-size, ← is-m, h))
+
+    module _ (h : m ≡ true) (n c : ℕ) (is-n : n ≡ u16 f (end - 12)) (is-c : c ≡ u16 f (end - 10)) (b : Bool) (is-b : b ≡ small n c) where
+      to-rule-3 : number f ≡ cond (not b) 3 (cond (not (counted f end)) 4 (cond (not (reaching f end)) 4 0))
+      unfolding number rows coords
+      to-rule-3 = rw (in-size, ← is-m, h, is-b, is-n, is-c)
+
+      pub large : b ≡ false → Refused 3 ≡ shape f
+      large e = refused 2 (to-rule-3 ∙ rw e)
+
+      module _ (e : b ≡ true) (s k : ℕ) (is-s : s ≡ u32 f (end - 16)) (is-k : k ≡ u32 f (end - 8)) where
+        to-rule-4 : number f ≡ cond (not (eqb k (wanted n c))) 4 (cond (not (eqb (s + 8 * k + 16) end)) 4 0)
+        unfolding counted reaching start rows coords count
+        to-rule-4 = to-rule-3 ∙ rw (e, is-n, is-c, is-s, is-k)
+
+        pub miscounted : (k ≡ wanted n c → ⊥) → Refused 4 ≡ shape f
+        miscounted g = refused 3 (to-rule-4 ∙ rw (ne-eqb k (wanted n c) g))
+
+        pub misplaced : (s + 8 * k + 16 ≡ end → ⊥) → k ≡ wanted n c → Refused 4 ≡ shape f
+        misplaced g i = refused 3 (to-rule-4 ∙ rw (eq-eqb k (wanted n c) i, ne-eqb (s + 8 * k + 16) end g))
+
+        pub shaped : s + 8 * k + 16 ≡ end → k ≡ wanted n c → At s n c ≡ shape f
+        unfolding shape start rows coords
+        shaped g i = rw (to-rule-4, eq-eqb k (wanted n c) i, eq-eqb (s + 8 * k + 16) end g, is-s, is-n, is-c)
