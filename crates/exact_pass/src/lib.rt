@@ -17,7 +17,15 @@ pub enum Exact {
 }
 
 // At the target: the held row pushed inside the hardest is freed.
-fn release(w: &[f64], u_free: &[f64], lo: &[f64], hi: &[f64], scale: &[f64], states: &mut [u8], nu: &[f64]) -> Exact
+fn release(
+    w: &[f64],
+    u_free: &[f64],
+    lo: &[f64],
+    hi: &[f64],
+    scale: &[f64],
+    states: &mut [u8],
+    nu: &[f64],
+) -> Exact
     ensures { λ r. ⌜ ((l : List ℕ) → head.Passed (head.release (box.problem (now (w .entry)) (now («u_free» .entry)) (now (lo .entry)) (now (hi .entry)) (now (scale .entry))) (head.trial (now (nu .entry)) (now (states .entry)))) l r (now (nu .entry)) (now (states .exit)) l) ⌝ }
 {
     let h = moves::pushed(w, u_free, lo, hi, scale, states, nu);
@@ -39,7 +47,16 @@ fn bound_at(lo: &[f64], hi: &[f64], stop: u8, a: usize) -> f64
 }
 
 // The row that stopped the move is held on its bound; where none did, the multipliers are at the target.
-fn stopped(w: &[f64], u_free: &[f64], lo: &[f64], hi: &[f64], scale: &[f64], states: &mut [u8], nu: &mut [f64], r: moves::Blocking) -> Exact
+fn stopped(
+    w: &[f64],
+    u_free: &[f64],
+    lo: &[f64],
+    hi: &[f64],
+    scale: &[f64],
+    states: &mut [u8],
+    nu: &mut [f64],
+    r: moves::Blocking,
+) -> Exact
     ensures { λ e. ⌜ ((l : List ℕ) → head.Passed (head.stopped (box.problem (now (w .entry)) (now («u_free» .entry)) (now (lo .entry)) (now (hi .entry)) (now (scale .entry))) (head.trial (now (nu .entry)) (now (states .entry))) r) l e (now (nu .exit)) (now (states .exit)) l) ⌝ }
 {
     let stop = r.stop;
@@ -62,7 +79,19 @@ fn fought(k: usize) -> Exact
 }
 
 // As far as the boxes let the rows l go along y, at most alpha; where no bound is met, the rows that fight are listed.
-fn went(w: &[f64], u_free: &[f64], lo: &[f64], hi: &[f64], scale: &[f64], states: &mut [u8], nu: &mut [f64], l: &[usize], y: &[f64], alpha: f64, rows: &mut [usize]) -> Exact
+fn went(
+    w: &[f64],
+    u_free: &[f64],
+    lo: &[f64],
+    hi: &[f64],
+    scale: &[f64],
+    states: &mut [u8],
+    nu: &mut [f64],
+    l: &[usize],
+    y: &[f64],
+    alpha: f64,
+    rows: &mut [usize],
+) -> Exact
     requires { ⌜ length (now «u_free») ≤ 32 ⌝ }
     ensures { λ e. ⌜ head.Passed (head.went (box.problem (now (w .entry)) (now («u_free» .entry)) (now (lo .entry)) (now (hi .entry)) (now (scale .entry))) (head.trial (now (nu .entry)) (now (states .entry))) (now (l .entry)) (now (y .entry)) alpha) (now (rows .entry)) e (now (nu .exit)) (now (states .exit)) (now (rows .exit)) ⌝ }
 {
@@ -76,7 +105,20 @@ fn went(w: &[f64], u_free: &[f64], lo: &[f64], hi: &[f64], scale: &[f64], states
 }
 
 // Toward the target that z gives, or, where that leaves too much of the system, along r, what it leaves. y has what is left on its way in.
-fn headed_by(w: &[f64], u_free: &[f64], lo: &[f64], hi: &[f64], scale: &[f64], states: &mut [u8], nu: &mut [f64], l: &[usize], z: &[f64], r: &[f64], y: &mut [f64], rows: &mut [usize]) -> Exact
+fn headed_by(
+    w: &[f64],
+    u_free: &[f64],
+    lo: &[f64],
+    hi: &[f64],
+    scale: &[f64],
+    states: &mut [u8],
+    nu: &mut [f64],
+    l: &[usize],
+    z: &[f64],
+    r: &[f64],
+    y: &mut [f64],
+    rows: &mut [usize],
+) -> Exact
     requires { ⌜ length (now «u_free») ≤ 32 ⌝ }
     ensures { λ e. ⌜ head.Passed (head.headedBy (box.problem (now (w .entry)) (now («u_free» .entry)) (now (lo .entry)) (now (hi .entry)) (now (scale .entry))) (head.trial (now (nu .entry)) (now (states .entry))) (now (l .entry)) (now (z .entry)) (now (r .entry)) (now (y .entry))) (now (rows .entry)) e (now (nu .exit)) (now (states .exit)) (now (rows .exit)) ⌝ }
 {
@@ -87,7 +129,20 @@ fn headed_by(w: &[f64], u_free: &[f64], lo: &[f64], hi: &[f64], scale: &[f64], s
     went(w, u_free, lo, hi, scale, states, nu, l, y, 1.0, rows)
 }
 
-fn headed(w: &[f64], u_free: &[f64], lo: &[f64], hi: &[f64], scale: &[f64], states: &mut [u8], nu: &mut [f64], l: &[usize], z: &[f64], r: &[f64], y: &mut [f64], rows: &mut [usize]) -> Exact
+fn headed(
+    w: &[f64],
+    u_free: &[f64],
+    lo: &[f64],
+    hi: &[f64],
+    scale: &[f64],
+    states: &mut [u8],
+    nu: &mut [f64],
+    l: &[usize],
+    z: &[f64],
+    r: &[f64],
+    y: &mut [f64],
+    rows: &mut [usize],
+) -> Exact
     requires { ⌜ (length (now «u_free») ≤ 32) × (length (now y) ≡ length (now «u_free»)) ⌝ }
     ensures { λ e. ⌜ head.Passed (head.headed (box.problem (now (w .entry)) (now («u_free» .entry)) (now (lo .entry)) (now (hi .entry)) (now (scale .entry))) (head.trial (now (nu .entry)) (now (states .entry))) (now (l .entry)) (now (z .entry)) (now (r .entry))) (now (rows .entry)) e (now (nu .exit)) (now (states .exit)) (now (rows .exit)) ⌝ }
 {
