@@ -1,1 +1,2 @@
 pub mod Headings
+pub mod Passes

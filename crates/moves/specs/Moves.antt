@@ -5,7 +5,7 @@ use mathlib.Core.List.{List, [], _∷_, _++_}
 use lib.Dec.{eqb, leb}
 use lib.ListN.{getD, set, length}
 use lib.Ieee.{Float, lt, neg}
-use Rattle.loops.specs.Loops.{turns, tab, those}
+use Rattle.loops.specs.Loops.{turns, tab}
 use Rattle.floats.specs.Ops.{_⊕_, _⊖_, _⊗_, _⊘_, at, 0ᶠ, 1e-9}
 use Rattle.floats.specs.Helpers.{larger, abs}
 use Rattle.sweep.specs.Rows.{Problem, rows, rowOf, state, fewer, rowSum, ownResidual}
@@ -25,9 +25,6 @@ held p st nu i = heldTo (p .lo) (p .hi) st nu i
 
 abbrev pub inside : List ℕ → ℕ → Bool
 inside st i = eqb (state st i) 0
-
-unfoldable pub stuck : List ℕ → ℕ → List ℕ
-stuck st i = those (inside st) i
 
 -- ---- the system of the rows inside: what the held rows leave to a row r of the matrix, and the matrix in scaled multipliers
 

@@ -1,0 +1,5 @@
+pub mod Numbers
+pub mod Cases
+pub mod Marked
+pub mod Further
+pub mod Refusals
