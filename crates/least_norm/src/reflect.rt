@@ -1,10 +1,10 @@
 // Householder reflectors H = I - 2 v vᵀ / vᵀv.
 ghost use mathlib.Core.Path.{_≡_};
-ghost use Prim.Native.Nat.{ℕ, _+_, _≤_, _<_};
+ghost use Prim.Native.Nat.{ℕ, _+_, _*_, _≤_, _<_};
 ghost use lib.ListN.{length};
 ghost use Rattle.floats.specs.Ops.{at};
 ghost use Rattle.least_norm.specs.Reflector as def;
-ghost use Rattle.least_norm.specs.Promise.{Part};
+ghost use Rattle.least_norm.specs.Promise.{Part, Strided};
 use crate::vector;
 
 // The root of alpha² + sigma with the sign that alpha does not have.
@@ -15,11 +15,12 @@ pub fn beta(alpha: f64, sigma: f64) -> f64
     if alpha >= 0.0 { -norm } else { norm }
 }
 
-// H applied to z: v is u0 at place `first` and u[q + t] at place p + t, for t from lo up to hi, and utu is its square.
+// H applied to z: v is u0 at place `first` and u[q + t] at place p + t * k, for t from lo up to hi, and utu is its square.
 pub fn reflect(
     z: &mut [f64],
     first: usize,
     p: usize,
+    k: usize,
     u0: f64,
     u: &[f64],
     q: usize,
@@ -27,10 +28,10 @@ pub fn reflect(
     lo: usize,
     hi: usize,
 )
-    requires { ⌜ (first < length (now z)) × Part (now z) p lo hi × Part (now u) q lo hi ⌝ }
-    ensures { λ r. ⌜ now (z .exit) ≡ def.reflect first (λ (t : ℕ). p + t) u0 (λ (t : ℕ). at (now (u .entry)) (q + t)) utu lo hi (now (z .entry)) ⌝ }
+    requires { ⌜ (first < length (now z)) × Strided (now z) p k lo hi × Part (now u) q lo hi ⌝ }
+    ensures { λ r. ⌜ now (z .exit) ≡ def.reflect first (λ (t : ℕ). p + t * k) u0 (λ (t : ℕ). at (now (u .entry)) (q + t)) utu lo hi (now (z .entry)) ⌝ }
 {
-    let f = 2.0 * vector::dot(u0 * z[first], u, q, z, p, lo, hi) / utu;
-    z[first] = z[first] - f * u0;
-    vector::less_scaled(z, p, f, u, q, lo, hi);
+    let f = 2.0 * vector::dot(u0 * z[first], u, q, 1, z, p, k, lo, hi) / utu;
+    vector::less_at(z, first, f * u0);
+    vector::less_scaled(z, p, k, f, u, q, lo, hi);
 }
