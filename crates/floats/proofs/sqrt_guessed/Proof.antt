@@ -1,14 +1,14 @@
--- `floats::sqrt` meets its contract. Assumes nothing.
+-- `floats::sqrt_guessed` meets its contract. Assumes nothing.
 use mathlib.Core.Path.{_≡_, sym, ap, _∙_, subst}
 use lib.Dec.{T}
 use lib.Ieee.{binary64, fits}
 use lib.Ieee.Bits.{ofBits-toBits}
 use Rattle.floats.specs.Sqrt.{sqrt}
 use Rattle.floats.proofs.SquareRoot.Branches.{no-nan, bits-pos, from-inf, finite-bits, at-zero, neither}
-use Rattle.floats.proofs.sqrt.Statement.{statement}
-use Rattle.floats.proofs.sqrt.Tie as tie
-use Rattle.floats.proofs.sqrt.Reads as reads
-use Rattle.floats.proofs.sqrt.Lts as lts
+use Rattle.floats.proofs.sqrt_guessed.Statement.{statement}
+use Rattle.floats.proofs.sqrt_guessed.Tie as tie
+use Rattle.floats.proofs.sqrt_guessed.Reads as reads
+use Rattle.floats.proofs.sqrt_guessed.Lts as lts
 use Rattle.floats.proofs.root.root_bits.Reads as root-bits-reads
 
 -- what owning an `f64` tells: the format holds it
@@ -36,8 +36,8 @@ returns-3 c = at-zero (c .before .before .args .v) (c .if3 .taken)
 returns-4 : tie.Need-returns-4
 returns-4 c = neither (c .before .before .args .v) (c .before .if1 .left) (c .if3 .left)
 
-pub sqrt-spec : {M : Type 1} → statement M
-sqrt-spec =
+pub sqrt-guessed-spec : {M : Type 1} → statement M
+sqrt-guessed-spec =
     tie.close
     (tie.spec
     float-to-bits-b

@@ -1,12 +1,12 @@
--- `floats::root::guess` is safe. Assumes nothing.
+-- `floats::root::newton` is safe. Assumes nothing.
 use native.Mathlib.Omega.{arith}
 use Prim.Native.Nat.{_-_, _/_}
 use Rattle.floats.proofs.SquareRoot.Branches.{no-nan, finite-bits}
 use borrow.Author.Needs.{needs}
-use Rattle.floats.proofs.root.guess.Statement.{statement}
-use Rattle.floats.proofs.root.guess.Tie as tie
-use Rattle.floats.proofs.root.guess.Reads as reads
-use Rattle.floats.proofs.root.guess.Lts as lts
+use Rattle.floats.proofs.root.newton.Statement.{statement}
+use Rattle.floats.proofs.root.newton.Tie as tie
+use Rattle.floats.proofs.root.newton.Reads as reads
+use Rattle.floats.proofs.root.newton.Lts as lts
 
 float-from-bits-v : tie.Need-float-from-bits-v
 float-from-bits-v c = finite-bits (c .args .x) (c .pre)
@@ -29,8 +29,8 @@ returns c = search needs
 returns-2 : tie.Need-returns-2
 returns-2 c = search needs
 
-pub guess-spec : {M : Type 1} → statement M
-guess-spec =
+pub newton-spec : {M : Type 1} → statement M
+newton-spec =
     tie.close
     (tie.spec
     float-from-bits-v
