@@ -69,14 +69,14 @@ pub fn is_finite(v: f64) -> bool
     false
 }
 
-// The square root of v, rounded to nearest: of ±0 and +∞ that number, of NaN and negatives NaN.
-pub fn sqrt(v: f64) -> f64
+// The square root of v, with the pattern of a guess at it, or 0. The guess saves time where it is good.
+fn sqrt_guessed(v: f64, near: u64) -> f64
     ensures { λ r. ⌜ r ≡ def.sqrt v ⌝ }
 {
     if v > 0.0 {
         let b = f64::to_bits(v);
         if b < 0x7ff0_0000_0000_0000 {
-            return f64::from_bits(root::root_bits(b));
+            return f64::from_bits(root::root_bits(b, near));
         }
         return v;
     }
@@ -84,4 +84,21 @@ pub fn sqrt(v: f64) -> f64
         return v;
     }
     0.0 / 0.0
+}
+
+// The square root of v, rounded to nearest: of ±0 and +∞ that number, of NaN and negatives NaN.
+pub fn sqrt(v: f64) -> f64
+    ensures { λ r. ⌜ r ≡ def.sqrt v ⌝ }
+{
+    sqrt_guessed(v, 0)
+}
+
+// The same, sooner where near is at most a little off.
+pub fn sqrt_near(v: f64, near: f64) -> f64
+    ensures { λ r. ⌜ r ≡ def.sqrt v ⌝ }
+{
+    if near > 0.0 {
+        return sqrt_guessed(v, f64::to_bits(near));
+    }
+    sqrt_guessed(v, 0)
 }

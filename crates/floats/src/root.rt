@@ -62,7 +62,7 @@ fn refine(s: u64, a: u64) -> u64
 
 // A guess at the whole part of the root of the value whose pattern is x, for an x from 2^52 to 2^54: three steps of Newton's method for 1 / √x.
 // Nothing is promised of it; the constant of the last step is a little above 1.5 so that a root that is a whole number is not guessed one too low.
-fn guess(x: u64) -> u64
+fn newton(x: u64) -> u64
     requires { ⌜ x < 0x7ff0_0000_0000_0000 ⌝ }
 {
     let v = f64::from_bits(x);
@@ -78,8 +78,18 @@ fn guess(x: u64) -> u64
     0
 }
 
-// The pattern of the root of the value whose pattern is b.
-pub fn root_bits(b: u64) -> u64
+// The same from the pattern of a value near the root, where that is not 0. Nothing is promised of it either.
+fn guess(x: u64, near: u64) -> u64
+    requires { ⌜ x < 0x7ff0_0000_0000_0000 ⌝ }
+{
+    if near > 0 {
+        return (near % 0x10_0000_0000_0000 + 0x10_0000_0000_0000) / 0x400_0000;
+    }
+    newton(x)
+}
+
+// The pattern of the root of the value whose pattern is b, which may be guessed to be near.
+pub fn root_bits(b: u64, near: u64) -> u64
     requires { ⌜ (0 < b) × (b < 0x7ff0_0000_0000_0000) ⌝ }
     ensures { λ r. ⌜ (ofBits binary64 r ≡ def.sqrt (ofBits binary64 b)) × (r < 0x7ff0_0000_0000_0000) ⌝ }
 {
@@ -95,7 +105,7 @@ pub fn root_bits(b: u64) -> u64
     // p has 54 digits, and the last rounds
     let p = refine(
         s << (e % 2),
-        guess((1074 + e % 2) * 0x10_0000_0000_0000 + s),
+        guess((1074 + e % 2) * 0x10_0000_0000_0000 + s, near),
     );
     (e / 2 - 26) * 0x10_0000_0000_0000 + (p + 1) / 2
 }

@@ -4,7 +4,7 @@ use mathlib.Core.Path.{_≡_, refl, sym, _∙_, ap}
 use mathlib.Core.Bool.{Bool, true, false, cond}
 use mathlib.Core.List.{List, _++_}
 use native.Mathlib.Omega.{arith}
-use native.Mathlib.Nat.{add-zero, zero-add, not-suc-le-zero}
+use native.Mathlib.Nat.{zero-add, add-comm, mul-one, not-suc-le-zero}
 use native.Mathlib.Numerals.{add-one}
 use borrow.Author.Tests.{eq-eqb, ne-eqb, lt-ltb, le-ltb, lt-leb, le-leb}
 use lib.ListN.{length, getD, set, replicate, take, drop}
@@ -12,7 +12,7 @@ use lib.Seq.{length-take-le, drop-append-add, drop-drop, getD-set-same, getD-set
 use lib.Ieee.{Float, nan, binary64, add, sub, lt, eq}
 use Rattle.loops.specs.Loops.{between, swap, tab, turns}
 use Rattle.loops.specs.Updates.{updated}
-use Rattle.loops.proofs.Turns.{between-join, between-shift, between-more, between-done, turns-from, downward-from, stays}
+use Rattle.loops.proofs.Turns.{between-shift, between-again, between-more, turns-from, downward-from, stays}
 use Rattle.loops.proofs.Updates.{between-ext, updated-here, updated-long}
 use Rattle.floats.specs.Ops.{_⊕_, _⊖_, _⊗_, _⊘_, at, 0ᶠ, 2ᶠ, 1e-11}
 use Rattle.floats.specs.Helpers.{abs}
@@ -25,7 +25,7 @@ use Rattle.least_norm.specs.declared.Outcome.the-variants.{Rank, Refused
 use Rattle.least_norm.specs.Reflector as H
 use Rattle.least_norm.specs.LeastNorm as def
 use Rattle.least_norm.specs.Promise as promise
-use Rattle.least_norm.specs.Blocks.{squares}
+use Rattle.least_norm.specs.Blocks.{squares, zeros}
 use Rattle.least_norm.proofs.Blocks.{norms-are}
 
 -- ---- a reflector on other places and entries that are the same
@@ -39,31 +39,42 @@ module _ (first : ℕ) (π ρ : ℕ → ℕ) (v0 : Float) (v w : ℕ → Float) 
   unfolding H.reflect H.less updated
   reflect-ext = rw factor-ext (between-ext _ _ _ lo hi some λ t x l u. rw (places t l u, entries t l u))
 
+-- u0's product comes first, then those of u, whose entries are one place apart
+pub reflect-run : (first p k : ℕ) (u0 : Float) (u : List Float) (q : ℕ) (utu : Float) (lo hi : ℕ) (z z1 r : List Float) (s : Float) →
+    r ≡ H.less (λ (t : ℕ). p + t * k) (2ᶠ ⊗ s ⊘ utu) (λ (t : ℕ). at u (q + t)) lo hi z1 → z1 ≡ set z first (at z first ⊖ 2ᶠ ⊗ s ⊘ utu ⊗ u0) → s ≡ sum (u0 ⊗ at z first) (λ (t : ℕ). at u (q + t * 1) ⊗ at z (p + t * k)) lo hi → lo ≤ hi →
+    r ≡ H.reflect first (λ (t : ℕ). p + t * k) u0 (λ (t : ℕ). at u (q + t)) utu lo hi z
+unfolding H.reflect H.factor
+reflect-run first p k u0 u q utu lo hi z z1 r s e w f h =
+    let g : s ≡ sum (u0 ⊗ at z first) (λ (t : ℕ). at u (q + t) ⊗ at z (p + t * k)) lo hi = f ∙ gathered-ext (add binary64) (u0 ⊗ at z first) _ lo _ hi h (λ t l m. rw (mul-one t)) in
+    rw (e, w, g)
+
 -- ---- the pivot
 
-zeros : (k t : ℕ) → t < k → at (replicate k 0ᶠ) t ≡ 0ᶠ
-zeros zero t h = absurd (not-suc-le-zero h)
-zeros (suc k) zero h = refl
-zeros (suc k) (suc t) h = zeros k t (omega arith)
+pub column-norm-run : (a : List Float) (n j m c : ℕ) (r : Float) → r ≡ sum 0ᶠ (λ (t : ℕ). at a (c + t * n) ⊗ at a (c + t * n)) j m → j ≤ m → r ≡ def.norm2 a n c j m
+unfolding def.norm2
+column-norm-run a n j m c r e h = e ∙ gathered-ext (add binary64) 0ᶠ _ j _ m h λ t l u. rw (add-comm c (t * n))
 
-pub column-norm-run : (a : List Float) (n j m c : ℕ) (s : List Float) → s ≡ squares a n c 1 (replicate 8 0ᶠ) j m → j ≤ m → at s 0 ≡ def.norm2 a n c j m
-column-norm-run a n j m c s e h = rw e (rw (add-zero c) at (norms-are a n j m c 1 (replicate 8 0ᶠ) (omega arith) h 0 (omega arith) refl))
+no-norm : (t : ℕ) → t < 4 → at zeros t ≡ 0ᶠ
+no-norm zero h = refl
+no-norm (suc zero) h = refl
+no-norm (suc (suc zero)) h = refl
+no-norm (suc (suc (suc zero))) h = refl
+no-norm (suc (suc (suc (suc t)))) h = absurd (omega arith)
 
-pub pick-block-run : (a : List Float) (m n j c k : ℕ) (best r : Pivot) (s : List Float) → r ≡ between 0 k best (λ (t : ℕ) (p : Pivot). def.picked (c + t) (at s t) p) → s ≡ squares a n c k (replicate 8 0ᶠ) j m → k ≤ 8 → j ≤ m → r ≡ between c (c + k) best (def.better a m n j)
+pub four-picked : (a : List Float) (m n j c : ℕ) (best r : Pivot) (s : List Float) → r ≡ between 0 4 best (λ (t : ℕ) (p : Pivot). def.picked (c + t) (at s t) p) → s ≡ squares a n c 4 zeros j m → j ≤ m → r ≡ between c (c + 4) best (def.better a m n j)
 unfolding def.better
-pick-block-run a m n j c k best r s e f g h =
-    e ∙ rw f (between-ext best _ _ 0 k (omega arith) λ t p l u. rw (norms-are a n j m c k (replicate 8 0ᶠ) g h t u (zeros 8 t (omega arith)))) ∙ sym (between-shift best _ c k)
+four-picked a m n j c best r s e f h =
+    e ∙ rw f (between-ext best _ _ 0 4 (omega arith) λ t p l u. rw (norms-are a n j m c 4 zeros (omega arith) h t u (no-norm t u))) ∙ sym (between-shift best _ c 4)
 
-pub find-run : (a : List Float) (m n j : ℕ) (norm : Float) (e f g : Scan) → promise.Scanned a m n j (f .next) 1 (f .best) g → promise.Scanned a m n j (e .next) 4 (e .best) f → promise.Scanned a m n j (j + 1) 8 (record { col = j; norm = norm }) e → norm ≡ def.norm2 a n j j m →
-    (g .best ≡ def.pivot a m n j) × (g .best .col < n)
+pub one-picked : (a : List Float) (m n j c k : ℕ) (best p r : Pivot) (norm : Float) → r ≡ def.picked k norm p → norm ≡ def.norm2 a n k j m → p ≡ between c k best (def.better a m n j) → c ≤ k → r ≡ between c (k + 1) best (def.better a m n j)
+unfolding def.better
+one-picked a m n j c k best p r norm e f g h = between-again best _ c k p r h g (rw f at e)
+
+pub find-run : (a : List Float) (m n j : ℕ) (norm : Float) (e : Scan) (g : Pivot) → g ≡ between (e .next) n (e .best) (def.better a m n j) → promise.Scanned a m n j (j + 1) (record { col = j; norm = norm }) e → norm ≡ def.norm2 a n j j m → g ≡ def.pivot a m n j
 unfolding def.pivot
-find-run a m n j norm e f g sg sf se en =
-    let q : g .next ≡ n = omega (arith, sg .to, sg .few) in
+find-run a m n j norm e g eg se en =
     let x : e .best ≡ between (suc j) (e .next) (record { col = j; norm = def.norm2 a n j j m }) (def.better a m n j) = rw (add-one, en) at (se .pivot) in
-    let l : suc j ≤ e .next = omega (arith, se .from) in
-    let y : f .best ≡ between (suc j) (f .next) (record { col = j; norm = def.norm2 a n j j m }) (def.better a m n j) = between-more _ _ (suc j) (e .next) (f .next) (e .best) (f .best) (sf .pivot) x l (sf .from) in
-    let z : g .best ≡ between (suc j) (g .next) (record { col = j; norm = def.norm2 a n j j m }) (def.better a m n j) = between-more _ _ (suc j) (f .next) (g .next) (f .best) (g .best) (sg .pivot) y (omega (arith, sf .from)) (sg .from) in
-    (rw q at z, omega (arith, sg .before))
+    between-more _ _ (suc j) (e .next) n (e .best) g eg x (omega (arith, se .from)) (se .to)
 
 pub brought-still : (m n j c : ℕ) (a b : List Float) (p : List ℕ) → c ≡ j → def.factors a b p ≡ def.brought m n j c (def.factors a b p)
 unfolding def.brought
@@ -75,7 +86,7 @@ brought-run m n j c a b p a1 p1 ep ea e = rw (ne-eqb c j e, ep, ea)
 
 -- ---- a column's reflector
 
-module _ (a : List Float) (m n j : ℕ) (v v1 : List Float) (sigma beta : Float) (copied : v1 ≡ updated nan (λ (row : ℕ). row) (λ (row : ℕ) (x : Float). at a (row * n + j)) j m v) (room : m ≤ length v) (low : j < m) (sums : sigma ≡ sum 0ᶠ (λ (t : ℕ). at v1 (0 + t) ⊗ at v1 (0 + t)) (j + 1) m) (signed : beta ≡ H.beta (at v1 j) sigma) where
+module _ (a : List Float) (m n j : ℕ) (v v1 : List Float) (sigma beta : Float) (copied : v1 ≡ updated nan (λ (row : ℕ). row) (λ (row : ℕ) (x : Float). at a (row * n + j)) j m v) (room : m ≤ length v) (low : j < m) (sums : sigma ≡ sum 0ᶠ (λ (t : ℕ). at v1 (0 + t * 1) ⊗ at v1 (0 + t * 1)) (j + 1) m) (signed : beta ≡ H.beta (at v1 j) sigma) where
   entry : (row : ℕ) → j ≤ row → row < m → at v1 row ≡ at a (row * n + j)
   entry row l u = rw copied (updated-here nan (λ row. row) (λ row x. at a (row * n + j)) j v (λ t w h e. omega arith) m row l u (omega arith))
 
@@ -84,7 +95,7 @@ module _ (a : List Float) (m n j : ℕ) (v v1 : List Float) (sigma beta : Float)
 
   sigma-is : sigma ≡ def.norm2 a n j (suc j) m
   unfolding def.norm2
-  sigma-is = sums ∙ rw add-one (gathered-ext (add binary64) 0ᶠ _ (suc j) _ m low λ t l u. rw (zero-add t, entry t (omega arith) u))
+  sigma-is = sums ∙ rw add-one (gathered-ext (add binary64) 0ᶠ _ (suc j) _ m low λ t l u. rw (mul-one t, zero-add t, entry t (omega arith) u))
 
   parts : record { beta = beta; v0 = at v1 j ⊖ beta; vtv = (at v1 j ⊖ beta) ⊗ (at v1 j ⊖ beta) ⊕ sigma } ≡ def.householder a m n j
   unfolding def.householder
@@ -98,12 +109,13 @@ module _ (a : List Float) (m n j : ℕ) (v v1 : List Float) (sigma beta : Float)
         below = λ row l u. getD-set-other v1 j row (at v1 j ⊖ beta) nan (λ e. omega arith) ∙ entry row (omega arith) u;
       }
 
-pub columns-run : (n j c d r : ℕ) (f : ℕ → List Float → List Float) (a a1 a2 a3 : List Float) → a3 ≡ between d r a2 f → a2 ≡ between c d a1 f → a1 ≡ between (j + 1) c a f → j + 1 ≤ c → c ≤ d → d ≤ r → r ≤ n → n < r + 1 → a3 ≡ between (suc j) n a f
-columns-run n j c d r f a a1 a2 a3 e3 e2 e1 h1 h2 h3 h4 h5 =
-    let q : r ≡ n = omega arith in
-    let x : a1 ≡ between (suc j) c a f = rw add-one at e1 in
-    let y : a2 ≡ between (suc j) d a f = between-more a f (suc j) c d a1 a2 e2 x (omega arith) h2 in
-    rw q at (between-more a f (suc j) d r a2 a3 e3 y (omega arith) h3)
+pub reflect-column-run : (m n j : ℕ) (v : List Float) (vtv : Float) (c first : ℕ) (a r : List Float) → r ≡ H.reflect first (λ (t : ℕ). c + t * n) (at v j) (λ (t : ℕ). at v (0 + t)) vtv (j + 1) m a → first ≡ j * n + c → j < m → r ≡ def.reflectColumn m n j (at v j) (λ row. at v row) vtv c a
+unfolding def.reflectColumn
+reflect-column-run m n j v vtv c first a r e f h =
+    e ∙ rw (f, add-one) (reflect-ext (j * n + c) (λ t. c + t * n) (λ row. row * n + c) (at v j) (λ t. at v (0 + t)) (λ row. at v row) vtv (suc j) m a h (λ t l u. add-comm c (t * n)) (λ t l u. rw (zero-add t)))
+
+pub columns-run : (n j c : ℕ) (f : ℕ → List Float → List Float) (a a1 a2 : List Float) → a2 ≡ between c n a1 f → a1 ≡ between (j + 1) c a f → j + 1 ≤ c → c ≤ n → a2 ≡ between (suc j) n a f
+columns-run n j c f a a1 a2 e2 e1 h1 h2 = let x : a1 ≡ between (suc j) c a f = rw add-one at e1 in between-more a f (suc j) c n a1 a2 e2 x (omega arith) h2
 
 module _ (m n j : ℕ) (a b v : List Float) (h : Householder) (refl-of : promise.Reflects a m n j h v) (low : j < m) (small : j < n) where
   columns-same : between (suc j) n a (def.reflectColumn m n j (at v j) (λ row. at v row) (h .vtv)) ≡ between (suc j) n a (def.reflectColumn m n j (h .v0) (λ row. at a (row * n + j)) (h .vtv))
@@ -112,14 +124,14 @@ module _ (m n j : ℕ) (a b v : List Float) (h : Householder) (refl-of : promise
       between-ext a _ _ (suc j) n small λ c x l u.
       rw (refl-of .first) (reflect-ext (j * n + c) (λ row. row * n + c) (λ row. row * n + c) (h .v0) (λ row. at v row) (λ row. at a (row * n + j)) (h .vtv) (suc j) m x low (λ t l u. refl) (refl-of .below))
 
-  side-same : H.reflect j (λ (t : ℕ). 0 + t) (h .v0) (λ (t : ℕ). at v (0 + t)) (h .vtv) (suc j) m b ≡ H.reflect j (λ row. row) (h .v0) (λ row. at a (row * n + j)) (h .vtv) (suc j) m b
-  side-same = reflect-ext j (λ t. 0 + t) (λ row. row) (h .v0) (λ t. at v (0 + t)) (λ row. at a (row * n + j)) (h .vtv) (suc j) m b low (λ t l u. zero-add t) (λ t l u. rw (zero-add t) (refl-of .below t l u))
+  side-same : H.reflect j (λ (t : ℕ). 0 + t * 1) (h .v0) (λ (t : ℕ). at v (0 + t)) (h .vtv) (suc j) m b ≡ H.reflect j (λ row. row) (h .v0) (λ row. at a (row * n + j)) (h .vtv) (suc j) m b
+  side-same = reflect-ext j (λ t. 0 + t * 1) (λ row. row) (h .v0) (λ t. at v (0 + t)) (λ row. at a (row * n + j)) (h .vtv) (suc j) m b low (λ t l u. rw (mul-one t, zero-add t)) (λ t l u. rw (zero-add t) (refl-of .below t l u))
 
-  pub eliminated-run : (p : List ℕ) (a1 a2 a3 b1 : List Float) → a3 ≡ def.zeroBelow n j a2 m → a2 ≡ set a1 (j * n + j) (h .beta) → b1 ≡ H.reflect j (λ (t : ℕ). 0 + t) (h .v0) (λ (t : ℕ). at v (0 + t)) (h .vtv) (j + 1) m b →
+  pub eliminated-run : (p : List ℕ) (a1 a2 a3 b1 : List Float) → a3 ≡ def.zeroBelow n j a2 m → a2 ≡ set a1 (j * n + j) (h .beta) → b1 ≡ H.reflect j (λ (t : ℕ). 0 + t * 1) (h .v0) (λ (t : ℕ). at v (0 + t)) (h .vtv) (j + 1) m b →
       a1 ≡ between (suc j) n a (def.reflectColumn m n j (at v j) (λ row. at v row) (h .vtv)) → def.factors a3 b1 p ≡ def.eliminated m n j (def.factors a b p)
   unfolding def.eliminated
   eliminated-run p a1 a2 a3 b1 e3 e2 eb e1 =
-      let x : b1 ≡ H.reflect j (λ (t : ℕ). 0 + t) (h .v0) (λ (t : ℕ). at v (0 + t)) (h .vtv) (suc j) m b = rw add-one at eb in
+      let x : b1 ≡ H.reflect j (λ (t : ℕ). 0 + t * 1) (h .v0) (λ (t : ℕ). at v (0 + t)) (h .vtv) (suc j) m b = rw add-one at eb in
       rw (e3, e2, x, e1, columns-same, side-same, refl-of .parts)
 
 pub reduce-run : (m n j : ℕ) (a b : List Float) (p : List ℕ) (a2 b1 a1 : List Float) (p1 : List ℕ) (q : Pivot) →
@@ -186,9 +198,9 @@ module _ (n rank i : ℕ) (p : ℕ) (start : p ≡ i * n + 0) where
   row : p ≡ i * n
   row = omega arith
 
-  pub row-norm-run : (a : List Float) (s r : Float) → r ≡ sum s (λ (t : ℕ). at a (p + t) ⊗ at a (p + t)) rank n → r ≡ def.rowNorm2 n rank i a s
+  pub row-norm-run : (a : List Float) (s r : Float) → r ≡ sum s (λ (t : ℕ). at a (p + t * 1) ⊗ at a (p + t * 1)) rank n → rank ≤ n → r ≡ def.rowNorm2 n rank i a s
   unfolding def.rowNorm2
-  row-norm-run a s r e = rw row at e
+  row-norm-run a s r e h = e ∙ rw row (gathered-ext (add binary64) s _ rank _ n h λ t l u. rw (mul-one t))
 
   pub kept-run : (q : ℕ) (a right right1 : List Float) → right1 ≡ updated nan (λ (t : ℕ). q + t) (λ (t : ℕ) (v : Float). at a (p + t)) rank n right → q ≡ i * n + 0 → right1 ≡ def.keptRow n rank i a right
   unfolding def.keptRow
@@ -198,15 +210,17 @@ module _ (n rank i : ℕ) (p : ℕ) (start : p ≡ i * n + 0) where
   unfolding def.known
   known-run a b y r e h = e ∙ rw (add-one, row) (gathered-ext (sub binary64) (at b i) _ (suc i) _ rank h λ t l u. rw (zero-add t))
 
-  pub reflect-row-run : (right : List Float) (u0 utu : Float) (k q first : ℕ) (a a1 : List Float) → a1 ≡ H.reflect first (λ (t : ℕ). q + t) u0 (λ (t : ℕ). at right (p + t)) utu rank n a → q ≡ k * n + 0 → first ≡ k * n + i → a1 ≡ def.reflectRow n rank i right u0 utu k a
+  pub reflect-row-run : (right : List Float) (u0 utu : Float) (k q first : ℕ) (a a1 : List Float) → a1 ≡ H.reflect first (λ (t : ℕ). q + t * 1) u0 (λ (t : ℕ). at right (p + t)) utu rank n a → q ≡ k * n + 0 → first ≡ k * n + i → rank ≤ n → a1 ≡ def.reflectRow n rank i right u0 utu k a
   unfolding def.reflectRow
-  reflect-row-run right u0 utu k q first a a1 e f g = let h : q ≡ k * n = omega arith in rw (row, h, g) at e
+  reflect-row-run right u0 utu k q first a a1 e f g h =
+      let r : q ≡ k * n = omega arith in
+      e ∙ rw (row, r, g) (reflect-ext (k * n + i) (λ t. k * n + t * 1) (λ c. k * n + c) u0 (λ t. at right (i * n + t)) (λ c. at right (i * n + c)) utu rank n a h (λ t l u. rw (mul-one t)) (λ t l u. refl))
 
-  pub turn-run : (right y y1 : List Float) (u0 utu : Float) → y1 ≡ H.reflect i (λ (t : ℕ). 0 + t) u0 (λ (t : ℕ). at right (p + t)) utu rank n y → eq utu 0ᶠ ≡ false → utu ≡ def.rowNorm2 n rank i right (u0 ⊗ u0) → u0 ≡ at right (i * n + i) → rank ≤ n → y1 ≡ def.turn n rank right i y
+  pub turn-run : (right y y1 : List Float) (u0 utu : Float) → y1 ≡ H.reflect i (λ (t : ℕ). 0 + t * 1) u0 (λ (t : ℕ). at right (p + t)) utu rank n y → eq utu 0ᶠ ≡ false → utu ≡ def.rowNorm2 n rank i right (u0 ⊗ u0) → u0 ≡ at right (i * n + i) → rank ≤ n → y1 ≡ def.turn n rank right i y
   unfolding def.turn
   turn-run right y y1 u0 utu e h d u l =
       let q : eq (def.rowNorm2 n rank i right (at right (i * n + i) ⊗ at right (i * n + i))) 0ᶠ ≡ false = rw (← u, ← d) h in
-      e ∙ rw (row, q, ← u, ← d) (reflect-ext i (λ t. 0 + t) (λ t. t) u0 (λ t. at right (i * n + t)) (λ t. at right (i * n + t)) utu rank n y l (λ t l u. zero-add t) (λ t l u. refl))
+      e ∙ rw (row, q, ← u, ← d) (reflect-ext i (λ t. 0 + t * 1) (λ t. t) u0 (λ t. at right (i * n + t)) (λ t. at right (i * n + t)) utu rank n y l (λ t l u. rw (mul-one t, zero-add t)) (λ t l u. refl))
 
 pub turn-still : (n rank : ℕ) (right : List Float) (i : ℕ) (y : List Float) (utu u0 : Float) → eq utu 0ᶠ ≡ true → utu ≡ def.rowNorm2 n rank i right (u0 ⊗ u0) → u0 ≡ at right (i * n + i) → y ≡ def.turn n rank right i y
 unfolding def.turn

@@ -20,6 +20,9 @@ module _ (a : List Float) (n c k : ℕ) (s₀ : List Float) (j : ℕ) where
   unfolding squares
   squares-start = between-from _ _ _
 
+  pub squares-from : (s : List Float) → s ≡ s₀ → s ≡ squares a n c k s₀ j j
+  squares-from s e = e ∙ squares-start
+
   pub squares-again : (i p : ℕ) (s x : List Float) → x ≡ updated nan (λ (t : ℕ). t) (λ (t : ℕ) (v : Float). v ⊕ at a (p + t) ⊗ at a (p + t)) 0 k s → s ≡ squares a n c k s₀ j i → p ≡ i * n + c → j ≤ i → x ≡ squares a n c k s₀ j (i + 1)
   unfolding squares
   squares-again i p s x g e q h = between-again _ _ j i s x h e (rw (← q) g)

@@ -1,12 +1,20 @@
 -- The same operations in another order: k adjacent columns, from column c on, together and row by row. Each scalar keeps its operations and their order
 -- (proofs/Blocks.antt). Definitions only.
 use Prim.Native.Nat.{ℕ, _+_, _*_}
-use mathlib.Core.List.{List}
+use mathlib.Core.List.{List, [], _∷_}
 use lib.Ieee.{Float, nan}
 use Rattle.loops.specs.Loops.{between}
 use Rattle.loops.specs.Updates.{updated}
-use Rattle.floats.specs.Ops.{_⊕_, _⊗_, at}
+use Rattle.floats.specs.Ops.{_⊕_, _⊗_, at, 0ᶠ}
 use Rattle.least_norm.specs.Reflector.{less}
+use Rattle.least_norm.specs.declared.Four.{Four}
+
+-- four entries as a list, and four zeros
+abbrev pub lanes : Four → List Float
+lanes s = s .a ∷ s .b ∷ s .c ∷ s .d ∷ []
+
+abbrev pub zeros : List Float
+zeros = 0ᶠ ∷ 0ᶠ ∷ 0ᶠ ∷ 0ᶠ ∷ []
 
 -- to s t the squares of column c + t, from row `from` up to row m
 unfoldable pub squares : List Float → ℕ → ℕ → ℕ → List Float → ℕ → ℕ → List Float

@@ -2,3 +2,4 @@ pub mod Reflector
 pub mod LeastNorm
 pub mod Promise
 pub mod Blocks
+pub mod Examples

@@ -90,6 +90,10 @@ Place m n i j r = (r ≡ i * n + j) × (r + n ≤ m * n + j)
 abbrev pub Part : List Float → ℕ → ℕ → ℕ → Type 0
 Part x p lo hi = (lo ≤ hi) × (p + hi ≤ length x)
 
+-- x has the places p + lo * k, p + (lo + 1) * k, .. up to hi
+abbrev pub Strided : List Float → ℕ → ℕ → ℕ → ℕ → Type 0
+Strided x p k lo hi = (lo ≤ hi) × (p + hi * k < length x + k)
+
 -- room for the reduction: b has m entries, perm n, and v at least m
 abbrev pub Reducing : List Float → ℕ → ℕ → List Float → List ℕ → List Float → Type 0
 Reducing a m n b perm v = (length a ≡ m * n) × (m ≤ 32) × (n ≤ 32) × (length b ≡ m) × (length perm ≡ n) × (m ≤ length v)
@@ -101,13 +105,12 @@ Trapezoidal a m n rank right = (length a ≡ m * n) × (m ≤ 32) × (n ≤ 32) 
 abbrev pub Turning : List Float → ℕ → ℕ → List Float → Type 0
 Turning right n rank y = (length right ≡ rank * n) × (n ≤ 32) × (rank ≤ n) × (length y ≡ n)
 
--- the pivot of the columns from c on to the next one, from a pivot before them; fewer than k columns are left
-pub record Scanned (a : List Float) (m n j c k : ℕ) (best : Pivot) (r : Scan) : Type 0 where
+-- the pivot of the columns from c on to the next one, from a pivot before them
+pub record Scanned (a : List Float) (m n j c : ℕ) (best : Pivot) (r : Scan) : Type 0 where
   pub pivot : r .best ≡ between c (r .next) best (def.better a m n j)
   pub before : r .best .col < r .next
   pub from : c ≤ r .next
   pub to : r .next ≤ n
-  pub few : n < r .next + k
 
 -- v is column j's reflector h, from row j to row m
 pub record Reflects (a : List Float) (m n j : ℕ) (h : Householder) (v : List Float) : Type 0 where

@@ -1,4 +1,4 @@
-// A column's reflector, applied to the columns after it and to b. The reflector is copied to v, entry by row, and adjacent columns are
+// A column's reflector, applied to the columns after it and to b. The reflector is copied to v, entry by row, and four adjacent columns are
 // reflected together, row by row: each scalar keeps its operations and their order.
 ghost use mathlib.Core.Path.{_≡_};
 ghost use mathlib.Core.List.{List};
@@ -12,7 +12,9 @@ ghost use Rattle.least_norm.specs.Reflector.{factor};
 ghost use Rattle.least_norm.specs.LeastNorm as def;
 ghost use Rattle.least_norm.specs.Blocks as blocks;
 ghost use Rattle.least_norm.specs.Promise.{Matrix, Reflects};
+use crate::Four;
 use crate::Householder;
+use crate::lanes;
 use crate::place;
 use crate::reflect;
 use crate::vector;
@@ -36,7 +38,7 @@ fn householder(a: &[f64], m: usize, n: usize, j: usize, v: &mut [f64]) -> Househ
 {
     copy_column(a, m, n, j, v);
     let alpha = v[j];
-    let sigma = vector::dot(0.0, v, 0, v, 0, j + 1, m);
+    let sigma = vector::dot(0.0, v, 0, 1, v, 0, 1, j + 1, m);
     let beta = reflect::beta(alpha, sigma);
     let v0 = alpha - beta;
     v[j] = v0;
@@ -47,101 +49,94 @@ fn householder(a: &[f64], m: usize, n: usize, j: usize, v: &mut [f64]) -> Househ
     }
 }
 
-// Adds to s the products of v with k columns from column c on, from row `from` down.
-fn add_products(
-    a: &[f64],
-    m: usize,
-    n: usize,
-    from: usize,
-    c: usize,
-    k: usize,
-    v: &[f64],
-    s: &mut [f64],
-)
-    requires { ⌜ Matrix (now a) m n × (from ≤ m) × (c + k ≤ n) × (m ≤ length (now v)) × (k ≤ length (now s)) ⌝ }
-    ensures { λ r. ⌜ now (s .exit) ≡ blocks.products (now (a .entry)) n c k (now (v .entry)) (now (s .entry)) from m ⌝ }
+// Adds to s the products of v with four columns from column c on, from row `from` down.
+fn add_products(a: &[f64], m: usize, n: usize, from: usize, c: usize, v: &[f64], s: Four) -> Four
+    requires { ⌜ Matrix (now a) m n × (from ≤ m) × (c + 4 ≤ n) × (m ≤ length (now v)) ⌝ }
+    ensures { λ r. ⌜ blocks.lanes r ≡ blocks.products (now (a .entry)) n c 4 (now (v .entry)) (blocks.lanes s) from m ⌝ }
 {
+    let mut r = s;
     let mut row = from;
     while row < m {
         let p = place::place(m, n, row, c);
-        vector::add_scaled(s, v[row], a, p, k);
+        r = lanes::add_scaled(r, v[row], a, p);
         row += 1;
     }
+    r
 }
 
-// The factors of k columns from column c on: 2 * (v · column) / vtv.
-fn block_factors(
-    a: &[f64],
-    m: usize,
-    n: usize,
-    j: usize,
-    c: usize,
-    k: usize,
-    v: &[f64],
-    vtv: f64,
-    s: &mut [f64],
-)
-    requires { ⌜ Matrix (now a) m n × (j < m) × (c + k ≤ n) × (m ≤ length (now v)) × (k ≤ length (now s)) ⌝ }
-    ensures { λ r. ⌜ ((t : ℕ) → t < k → at (now (s .exit)) t ≡ factor (j * n + (c + t)) (λ (row : ℕ). row * n + (c + t)) (at (now (v .entry)) j) (λ (row : ℕ). at (now (v .entry)) row) vtv (suc j) m (now (a .entry))) ⌝ }
+// The factors of four columns from column c on: 2 * (v · column) / vtv.
+fn column_factors(a: &[f64], m: usize, n: usize, j: usize, c: usize, v: &[f64], vtv: f64) -> Four
+    requires { ⌜ Matrix (now a) m n × (j < m) × (c + 4 ≤ n) × (m ≤ length (now v)) ⌝ }
+    ensures { λ r. ⌜ ((t : ℕ) → t < 4 → at (blocks.lanes r) t ≡ factor (j * n + (c + t)) (λ (row : ℕ). row * n + (c + t)) (at (now (v .entry)) j) (λ (row : ℕ). at (now (v .entry)) row) vtv (suc j) m (now (a .entry))) ⌝ }
 {
     let p = place::place(m, n, j, c);
-    vector::scaled(s, v[j], a, p, k);
-    add_products(a, m, n, j + 1, c, k, v, s);
-    vector::factors(s, vtv, k);
+    let first = lanes::scaled(v[j], a, p);
+    let s = add_products(a, m, n, j + 1, c, v, first);
+    lanes::factors(s, vtv)
 }
 
-// Each row from row j down less v's entry times the factors f of its k entries from column c on.
-fn less_rows(a: &mut [f64], m: usize, n: usize, j: usize, c: usize, k: usize, v: &[f64], f: &[f64])
-    requires { ⌜ Matrix (now a) m n × (j < m) × (c + k ≤ n) × (m ≤ length (now v)) × (k ≤ length (now f)) ⌝ }
-    ensures { λ r. ⌜ now (a .exit) ≡ blocks.lessRows n c k (now (v .entry)) (now (f .entry)) (now (a .entry)) j m ⌝ }
+// Each row from row j down less v's entry times the factors f of its four entries from column c on.
+fn less_rows(a: &mut [f64], m: usize, n: usize, j: usize, c: usize, v: &[f64], f: Four)
+    requires { ⌜ Matrix (now a) m n × (j < m) × (c + 4 ≤ n) × (m ≤ length (now v)) ⌝ }
+    ensures { λ r. ⌜ now (a .exit) ≡ blocks.lessRows n c 4 (now (v .entry)) (blocks.lanes f) (now (a .entry)) j m ⌝ }
 {
     let mut row = j;
     while row < m {
         let p = place::place(m, n, row, c);
-        vector::less_scaled(a, p, v[row], f, 0, 0, k);
+        lanes::less_lanes(a, p, v[row], f);
         row += 1;
     }
 }
 
-// H applied to k columns from column c on.
-fn reflect_block(
-    a: &mut [f64],
-    m: usize,
-    n: usize,
-    j: usize,
-    c: usize,
-    k: usize,
-    v: &[f64],
-    vtv: f64,
-)
-    requires { ⌜ Matrix (now a) m n × (j < m) × (c + k ≤ n) × (k ≤ 8) × (0 < k) × (m ≤ length (now v)) ⌝ }
-    ensures { λ r. ⌜ now (a .exit) ≡ between c (c + k) (now (a .entry)) (def.reflectColumn m n j (at (now (v .entry)) j) (λ (row : ℕ). at (now (v .entry)) row) vtv) ⌝ }
+// H applied to four columns from column c on.
+fn reflect_four(a: &mut [f64], m: usize, n: usize, j: usize, c: usize, v: &[f64], vtv: f64)
+    requires { ⌜ Matrix (now a) m n × (j < m) × (c + 4 ≤ n) × (m ≤ length (now v)) ⌝ }
+    ensures { λ r. ⌜ now (a .exit) ≡ between c (c + 4) (now (a .entry)) (def.reflectColumn m n j (at (now (v .entry)) j) (λ (row : ℕ). at (now (v .entry)) row) vtv) ⌝ }
 {
-    let mut f = [0.0f64; 8];
-    block_factors(a, m, n, j, c, k, v, vtv, &mut f);
-    less_rows(a, m, n, j, c, k, v, &f);
+    let f = column_factors(a, m, n, j, c, v, vtv);
+    less_rows(a, m, n, j, c, v, f);
 }
 
-// The same for as many blocks of k columns as there are. Returns the column after them.
-fn reflect_blocks(
+// The same for as many four columns as there are. Returns the column after them.
+fn reflect_fours(
     a: &mut [f64],
     m: usize,
     n: usize,
     j: usize,
     c: usize,
-    k: usize,
     v: &[f64],
     vtv: f64,
 ) -> usize
-    requires { ⌜ Matrix (now a) m n × (j < m) × (c ≤ n) × (k ≤ 8) × (0 < k) × (m ≤ length (now v)) ⌝ }
-    ensures { λ r. ⌜ (now (a .exit) ≡ between c r (now (a .entry)) (def.reflectColumn m n j (at (now (v .entry)) j) (λ (row : ℕ). at (now (v .entry)) row) vtv)) × (c ≤ r) × (r ≤ n) × (n < r + k) ⌝ }
+    requires { ⌜ Matrix (now a) m n × (j < m) × (c ≤ n) × (m ≤ length (now v)) ⌝ }
+    ensures { λ r. ⌜ (now (a .exit) ≡ between c r (now (a .entry)) (def.reflectColumn m n j (at (now (v .entry)) j) (λ (row : ℕ). at (now (v .entry)) row) vtv)) × (c ≤ r) × (r ≤ n) ⌝ }
 {
     let mut next = c;
-    while next + k <= n {
-        reflect_block(a, m, n, j, next, k, v, vtv);
-        next += k;
+    while next + 4 <= n {
+        reflect_four(a, m, n, j, next, v, vtv);
+        next += 4;
     }
     next
+}
+
+// H applied to column c.
+fn reflect_column(a: &mut [f64], m: usize, n: usize, j: usize, c: usize, v: &[f64], vtv: f64)
+    requires { ⌜ Matrix (now a) m n × (j < m) × (c < n) × (m ≤ length (now v)) ⌝ }
+    ensures { λ r. ⌜ now (a .exit) ≡ def.reflectColumn m n j (at (now (v .entry)) j) (λ (row : ℕ). at (now (v .entry)) row) vtv c (now (a .entry)) ⌝ }
+{
+    let first = place::place(m, n, j, c);
+    reflect::reflect(a, first, c, n, v[j], v, 0, vtv, j + 1, m);
+}
+
+// The same for all columns from column c on, one by one.
+fn reflect_each(a: &mut [f64], m: usize, n: usize, j: usize, c: usize, v: &[f64], vtv: f64)
+    requires { ⌜ Matrix (now a) m n × (j < m) × (c ≤ n) × (m ≤ length (now v)) ⌝ }
+    ensures { λ r. ⌜ now (a .exit) ≡ between c n (now (a .entry)) (def.reflectColumn m n j (at (now (v .entry)) j) (λ (row : ℕ). at (now (v .entry)) row) vtv) ⌝ }
+{
+    let mut next = c;
+    while next < n {
+        reflect_column(a, m, n, j, next, v, vtv);
+        next += 1;
+    }
 }
 
 // The same for all columns after column j.
@@ -149,9 +144,8 @@ fn reflect_columns(a: &mut [f64], m: usize, n: usize, j: usize, v: &[f64], vtv: 
     requires { ⌜ Matrix (now a) m n × (j < m) × (j < n) × (m ≤ length (now v)) ⌝ }
     ensures { λ r. ⌜ now (a .exit) ≡ between (suc j) n (now (a .entry)) (def.reflectColumn m n j (at (now (v .entry)) j) (λ (row : ℕ). at (now (v .entry)) row) vtv) ⌝ }
 {
-    let c = reflect_blocks(a, m, n, j, j + 1, 8, v, vtv);
-    let d = reflect_blocks(a, m, n, j, c, 4, v, vtv);
-    reflect_blocks(a, m, n, j, d, 1, v, vtv);
+    let c = reflect_fours(a, m, n, j, j + 1, v, vtv);
+    reflect_each(a, m, n, j, c, v, vtv);
 }
 
 fn zero_below(a: &mut [f64], m: usize, n: usize, j: usize)
@@ -172,7 +166,7 @@ pub fn eliminate(a: &mut [f64], m: usize, n: usize, j: usize, b: &mut [f64], v: 
 {
     let h = householder(a, m, n, j, v);
     reflect_columns(a, m, n, j, v, h.vtv);
-    reflect::reflect(b, j, 0, h.v0, v, 0, h.vtv, j + 1, m);
+    reflect::reflect(b, j, 0, 1, h.v0, v, 0, h.vtv, j + 1, m);
     place::put(a, m, n, j, j, h.beta);
     zero_below(a, m, n, j);
 }

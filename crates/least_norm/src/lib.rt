@@ -9,6 +9,7 @@ ghost use Rattle.least_norm.specs.LeastNorm as def;
 ghost use Rattle.least_norm.specs.Promise as promise;
 
 mod columns;
+mod lanes;
 mod pivoting;
 mod place;
 mod rank;
@@ -21,6 +22,14 @@ mod vector;
 pub struct Pivot {
     pub col: usize,
     pub norm: f64,
+}
+
+// Four adjacent entries.
+pub struct Four {
+    pub a: f64,
+    pub b: f64,
+    pub c: f64,
+    pub d: f64,
 }
 
 // The pivot among the columns before `next`.

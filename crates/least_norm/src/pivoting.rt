@@ -1,5 +1,5 @@
-// The column of greatest remaining norm, brought to its place. Norms of adjacent columns are summed together, row by row: each norm is the
-// same sum as by itself, and the compiler keeps several in one register.
+// The column of greatest remaining norm, brought to its place. Norms of four adjacent columns are summed together, row by row: each norm is
+// the same sum as by itself.
 ghost use mathlib.Core.Path.{_≡_};
 ghost use mathlib.Core.List.{List};
 ghost use Prim.Native.Nat.{ℕ, _+_, _*_, _≤_, _<_};
@@ -8,34 +8,36 @@ ghost use lib.Ieee.{Float, nan};
 ghost use Rattle.loops.specs.Loops.{between, swap};
 ghost use Rattle.floats.specs.Ops.{at};
 ghost use Rattle.least_norm.specs.LeastNorm as def;
-ghost use Rattle.least_norm.specs.Blocks as blocks;
+ghost use Rattle.least_norm.specs.Blocks.{lanes, zeros, squares};
 ghost use Rattle.least_norm.specs.Promise.{Matrix, Scanned};
+use crate::Four;
 use crate::Pivot;
 use crate::Scan;
+use crate::lanes;
 use crate::place;
 use crate::vector;
-
-// Adds to s the squares of k columns from column c on, from row j down.
-fn add_columns(a: &[f64], m: usize, n: usize, j: usize, c: usize, k: usize, s: &mut [f64])
-    requires { ⌜ Matrix (now a) m n × (j ≤ m) × (c + k ≤ n) × (k ≤ length (now s)) ⌝ }
-    ensures { λ r. ⌜ now (s .exit) ≡ blocks.squares (now (a .entry)) n c k (now (s .entry)) j m ⌝ }
-{
-    let mut row = j;
-    while row < m {
-        let p = place::place(m, n, row, c);
-        vector::add_squares(s, a, p, k);
-        row += 1;
-    }
-}
 
 // The squared norm of column c, from row j down.
 fn column_norm2(a: &[f64], m: usize, n: usize, c: usize, j: usize) -> f64
     requires { ⌜ Matrix (now a) m n × (j ≤ m) × (c < n) ⌝ }
     ensures { λ r. ⌜ r ≡ def.norm2 (now (a .entry)) n c j m ⌝ }
 {
-    let mut s = [0.0f64; 8];
-    add_columns(a, m, n, j, c, 1, &mut s);
-    s[0]
+    vector::dot(0.0, a, c, n, a, c, n, j, m)
+}
+
+// The squared norms of four columns from column c on, from row j down.
+fn column_norms(a: &[f64], m: usize, n: usize, c: usize, j: usize) -> Four
+    requires { ⌜ Matrix (now a) m n × (j ≤ m) × (c + 4 ≤ n) ⌝ }
+    ensures { λ r. ⌜ lanes r ≡ squares (now (a .entry)) n c 4 zeros j m ⌝ }
+{
+    let mut s = lanes::none();
+    let mut row = j;
+    while row < m {
+        let p = place::place(m, n, row, c);
+        s = lanes::add_squares(s, a, p);
+        row += 1;
+    }
+    s
 }
 
 // The better of the pivot so far and column c, whose norm is given; the first of equals.
@@ -50,45 +52,48 @@ fn picked(c: usize, norm: f64, best: Pivot) -> Pivot
     }
 }
 
-// The same for k columns from column c on, whose norms s has.
-fn pick(c: usize, k: usize, s: &[f64], best: Pivot) -> Pivot
-    requires { ⌜ (k ≤ length (now s)) × (c + k ≤ 32) × (best .col < c) ⌝ }
-    ensures { λ r. ⌜ (r ≡ between 0 k best (λ (t : ℕ) (p : Pivot). def.picked (c + t) (at (now (s .entry)) t) p)) × (r .col < c + k) ⌝ }
+// The same for four columns from column c on, whose norms s has.
+fn pick_lanes(c: usize, s: Four, best: Pivot) -> Pivot
+    requires { ⌜ (c + 4 ≤ 32) × (best .col < c) ⌝ }
+    ensures { λ r. ⌜ (r ≡ between 0 4 best (λ (t : ℕ) (p : Pivot). def.picked (c + t) (at (lanes s) t) p)) × (r .col < c + 4) ⌝ }
 {
-    let mut p = best;
-    let mut t = 0;
-    while t < k {
-        p = picked(c + t, s[t], p);
-        t += 1;
-    }
-    p
+    let p = picked(c, s.a, best);
+    let q = picked(c + 1, s.b, p);
+    let r = picked(c + 2, s.c, q);
+    picked(c + 3, s.d, r)
 }
 
-// The same for k columns of a.
-fn pick_block(a: &[f64], m: usize, n: usize, j: usize, c: usize, k: usize, best: Pivot) -> Pivot
-    requires { ⌜ Matrix (now a) m n × (j ≤ m) × (c + k ≤ n) × (k ≤ 8) × (best .col < c) ⌝ }
-    ensures { λ r. ⌜ (r ≡ between c (c + k) best (def.better (now (a .entry)) m n j)) × (r .col < c + k) ⌝ }
-{
-    let mut s = [0.0f64; 8];
-    add_columns(a, m, n, j, c, k, &mut s);
-    pick(c, k, &s, best)
-}
-
-// The same for as many blocks of k columns as there are.
-fn pick_blocks(a: &[f64], m: usize, n: usize, j: usize, c: usize, k: usize, best: Pivot) -> Scan
-    requires { ⌜ Matrix (now a) m n × (j ≤ m) × (c ≤ n) × (0 < k) × (k ≤ 8) × (best .col < c) ⌝ }
-    ensures { λ r. ⌜ Scanned (now (a .entry)) m n j c k best r ⌝ }
+// The same for as many four columns of a as there are.
+fn pick_fours(a: &[f64], m: usize, n: usize, j: usize, c: usize, best: Pivot) -> Scan
+    requires { ⌜ Matrix (now a) m n × (j ≤ m) × (c ≤ n) × (best .col < c) ⌝ }
+    ensures { λ r. ⌜ Scanned (now (a .entry)) m n j c best r ⌝ }
 {
     let mut p = best;
     let mut next = c;
-    while next + k <= n {
-        p = pick_block(a, m, n, j, next, k, p);
-        next += k;
+    while next + 4 <= n {
+        let s = column_norms(a, m, n, next, j);
+        p = pick_lanes(next, s, p);
+        next += 4;
     }
     Scan {
         best: p,
         next: next,
     }
+}
+
+// The same for all columns from column c on, one by one.
+fn pick_each(a: &[f64], m: usize, n: usize, j: usize, c: usize, best: Pivot) -> Pivot
+    requires { ⌜ Matrix (now a) m n × (j ≤ m) × (c ≤ n) × (best .col < c) ⌝ }
+    ensures { λ r. ⌜ (r ≡ between c n best (def.better (now (a .entry)) m n j)) × (r .col < n) ⌝ }
+{
+    let mut p = best;
+    let mut next = c;
+    while next < n {
+        let norm = column_norm2(a, m, n, next, j);
+        p = picked(next, norm, p);
+        next += 1;
+    }
+    p
 }
 
 // The column of greatest norm from row j down, from column j on; the first of equals.
@@ -97,10 +102,8 @@ pub fn find_pivot(a: &[f64], m: usize, n: usize, j: usize) -> Pivot
     ensures { λ r. ⌜ (r ≡ def.pivot (now (a .entry)) m n j) × (r .col < n) ⌝ }
 {
     let norm = column_norm2(a, m, n, j, j);
-    let e = pick_blocks(a, m, n, j, j + 1, 8, Pivot { col: j, norm: norm });
-    let f = pick_blocks(a, m, n, j, e.next, 4, e.best);
-    let g = pick_blocks(a, m, n, j, f.next, 1, f.best);
-    g.best
+    let e = pick_fours(a, m, n, j, j + 1, Pivot { col: j, norm: norm });
+    pick_each(a, m, n, j, e.next, e.best)
 }
 
 fn swap_cells(a: &mut [f64], m: usize, n: usize, row: usize, j: usize, c: usize)

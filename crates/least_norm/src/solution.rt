@@ -41,7 +41,7 @@ fn turn(right: &[f64], n: usize, rank: usize, i: usize, y: &mut [f64])
         return;
     }
     let q = place::place(rank, n, i, 0);
-    reflect::reflect(y, i, 0, u0, right, q, utu, rank, n);
+    reflect::reflect(y, i, 0, 1, u0, right, q, utu, rank, n);
 }
 
 fn turn_each(right: &[f64], n: usize, rank: usize, y: &mut [f64])

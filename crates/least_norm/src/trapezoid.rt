@@ -28,7 +28,7 @@ fn reflect_row(
     let first = place::place(m, n, row, i);
     let p = place::place(m, n, row, 0);
     let q = place::place(rank, n, i, 0);
-    reflect::reflect(a, first, p, u0, right, q, utu, rank, n);
+    reflect::reflect(a, first, p, 1, u0, right, q, utu, rank, n);
 }
 
 fn reflect_rows(
@@ -57,7 +57,7 @@ pub fn row_norm2(a: &[f64], m: usize, n: usize, rank: usize, i: usize, s: f64) -
     ensures { λ r. ⌜ r ≡ def.rowNorm2 n rank i (now (a .entry)) s ⌝ }
 {
     let p = place::place(m, n, i, 0);
-    vector::dot(s, a, p, a, p, rank, n)
+    vector::dot(s, a, p, 1, a, p, 1, rank, n)
 }
 
 // Keeps in `right` row i past the rank.

@@ -1,18 +1,18 @@
 -- `least_norm::columns::add_products` meets its contract. Assumes nothing.
 use Prim.Native.Nat.{_-_, _≤_}
 use borrow.Author.Needs.{needs}
-use lib.ListN.{length}
 use mathlib.Core.Path.{_≡_}
+use native.Mathlib.Omega.{arith}
 use Rattle.least_norm.proofs.Steps.{products-start, products-again, products-done}
-use Rattle.least_norm.specs.Blocks.{products}
+use Rattle.least_norm.specs.Blocks.{lanes, products}
 use Rattle.least_norm.proofs.columns.add_products.Statement.{statement}
 use Rattle.least_norm.proofs.columns.add_products.Tie as tie
 
 abbrev Inv-loop : tie.InvT-loop
-Inv-loop a m n from c k v s₀ row₀ s row = (from ≤ row) × (row ≤ m) × (length s ≡ length s₀) × (s ≡ products a n c k v s₀ from row)
+Inv-loop a m n from c v r₀ row₀ r row = (from ≤ row) × (row ≤ m) × (lanes r ≡ products a n c 4 v (lanes r₀) from row)
 
 abbrev μ-loop : tie.MeasureT-loop
-μ-loop a m n from c k v s₀ row₀ s row = m - row
+μ-loop a m n from c v r₀ row₀ r row = m - row
 
 loop-holds : tie.Need-loop-holds Inv-loop μ-loop
 loop-holds c = search (products-start, needs)
@@ -36,10 +36,7 @@ loop-less : tie.Need-loop-less Inv-loop μ-loop
 loop-less c = search needs
 
 loop-again : tie.Need-loop-again Inv-loop μ-loop
-loop-again c = search (products-again, needs)
-
-same-length : tie.Need-same-length Inv-loop μ-loop
-same-length c = search needs
+loop-again c = (omega arith, omega arith, products-again _ _ _ _ _ _ _ _ _ _ _ (c .add-scaled .ensures) (c .before .before .before .before .loop .inv .2) (c .before .before .place .ensures .0) (c .before .before .before .before .loop .inv .0))
 
 returns : tie.Need-returns Inv-loop μ-loop
 returns c = search (products-done, needs)
@@ -58,5 +55,4 @@ add-products-spec =
     add-row
     loop-less
     loop-again
-    same-length
     returns)

@@ -5,15 +5,15 @@ use lib.ListN.{length}
 use mathlib.Core.Path.{_≡_, _∙_}
 use native.Mathlib.Omega.{arith}
 use Rattle.least_norm.proofs.Steps.{lessRows-start, lessRows-again, lessRows-done}
-use Rattle.least_norm.specs.Blocks.{lessRows}
+use Rattle.least_norm.specs.Blocks.{lanes, lessRows}
 use Rattle.least_norm.proofs.columns.less_rows.Statement.{statement}
 use Rattle.least_norm.proofs.columns.less_rows.Tie as tie
 
 abbrev Inv-loop : tie.InvT-loop
-Inv-loop a₀ m n j c k v f row₀ a row = (j ≤ row) × (row ≤ m) × (length a ≡ length a₀) × (a ≡ lessRows n c k v f a₀ j row)
+Inv-loop a₀ m n j c v f row₀ a row = (j ≤ row) × (row ≤ m) × (length a ≡ length a₀) × (a ≡ lessRows n c 4 v (lanes f) a₀ j row)
 
 abbrev μ-loop : tie.MeasureT-loop
-μ-loop a₀ m n j c k v f row₀ a row = m - row
+μ-loop a₀ m n j c v f row₀ a row = m - row
 
 loop-holds : tie.Need-loop-holds Inv-loop μ-loop
 loop-holds c = search (lessRows-start, needs)
@@ -21,14 +21,14 @@ loop-holds c = search (lessRows-start, needs)
 place-requires : tie.Need-place-requires Inv-loop μ-loop
 place-requires c κs = search needs
 
-mul-less-scaled : tie.Need-mul-less-scaled Inv-loop μ-loop
-mul-less-scaled c = search needs
+mul-less-lanes : tie.Need-mul-less-lanes Inv-loop μ-loop
+mul-less-lanes c = search needs
 
-shared-slice-read-less-scaled : tie.Need-shared-slice-read-less-scaled Inv-loop μ-loop
-shared-slice-read-less-scaled c = search needs
+shared-slice-read-less-lanes : tie.Need-shared-slice-read-less-lanes Inv-loop μ-loop
+shared-slice-read-less-lanes c = search needs
 
-less-scaled-requires : tie.Need-less-scaled-requires Inv-loop μ-loop
-less-scaled-requires c κs = search needs
+less-lanes-requires : tie.Need-less-lanes-requires Inv-loop μ-loop
+less-lanes-requires c κs = search needs
 
 add-row : tie.Need-add-row Inv-loop μ-loop
 add-row c = search needs
@@ -37,7 +37,7 @@ loop-less : tie.Need-loop-less Inv-loop μ-loop
 loop-less c = search needs
 
 loop-again : tie.Need-loop-again Inv-loop μ-loop
-loop-again c = (omega arith, omega arith, c .before .before .less-scaled .kept .0 ∙ c .before .before .before .before .before .before .before .loop .inv .2, lessRows-again _ _ _ _ _ _ _ _ _ _ _ (c .before .before .less-scaled .ensures) (c .before .before .before .before .before .before .before .loop .inv .3) (c .before .before .before .before .before .place .ensures .0) (c .before .before .before .before .before .before .before .loop .inv .0))
+loop-again c = (omega arith, omega arith, c .before .before .less-lanes .kept .0 ∙ c .before .before .before .before .before .before .before .loop .inv .2, lessRows-again _ _ _ _ _ _ _ _ _ _ _ (c .before .before .less-lanes .ensures) (c .before .before .before .before .before .before .before .loop .inv .3) (c .before .before .before .before .before .place .ensures .0) (c .before .before .before .before .before .before .before .loop .inv .0))
 
 same-length : tie.Need-same-length Inv-loop μ-loop
 same-length c = search needs
@@ -53,9 +53,9 @@ less-rows-spec =
     μ-loop
     loop-holds
     place-requires
-    mul-less-scaled
-    shared-slice-read-less-scaled
-    less-scaled-requires
+    mul-less-lanes
+    shared-slice-read-less-lanes
+    less-lanes-requires
     add-row
     loop-less
     loop-again

@@ -7,28 +7,19 @@ use Rattle.least_norm.proofs.pivoting.find_pivot.Tie as tie
 column-norm2-requires : tie.Need-column-norm2-requires
 column-norm2-requires c κs = search needs
 
-add-pick-blocks : tie.Need-add-pick-blocks
-add-pick-blocks c = search needs
+add-pick-fours : tie.Need-add-pick-fours
+add-pick-fours c = search needs
 
-pick-blocks-requires : tie.Need-pick-blocks-requires
-pick-blocks-requires c κs = search needs
+pick-fours-requires : tie.Need-pick-fours-requires
+pick-fours-requires c κs = search needs
 
-pick-blocks-requires-2 : tie.Need-pick-blocks-requires-2
-pick-blocks-requires-2 c κs = search needs
-
-pick-blocks-requires-3 : tie.Need-pick-blocks-requires-3
-pick-blocks-requires-3 c κs = search needs
+pick-each-requires : tie.Need-pick-each-requires
+pick-each-requires c κs = search needs
 
 returns : tie.Need-returns
-returns c = find-run _ _ _ _ _ _ _ _ (c .before .pick-blocks3 .ensures) (c .before .before .pick-blocks2 .ensures) (c .before .before .before .pick-blocks .ensures) (c .before .before .before .before .column-norm2 .ensures)
+returns c = (find-run _ _ _ _ _ _ _ (c .pick-each .ensures .0) (c .before .pick-fours .ensures) (c .before .before .column-norm2 .ensures), c .pick-each .ensures .1)
 
 pub find-pivot-spec : {M : Type 1} → statement M
 find-pivot-spec =
     tie.close
-    (tie.spec
-    column-norm2-requires
-    add-pick-blocks
-    pick-blocks-requires
-    pick-blocks-requires-2
-    pick-blocks-requires-3
-    returns)
+    (tie.spec column-norm2-requires add-pick-fours pick-fours-requires pick-each-requires returns)

@@ -4,16 +4,16 @@ use Rattle.least_norm.specs.Reflector.{beta}
 use Rattle.least_norm.proofs.reflect.beta.Statement.{statement}
 use Rattle.least_norm.proofs.reflect.beta.Tie as tie
 
-sqrt-requires : tie.Need-sqrt-requires
-sqrt-requires c κs = search needs
+norm-requires : tie.Need-norm-requires
+norm-requires c κs = search needs
 
 returns : tie.Need-returns
 unfolding beta
-returns c = rw (← c .before .sqrt .ensures, c .if1 .taken)
+returns c = rw (← c .before .norm .ensures, c .if1 .taken)
 
 returns-2 : tie.Need-returns-2
 unfolding beta
-returns-2 c = rw (← c .before .sqrt .ensures, c .if1 .left)
+returns-2 c = rw (← c .before .norm .ensures, c .if1 .left)
 
 pub beta-spec : {M : Type 1} → statement M
-beta-spec = tie.close (tie.spec sqrt-requires returns returns-2)
+beta-spec = tie.close (tie.spec norm-requires returns returns-2)

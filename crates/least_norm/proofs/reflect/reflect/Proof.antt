@@ -1,8 +1,6 @@
 -- `least_norm::reflect::reflect` meets its contract. Assumes nothing.
 use borrow.Author.Needs.{needs}
-use lib.ListN.{length-set}
-use mathlib.Core.Path.{_∙_}
-use Rattle.least_norm.specs.Reflector as def
+use Rattle.least_norm.proofs.Runs.{reflect-run}
 use Rattle.least_norm.proofs.reflect.reflect.Statement.{statement}
 use Rattle.least_norm.proofs.reflect.reflect.Tie as tie
 
@@ -15,27 +13,17 @@ slice-read-dot c = search needs
 dot-requires : tie.Need-dot-requires
 dot-requires c κs = search needs
 
-mul-z : tie.Need-mul-z
-mul-z c = search needs
-
-slice-read-z : tie.Need-slice-read-z
-slice-read-z c = search needs
-
-mul-z-2 : tie.Need-mul-z-2
-mul-z-2 c = search needs
-
-slice-write-z : tie.Need-slice-write-z
-slice-write-z c = search needs
+less-at-requires : tie.Need-less-at-requires
+less-at-requires c κs = search needs
 
 less-scaled-requires : tie.Need-less-scaled-requires
 less-scaled-requires c κs = search needs
 
 same-length : tie.Need-same-length
-same-length c = c .before .before .less-scaled .kept .0 ∙ simp length-set
+same-length c = search needs
 
 returns : tie.Need-returns
-unfolding def.reflect def.factor
-returns c = rw (c .before .before .less-scaled .ensures, c .before .before .before .before .before .dot .ensures)
+returns c = reflect-run _ _ _ _ (c .before .before .before .before .before .before .before .before .before .before .before .before .before .args .u .now) (c .before .before .before .before .before .before .before .before .before .before .before .before .before .args .q) _ _ _ (c .before .before .before .before .before .before .before .before .before .before .before .before .before .args .z .now) _ _ _ (c .before .before .less-scaled .ensures) (c .before .before .before .before .before .before .less-at .ensures) (c .before .before .before .before .before .before .before .before .dot .ensures) (c .before .before .before .before .before .before .before .before .before .before .before .before .before .pre .1 .0)
 
 pub reflect-spec : {M : Type 1} → statement M
 reflect-spec =
@@ -44,10 +32,7 @@ reflect-spec =
     mul-dot
     slice-read-dot
     dot-requires
-    mul-z
-    slice-read-z
-    mul-z-2
-    slice-write-z
+    less-at-requires
     less-scaled-requires
     same-length
     returns)

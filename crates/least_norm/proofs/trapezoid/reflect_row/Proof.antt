@@ -20,7 +20,7 @@ same-length : tie.Need-same-length
 same-length c = search needs
 
 returns : tie.Need-returns
-returns c = reflect-row-run _ _ _ _ (c .before .before .before .before .place3 .ensures .0) _ _ _ _ _ _ _ _ (c .before .before .reflect .ensures) (c .before .before .before .before .before .place2 .ensures .0) (c .before .before .before .before .before .before .place .ensures .0)
+returns c = reflect-row-run _ _ _ _ (c .before .before .before .before .place3 .ensures .0) _ _ _ _ _ _ _ _ (c .before .before .reflect .ensures) (c .before .before .before .before .before .place2 .ensures .0) (c .before .before .before .before .before .before .place .ensures .0) (c .before .before .before .before .before .before .before .before .before .pre .0 .4)
 
 pub reflect-row-spec : {M : Type 1} → statement M
 reflect-row-spec =

@@ -11,7 +11,7 @@ dot-requires : tie.Need-dot-requires
 dot-requires c κs = search needs
 
 returns : tie.Need-returns
-returns c = row-norm-run _ _ _ _ (c .before .place .ensures .0) _ _ _ (c .dot .ensures)
+returns c = row-norm-run _ _ _ _ (c .before .place .ensures .0) _ _ _ (c .dot .ensures) (c .before .before .before .pre .3)
 
 pub row-norm2-spec : {M : Type 1} → statement M
 row-norm2-spec = tie.close (tie.spec place-requires dot-requires returns)

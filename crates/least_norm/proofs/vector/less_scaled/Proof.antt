@@ -1,51 +1,59 @@
 -- `least_norm::vector::less_scaled` meets its contract. Assumes nothing.
-use Prim.Native.Nat.{ℕ, _+_, _-_, _≤_}
+use Prim.Native.Nat.{ℕ, _+_, _*_, _-_, _≤_}
 use borrow.Author.Needs.{needs}
 use lib.Ieee.{Float, nan}
 use lib.ListN.{length}
 use mathlib.Core.Path.{_≡_}
+use native.Mathlib.Omega.{arith}
 use Rattle.floats.specs.Ops.{at, _⊖_, _⊗_}
 use Rattle.least_norm.specs.Reflector.{less}
+use Rattle.loops.proofs.Index.{row-end}
 use Rattle.loops.proofs.Updates.{updated-start, updated-again, updated-done}
 use Rattle.loops.specs.Updates.{updated}
 use Rattle.least_norm.proofs.vector.less_scaled.Statement.{statement}
 use Rattle.least_norm.proofs.vector.less_scaled.Tie as tie
 
 abbrev Inv-loop : tie.InvT-loop
-Inv-loop x₀ p f y q lo hi t₀ x t = (lo ≤ t) × (t ≤ hi) × (length x ≡ length x₀) × (x ≡ updated nan (λ (t : ℕ). p + t) (λ (t : ℕ) (v : Float). v ⊖ f ⊗ at y (q + t)) lo t x₀)
+Inv-loop x₀ p k f y q lo hi t₀ x t = (lo ≤ t) × (t ≤ hi) × (length x ≡ length x₀) × (x ≡ updated nan (λ (t : ℕ). p + t * k) (λ (t : ℕ) (v : Float). v ⊖ f ⊗ at y (q + t)) lo t x₀)
 
 abbrev μ-loop : tie.MeasureT-loop
-μ-loop x₀ p f y q lo hi t₀ x t = hi - t
+μ-loop x₀ p k f y q lo hi t₀ x t = hi - t
 
 loop-holds : tie.Need-loop-holds Inv-loop μ-loop
 loop-holds c = search (updated-start, needs)
 
-add-x : tie.Need-add-x Inv-loop μ-loop
-add-x c = search needs
-
 mul-x : tie.Need-mul-x Inv-loop μ-loop
-mul-x c = search needs
+mul-x c = omega (arith, row-end (c .before .before .args .hi) (c .before .before .args .k) (c .before .loop .t) (omega arith))
+
+add-x : tie.Need-add-x Inv-loop μ-loop
+add-x c = omega (arith, row-end (c .before .before .args .hi) (c .before .before .args .k) (c .before .loop .t) (omega arith))
+
+mul-x-2 : tie.Need-mul-x-2 Inv-loop μ-loop
+mul-x-2 c = omega (arith, row-end (c .before .before .args .hi) (c .before .before .args .k) (c .before .loop .t) (omega arith))
 
 slice-read-x : tie.Need-slice-read-x Inv-loop μ-loop
-slice-read-x c = search needs
+slice-read-x c = omega (arith, row-end (c .before .before .before .args .hi) (c .before .before .before .args .k) (c .before .before .loop .t) (omega arith))
 
 add-x-2 : tie.Need-add-x-2 Inv-loop μ-loop
 add-x-2 c = search needs
 
-mul-x-2 : tie.Need-mul-x-2 Inv-loop μ-loop
-mul-x-2 c = search needs
+mul-x-3 : tie.Need-mul-x-3 Inv-loop μ-loop
+mul-x-3 c = search needs
 
 shared-slice-read-x : tie.Need-shared-slice-read-x Inv-loop μ-loop
 shared-slice-read-x c = search needs
 
-add-x-3 : tie.Need-add-x-3 Inv-loop μ-loop
-add-x-3 c = search needs
+mul-x-4 : tie.Need-mul-x-4 Inv-loop μ-loop
+mul-x-4 c = omega (arith, row-end (c .before .before .before .before .args .hi) (c .before .before .before .before .args .k) (c .before .before .before .loop .t) (omega arith))
 
-mul-x-3 : tie.Need-mul-x-3 Inv-loop μ-loop
-mul-x-3 c = search needs
+add-x-3 : tie.Need-add-x-3 Inv-loop μ-loop
+add-x-3 c = omega (arith, row-end (c .before .before .before .before .args .hi) (c .before .before .before .before .args .k) (c .before .before .before .loop .t) (omega arith))
+
+mul-x-5 : tie.Need-mul-x-5 Inv-loop μ-loop
+mul-x-5 c = omega (arith, row-end (c .before .before .before .before .args .hi) (c .before .before .before .before .args .k) (c .before .before .before .loop .t) (omega arith))
 
 slice-write-x : tie.Need-slice-write-x Inv-loop μ-loop
-slice-write-x c = search needs
+slice-write-x c = omega (arith, row-end (c .before .before .before .before .args .hi) (c .before .before .before .before .args .k) (c .before .before .before .loop .t) (omega arith))
 
 add-t : tie.Need-add-t Inv-loop μ-loop
 add-t c = search needs
@@ -70,14 +78,16 @@ less-scaled-spec =
     Inv-loop
     μ-loop
     loop-holds
-    add-x
     mul-x
+    add-x
+    mul-x-2
     slice-read-x
     add-x-2
-    mul-x-2
-    shared-slice-read-x
-    add-x-3
     mul-x-3
+    shared-slice-read-x
+    mul-x-4
+    add-x-3
+    mul-x-5
     slice-write-x
     add-t
     loop-less

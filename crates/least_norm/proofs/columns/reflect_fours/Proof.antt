@@ -1,0 +1,57 @@
+-- `least_norm::columns::reflect_fours` meets its contract. Assumes nothing.
+use Prim.Native.Nat.{ℕ, _-_, _≤_}
+use borrow.Author.Needs.{needs}
+use lib.ListN.{length}
+use mathlib.Core.Path.{_≡_, _∙_}
+use native.Mathlib.Omega.{arith}
+use Rattle.floats.specs.Ops.{at}
+use Rattle.least_norm.specs.LeastNorm.{reflectColumn}
+use Rattle.loops.proofs.Turns.{between-from, between-more}
+use Rattle.loops.specs.Loops.{between}
+use Rattle.least_norm.proofs.columns.reflect_fours.Statement.{statement}
+use Rattle.least_norm.proofs.columns.reflect_fours.Tie as tie
+
+abbrev Inv-loop : tie.InvT-loop
+Inv-loop a₀ m n j c v vtv next₀ a next = (c ≤ next) × (next ≤ n) × (length a ≡ length a₀) × (a ≡ between c next a₀ (reflectColumn m n j (at v j) (λ (row : ℕ). at v row) vtv))
+
+abbrev μ-loop : tie.MeasureT-loop
+μ-loop a₀ m n j c v vtv next₀ a next = n - next
+
+loop-holds : tie.Need-loop-holds Inv-loop μ-loop
+loop-holds c = search (between-from, needs)
+
+add-loop : tie.Need-add-loop Inv-loop μ-loop
+add-loop c = search needs
+
+reflect-four-requires : tie.Need-reflect-four-requires Inv-loop μ-loop
+reflect-four-requires c κs = search needs
+
+add-next : tie.Need-add-next Inv-loop μ-loop
+add-next c = search needs
+
+loop-less : tie.Need-loop-less Inv-loop μ-loop
+loop-less c = search needs
+
+loop-again : tie.Need-loop-again Inv-loop μ-loop
+loop-again c = (omega arith, omega arith, c .before .before .reflect-four .kept .0 ∙ c .before .before .before .before .before .loop .inv .2, between-more _ _ _ _ _ _ _ (c .before .before .reflect-four .ensures) (c .before .before .before .before .before .loop .inv .3) (c .before .before .before .before .before .loop .inv .0) (omega arith))
+
+same-length : tie.Need-same-length Inv-loop μ-loop
+same-length c = search needs
+
+returns : tie.Need-returns Inv-loop μ-loop
+returns c = search needs
+
+pub reflect-fours-spec : {M : Type 1} → statement M
+reflect-fours-spec =
+    tie.close
+    (tie.spec
+    Inv-loop
+    μ-loop
+    loop-holds
+    add-loop
+    reflect-four-requires
+    add-next
+    loop-less
+    loop-again
+    same-length
+    returns)
