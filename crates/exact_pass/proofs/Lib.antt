@@ -1,1 +1,3 @@
 pub mod Headway
+pub mod Systems
+pub mod Turning

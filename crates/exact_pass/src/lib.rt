@@ -6,6 +6,9 @@ ghost use lib.ListN.{length, drop};
 ghost use Rattle.loops.specs.Loops as loop;
 ghost use Rattle.sweep.specs.Rows as box;
 ghost use Rattle.exact_pass.specs.Headings as head;
+ghost use Rattle.exact_pass.specs.Passes as def;
+ghost use Rattle.moves.specs.Moves as part;
+ghost use Rattle.least_norm.specs.LeastNorm.{leastNorm};
 
 // How a pass goes on, or ended: with the rows that fight at the front of the row list, so many of them, or refused with document 01's number.
 pub enum Exact {
@@ -149,4 +152,295 @@ fn headed(
     cells::clear(y);
     moves::along(l, r, y);
     headed_by(w, u_free, lo, hi, scale, states, nu, l, z, r, y, rows)
+}
+
+// The system of the rows l and its least-norm solution: rhs is its right-hand side, z the solution. b and the workspace are spent on it.
+fn target(
+    w: &[f64],
+    u_free: &[f64],
+    scale: &[f64],
+    states: &[u8],
+    nu: &[f64],
+    l: &[usize],
+    m: &mut [f64],
+    rhs: &mut [f64],
+    b: &mut [f64],
+    z: &mut [f64],
+    work: &mut [f64],
+)
+    requires { ⌜ (length (now l) ≤ 32) × (length (now m) ≡ length (now l) * length (now l)) × (length (now rhs) ≡ length (now l)) × (length (now b) ≡ length (now l)) × (length (now z) ≡ length (now l)) × (1056 ≤ length (now work)) ⌝ }
+    ensures { λ r. ⌜ (now (rhs .exit) ≡ part.side (now (w .entry)) (now («u_free» .entry)) (now (states .entry)) (now (nu .entry)) (now (l .entry)) (length (now (l .entry)))) × (now (z .exit) ≡ leastNorm (length (now (l .entry))) (length (now (l .entry))) (part.matrix (now (w .entry)) (length (now («u_free» .entry))) (now (scale .entry)) (now (l .entry)) (length (now (l .entry)))) (now (rhs .exit)) .x) × (drop 1056 (now (work .exit)) ≡ drop 1056 (now (work .entry))) ⌝ }
+{
+    let k = l.len();
+    moves::side(w, u_free, states, nu, l, rhs);
+    cells::copy(rhs, b);
+    moves::matrix(w, u_free.len(), scale, l, m);
+    least_norm::LeastNorm::solve(m, k, k, b, z, work);
+}
+
+// From the solution z on; b takes what it leaves of the system.
+fn aim(
+    w: &[f64],
+    u_free: &[f64],
+    lo: &[f64],
+    hi: &[f64],
+    scale: &[f64],
+    states: &mut [u8],
+    nu: &mut [f64],
+    l: &[usize],
+    rhs: &[f64],
+    b: &mut [f64],
+    z: &[f64],
+    y: &mut [f64],
+    rows: &mut [usize],
+) -> Exact
+    requires { ⌜ (length (now «u_free») ≤ 32) × (length (now b) ≡ length (now l)) × (length (now y) ≡ length (now «u_free»)) ⌝ }
+    ensures { λ e. ⌜ head.Passed (def.aimed (box.problem (now (w .entry)) (now («u_free» .entry)) (now (lo .entry)) (now (hi .entry)) (now (scale .entry))) (head.trial (now (nu .entry)) (now (states .entry))) (now (l .entry)) (now (rhs .entry)) (now (z .entry))) (now (rows .entry)) e (now (nu .exit)) (now (states .exit)) (now (rows .exit)) ⌝ }
+{
+    moves::left(w, u_free.len(), scale, l, rhs, z, b);
+    headed(w, u_free, lo, hi, scale, states, nu, l, z, b, y, rows)
+}
+
+// Toward the target of the rows l.
+fn toward(
+    w: &[f64],
+    u_free: &[f64],
+    lo: &[f64],
+    hi: &[f64],
+    scale: &[f64],
+    states: &mut [u8],
+    nu: &mut [f64],
+    l: &[usize],
+    m: &mut [f64],
+    rhs: &mut [f64],
+    b: &mut [f64],
+    z: &mut [f64],
+    y: &mut [f64],
+    rows: &mut [usize],
+    work: &mut [f64],
+) -> Exact
+    requires { ⌜ def.Lent (length (now «u_free»)) (length (now l)) (now m) (now rhs) (now b) (now z) (now y) (now work) ⌝ }
+    ensures { λ e. ⌜ head.Passed (def.toward (box.problem (now (w .entry)) (now («u_free» .entry)) (now (lo .entry)) (now (hi .entry)) (now (scale .entry))) (head.trial (now (nu .entry)) (now (states .entry))) (now (l .entry))) (now (rows .entry)) e (now (nu .exit)) (now (states .exit)) (now (rows .exit)) × (drop 1056 (now (work .exit)) ≡ drop 1056 (now (work .entry))) ⌝ }
+{
+    target(w, u_free, scale, states, nu, l, m, rhs, b, z, work);
+    aim(w, u_free, lo, hi, scale, states, nu, l, rhs, b, z, y, rows)
+}
+
+// One move.
+fn step(
+    w: &[f64],
+    u_free: &[f64],
+    lo: &[f64],
+    hi: &[f64],
+    scale: &[f64],
+    states: &mut [u8],
+    nu: &mut [f64],
+    list: &mut [usize],
+    m: &mut [f64],
+    rhs: &mut [f64],
+    b: &mut [f64],
+    z: &mut [f64],
+    y: &mut [f64],
+    rows: &mut [usize],
+    work: &mut [f64],
+) -> Exact
+    requires { ⌜ def.Roomy (length (now «u_free»)) (now list) (now m) (now rhs) (now b) (now z) (now y) (now work) ⌝ }
+    ensures { λ e. ⌜ head.Passed (def.step (box.problem (now (w .entry)) (now («u_free» .entry)) (now (lo .entry)) (now (hi .entry)) (now (scale .entry))) (head.trial (now (nu .entry)) (now (states .entry))) (def.stuck (now (states .entry)) (length (now («u_free» .entry))))) (now (rows .entry)) e (now (nu .exit)) (now (states .exit)) (now (rows .exit)) × (drop 1056 (now (work .exit)) ≡ drop 1056 (now (work .entry))) ⌝ }
+{
+    let k = moves::stuck(states, u_free.len(), list);
+    if k == 0 {
+        return release(w, u_free, lo, hi, scale, states, nu);
+    }
+    let kk = k * k;
+    toward(
+        w,
+        u_free,
+        lo,
+        hi,
+        scale,
+        states,
+        nu,
+        &list[..k],
+        &mut m[..kk],
+        &mut rhs[..k],
+        &mut b[..k],
+        &mut z[..k],
+        y,
+        rows,
+        work,
+    )
+}
+
+fn is_moving(e: Exact) -> bool
+    ensures { λ r. ⌜ r ≡ def.isMoving e ⌝ }
+{
+    match e {
+        Exact::Moving => true,
+        Exact::Found => false,
+        Exact::Failed => false,
+        Exact::Infeasible(_) => false,
+        Exact::Refused(_) => false,
+    }
+}
+
+// At most so many moves.
+fn run(
+    w: &[f64],
+    u_free: &[f64],
+    lo: &[f64],
+    hi: &[f64],
+    scale: &[f64],
+    states: &mut [u8],
+    nu: &mut [f64],
+    list: &mut [usize],
+    m: &mut [f64],
+    rhs: &mut [f64],
+    b: &mut [f64],
+    z: &mut [f64],
+    y: &mut [f64],
+    rows: &mut [usize],
+    work: &mut [f64],
+    most: usize,
+) -> Exact
+    requires { ⌜ def.Roomy (length (now «u_free»)) (now list) (now m) (now rhs) (now b) (now z) (now y) (now work) ⌝ }
+    ensures { λ e. ⌜ head.Passed (def.moves (box.problem (now (w .entry)) (now («u_free» .entry)) (now (lo .entry)) (now (hi .entry)) (now (scale .entry))) (head.trial (now (nu .entry)) (now (states .entry))) most) (now (rows .entry)) e (now (nu .exit)) (now (states .exit)) (now (rows .exit)) × (drop 1056 (now (work .exit)) ≡ drop 1056 (now (work .entry))) ⌝ }
+{
+    let mut j = 0;
+    while j < most {
+        let e = step(
+            w,
+            u_free,
+            lo,
+            hi,
+            scale,
+            states,
+            nu,
+            list,
+            m,
+            rhs,
+            b,
+            z,
+            y,
+            rows,
+            work,
+        );
+        if !is_moving(e) {
+            return e;
+        }
+        j += 1;
+    }
+    Exact::Moving
+}
+
+fn pass_from(
+    w: &[f64],
+    u_free: &[f64],
+    lo: &[f64],
+    hi: &[f64],
+    scale: &[f64],
+    states: &mut [u8],
+    nu: &mut [f64],
+    list: &mut [usize],
+    m: &mut [f64],
+    rhs: &mut [f64],
+    b: &mut [f64],
+    z: &mut [f64],
+    y: &mut [f64],
+    rows: &mut [usize],
+    work: &mut [f64],
+) -> Exact
+    requires { ⌜ def.Roomy (length (now «u_free»)) (now list) (now m) (now rhs) (now b) (now z) (now y) (now work) ⌝ }
+    ensures { λ e. ⌜ head.Passed (def.passFrom (box.problem (now (w .entry)) (now («u_free» .entry)) (now (lo .entry)) (now (hi .entry)) (now (scale .entry))) (now (states .entry)) (now (nu .entry))) (now (rows .entry)) e (now (nu .exit)) (now (states .exit)) (now (rows .exit)) × (drop 1056 (now (work .exit)) ≡ drop 1056 (now (work .entry))) ⌝ }
+{
+    let n = u_free.len();
+    let most = 8 * moves::acting(states, n) + 8;
+    moves::hold(lo, hi, states, nu, n);
+    run(
+        w,
+        u_free,
+        lo,
+        hi,
+        scale,
+        states,
+        nu,
+        list,
+        m,
+        rhs,
+        b,
+        z,
+        y,
+        rows,
+        work,
+        most,
+    )
+}
+
+// The pass over scratch of its own: small lists, for which the lent workspace has no parts to spare while the least-norm call holds it.
+fn pass(
+    w: &[f64],
+    u_free: &[f64],
+    lo: &[f64],
+    hi: &[f64],
+    scale: &[f64],
+    states: &mut [u8],
+    nu: &mut [f64],
+    m: &mut [f64],
+    rows: &mut [usize],
+    work: &mut [f64],
+) -> Exact
+    requires { ⌜ (length (now «u_free») ≤ 32) × (length (now «u_free») * length (now «u_free») ≤ length (now m)) × (1056 ≤ length (now work)) ⌝ }
+    ensures { λ e. ⌜ head.Passed (def.exactPass (box.problem (now (w .entry)) (now («u_free» .entry)) (now (lo .entry)) (now (hi .entry)) (now (scale .entry))) (now (states .entry)) (now (nu .entry))) (now (rows .entry)) e (now (nu .exit)) (now (states .exit)) (now (rows .exit)) × (drop 1056 (now (work .exit)) ≡ drop 1056 (now (work .entry))) ⌝ }
+{
+    let n = u_free.len();
+    sweep::show(lo, hi, scale, nu, states, n);
+    let mut list = [0usize; 32];
+    let mut rhs = [0.0f64; 32];
+    let mut b = [0.0f64; 32];
+    let mut z = [0.0f64; 32];
+    let mut y = [0.0f64; 32];
+    pass_from(
+        w,
+        u_free,
+        lo,
+        hi,
+        scale,
+        states,
+        nu,
+        &mut list,
+        m,
+        &mut rhs,
+        &mut b,
+        &mut z,
+        &mut y[..n],
+        rows,
+        work,
+    )
+}
+
+// From the multipliers nu, within their boxes, the exact solution, in their place. The matrix m has room for n * n values and the workspace for 1,056.
+pub fn exact_pass(
+    w: &[f64],
+    u_free: &[f64],
+    lo: &[f64],
+    hi: &[f64],
+    scale: &[f64],
+    states: &mut [u8],
+    nu: &mut [f64],
+    m: &mut [f64],
+    rows: &mut [usize],
+    work: &mut [f64],
+) -> Exact
+    ensures { λ e. ⌜ def.PassReplied (def.passNumber (length (now («u_free» .entry))) (length (now (m .entry))) (length (now (work .entry)))) (def.exactPass (box.problem (now (w .entry)) (now («u_free» .entry)) (now (lo .entry)) (now (hi .entry)) (now (scale .entry))) (now (states .entry)) (now (nu .entry))) e (now (nu .entry)) (now (nu .exit)) (now (states .entry)) (now (states .exit)) (now (rows .entry)) (now (rows .exit)) × (drop 1056 (now (work .exit)) ≡ drop 1056 (now (work .entry))) ⌝ }
+{
+    let n = u_free.len();
+    if n > 32 {
+        return Exact::Refused(5);
+    }
+    if m.len() < n * n {
+        return Exact::Refused(10);
+    }
+    if work.len() < 1056 {
+        return Exact::Refused(10);
+    }
+    pass(w, u_free, lo, hi, scale, states, nu, m, rows, work)
 }
