@@ -2,8 +2,7 @@
 //!
 //! The two take turns, round by round, and the medians are compared. Inputs
 //! are copied before each round, outside the time. The original keeps its
-//! workspace from call to call, as its callers do; the port is lent one. Solves
-//! join as one more function like `least_norm` once the port has them.
+//! workspace from call to call, as its callers do; the port is lent one.
 
 use crate::calls::sqrt;
 use crate::plot::{self, Series};
@@ -31,7 +30,8 @@ struct Line {
 /// where asked.
 pub fn run(write: bool) -> Result<(), String> {
     let mut text = String::new();
-    let lines = least_norm();
+    let mut lines = least_norm();
+    lines.extend(solves());
     if !lines.is_empty() {
         text.push_str(&table(&lines));
     }
@@ -180,6 +180,152 @@ fn least_norm() -> Vec<Line> {
     lines
 }
 
+#[cfg(not(original))]
+fn solves() -> Vec<Line> {
+    Vec::new()
+}
+
+/// Whole solves: typical ones, and slow ones of four sweeps or more.
+#[cfg(original)]
+fn solves() -> Vec<Line> {
+    let Some(call) = port::SOLVE else {
+        return Vec::new();
+    };
+    let mut lines = Vec::new();
+    for (what, slow) in [("solve, typical", false), ("solve, slow", true)] {
+        for n in SIZES {
+            if let Some((port, original)) = solved::problems(call, n, slow) {
+                lines.push(Line {
+                    what,
+                    n,
+                    port,
+                    original,
+                });
+            }
+        }
+    }
+    lines
+}
+
+#[cfg(original)]
+mod solved {
+    use super::timed::median;
+    use super::ROUNDS;
+    use crate::cases::problem::{boxes, gram, Owned};
+    use crate::cases::random::Rng;
+    use crate::original::boxed::{BoxOutcome, BoxProblem, BoxSolver};
+    use crate::port::{Lent, Solve};
+    use std::hint::black_box;
+    use std::time::Instant;
+
+    fn borrowed(p: &Owned) -> BoxProblem<'_> {
+        BoxProblem {
+            w: &p.w,
+            u_free: &p.u_free,
+            lo: &p.lo,
+            hi: &p.hi,
+            scale: &p.scale,
+            motion: &p.motion,
+            motion_tolerance: p.tolerance,
+        }
+    }
+
+    /// A Gram matrix with contact and friction boxes; for slow ones a
+    /// symmetric matrix that is far from definite.
+    fn problem(rng: &mut Rng, n: usize, slow: bool) -> Owned {
+        let mut p = gram(rng, n, n + 2, Rng::signed);
+        boxes(rng, &mut p, 30);
+        p.u_free = (0..n).map(|_| 2.0 * rng.signed()).collect();
+        p.motion.truncate(2 * n);
+        p.tolerance = 1e-12;
+        if slow {
+            for i in 0..n {
+                for j in 0..i {
+                    let v = 2.0 * rng.signed();
+                    p.w[i * n + j] = v;
+                    p.w[j * n + i] = v;
+                }
+                p.w[i * n + i] = 1.0;
+                p.lo[i] = -1.0;
+                p.hi[i] = 1.0;
+            }
+        }
+        p
+    }
+
+    /// The outcome's sweeps.
+    fn sweeps(p: &Owned) -> u32 {
+        let mut nu = p.nu.clone();
+        match BoxSolver::new().solve(&borrowed(p), &mut nu) {
+            BoxOutcome::Solved(report) | BoxOutcome::Infeasible { report, .. } => report.sweeps,
+        }
+    }
+
+    /// Problems of one size: those with at least four sweeps if slow ones are
+    /// wanted, none where they cannot be found.
+    fn batch(n: usize, slow: bool) -> Vec<Owned> {
+        let mut rng = Rng::of_case("bench/solve", n as u64, u64::from(slow));
+        let count = if slow {
+            8
+        } else {
+            (2_048 / (n * n)).clamp(16, 128)
+        };
+        (0..20_000)
+            .map(|_| problem(&mut rng, n, slow))
+            .filter(|p| !slow || sweeps(p) >= 4)
+            .take(count)
+            .collect()
+    }
+
+    /// Nanoseconds for each problem of a batch, from fresh multipliers.
+    fn time(batch: &[Owned], mut call: impl FnMut(&Owned, &mut [f64])) -> f64 {
+        let mut starts: Vec<Vec<f64>> = batch.iter().map(|p| p.nu.clone()).collect();
+        let start = Instant::now();
+        for (p, nu) in batch.iter().zip(&mut starts) {
+            call(p, nu);
+        }
+        let time = start.elapsed().as_nanos() as f64 / batch.len() as f64;
+        black_box(&starts);
+        time
+    }
+
+    /// The median times of port and original.
+    pub fn problems(call: Solve, n: usize, slow: bool) -> Option<(f64, f64)> {
+        let batch = batch(n, slow);
+        if batch.is_empty() {
+            return None;
+        }
+        let mut workspace = vec![0.0; 2_304];
+        let (mut states, mut rows) = ([0; 32], [0; 32]);
+        let (mut counts, mut residual) = ([0; 7], [0.0]);
+        let mut solver = BoxSolver::new();
+        let (mut port, mut original) = (Vec::new(), Vec::new());
+        for _ in 0..if slow { ROUNDS / 10 } else { ROUNDS } {
+            port.push(time(&batch, |p, nu| {
+                black_box(call(Lent {
+                    w: &p.w,
+                    u_free: &p.u_free,
+                    lo: &p.lo,
+                    hi: &p.hi,
+                    scale: &p.scale,
+                    motion: &p.motion,
+                    tolerance: p.tolerance,
+                    nu,
+                    states: &mut states,
+                    rows: &mut rows,
+                    workspace: &mut workspace,
+                    counts: &mut counts,
+                    residual: &mut residual,
+                }));
+            }));
+            original.push(time(&batch, |p, nu| {
+                black_box(solver.solve(&borrowed(p), nu));
+            }));
+        }
+        Some((median(port), median(original)))
+    }
+}
+
 #[cfg(original)]
 mod timed {
     use super::ROUNDS;
@@ -265,7 +411,7 @@ mod timed {
         (median(port), median(original))
     }
 
-    fn median(mut times: Vec<f64>) -> f64 {
+    pub fn median(mut times: Vec<f64>) -> f64 {
         times.sort_by(f64::total_cmp);
         times[times.len() / 2]
     }

@@ -24,6 +24,33 @@ pub struct Joins {
     pub continued: Join,
 }
 
+/// What a solve is lent: the problem, and the buffers that it fills. The
+/// answer's counts are outcome (0 solved, 1 growth, 2 pass, 3 sweep), sweeps,
+/// exact passes, converged, exact, idle and the number of rows listed.
+pub struct Lent<'a> {
+    pub w: &'a [f64],
+    pub u_free: &'a [f64],
+    pub lo: &'a [f64],
+    pub hi: &'a [f64],
+    pub scale: &'a [f64],
+    pub motion: &'a [f64],
+    pub tolerance: f64,
+    pub nu: &'a mut [f64],
+    pub states: &'a mut [u8],
+    pub rows: &'a mut [usize],
+    pub workspace: &'a mut [f64],
+    pub counts: &'a mut [u32],
+    pub residual: &'a mut [f64],
+}
+
+/// The solve; 0, or the number of the refusal.
+pub type Solve = fn(Lent) -> u32;
+
+#[cfg(port_solve)]
+pub const SOLVE: Option<Solve> = Some(solve);
+#[cfg(not(port_solve))]
+pub const SOLVE: Option<Solve> = None;
+
 #[cfg(port_joins)]
 pub const JOINS: Option<Joins> = Some(Joins { and, continued });
 #[cfg(not(port_joins))]
@@ -143,3 +170,69 @@ macro_rules! join {
 join!(and, piskorlu_and);
 #[cfg(port_joins)]
 join!(continued, piskorlu_continued);
+
+#[cfg(port_solve)]
+extern "C" {
+    fn piskorlu_solve(
+        w: *const f64,
+        w_len: usize,
+        u_free: *const f64,
+        u_free_len: usize,
+        lo: *const f64,
+        lo_len: usize,
+        hi: *const f64,
+        hi_len: usize,
+        scale: *const f64,
+        scale_len: usize,
+        motion: *const f64,
+        motion_len: usize,
+        tolerance: f64,
+        nu: *mut f64,
+        nu_len: usize,
+        states: *mut u8,
+        states_len: usize,
+        rows: *mut usize,
+        rows_len: usize,
+        workspace: *mut f64,
+        workspace_len: usize,
+        counts: *mut u32,
+        counts_len: usize,
+        residual: *mut f64,
+        residual_len: usize,
+    ) -> u32;
+}
+
+#[cfg(port_solve)]
+#[inline]
+fn solve(lent: Lent) -> u32 {
+    // SAFETY: as for least_norm.
+    unsafe {
+        piskorlu_solve(
+            lent.w.as_ptr(),
+            lent.w.len(),
+            lent.u_free.as_ptr(),
+            lent.u_free.len(),
+            lent.lo.as_ptr(),
+            lent.lo.len(),
+            lent.hi.as_ptr(),
+            lent.hi.len(),
+            lent.scale.as_ptr(),
+            lent.scale.len(),
+            lent.motion.as_ptr(),
+            lent.motion.len(),
+            lent.tolerance,
+            lent.nu.as_mut_ptr(),
+            lent.nu.len(),
+            lent.states.as_mut_ptr(),
+            lent.states.len(),
+            lent.rows.as_mut_ptr(),
+            lent.rows.len(),
+            lent.workspace.as_mut_ptr(),
+            lent.workspace.len(),
+            lent.counts.as_mut_ptr(),
+            lent.counts.len(),
+            lent.residual.as_mut_ptr(),
+            lent.residual.len(),
+        )
+    }
+}

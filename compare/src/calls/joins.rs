@@ -128,7 +128,8 @@ mod ours {
         let mut left = [GUARD; 11];
         let mut residual = [-7.0; 2];
         let kept = |left: &[u32; 11], residual: &[f64; 2], from: usize| {
-            left[from..].iter().all(|&c| c == GUARD) && residual[from / 9..].iter().all(|&r| r == -7.0)
+            left[from..].iter().all(|&c| c == GUARD)
+                && residual[from / 9..].iter().all(|&r| r == -7.0)
         };
         let short = [
             join((&first[..8], a.1), b, &mut left, &mut residual),

@@ -1,11 +1,12 @@
 //! The solve: outcome, cause, report, row list, states, multipliers, and every
 //! lent buffer whole.
 
-use super::guard::Guard;
+use super::guard::{Guard, Guarded};
 use super::{all_same, same, show_values, Call, Zeros};
 use crate::cases::random::Rng;
 use crate::cases::solve::{self as cases, Case};
 use crate::coverage::{Class, Coverage, NUMBERS, ROWS};
+use crate::port;
 use crate::reference::problem::{Lent, WORKSPACE};
 use crate::reference::rule::{Place, Rule};
 use crate::reference::solve::{solve, BoxReport, Cause, Outcome};
@@ -107,6 +108,98 @@ pub fn original(case: &Case, reference: &Answer) -> Option<Answer> {
         }
         Ok(ending(case, outcome, reference, lent))
     }))
+}
+
+/// The number given to a port that writes past a lent buffer.
+const MARGINS_CHANGED: u32 = 98;
+
+/// The port's answer, each buffer lent between guard values.
+fn ported(case: &Case, call: port::Solve) -> Answer {
+    let p = &case.problem;
+    let mut nu = Guarded::of(&p.nu);
+    let mut states = Guarded::filled(u8::GUARD, case.states_len);
+    let mut rows = Guarded::filled(usize::GUARD, case.rows_len);
+    let mut workspace = Guarded::of(&lent_workspace(case));
+    let mut counts = Guarded::filled(u32::GUARD, 7);
+    let mut residual = Guarded::filled(f64::GUARD, 1);
+    let number = call(port::Lent {
+        w: &p.w,
+        u_free: &p.u_free,
+        lo: &p.lo,
+        hi: &p.hi,
+        scale: &p.scale,
+        motion: &p.motion,
+        tolerance: p.tolerance,
+        nu: nu.lend(),
+        states: states.lend(),
+        rows: rows.lend(),
+        workspace: workspace.lend(),
+        counts: counts.lend(),
+        residual: residual.lend(),
+    });
+    let kept = (|| {
+        let free = if number == 0 { WORKSPACE } else { 0 };
+        let rest = workspace.kept()?[free..].to_vec();
+        Some((
+            nu.kept()?,
+            states.kept()?,
+            rows.kept()?,
+            rest,
+            counts.kept()?,
+            residual.kept()?,
+        ))
+    })();
+    let (nu, states, rows, rest, counts, residual) = kept.unwrap_or_default();
+    let told = port_ending(number, &counts, &residual);
+    Answer {
+        number: if told.is_some() {
+            number
+        } else {
+            MARGINS_CHANGED
+        },
+        ending: told.flatten(),
+        nu,
+        states,
+        rows,
+        rest,
+    }
+}
+
+/// What the counts tell: nothing where they are not an answer's or a refusal
+/// wrote them, no ending where the call was refused.
+fn port_ending(
+    number: u32,
+    counts: &[u32],
+    residual: &[f64],
+) -> Option<Option<(Outcome, BoxReport)>> {
+    let &[outcome, sweeps, exact_passes, converged, exact, idle, listed] = counts else {
+        return None;
+    };
+    let &[residual] = residual else {
+        return None;
+    };
+    if number != 0 {
+        let kept = counts.iter().all(|&c| c == u32::GUARD) && residual == f64::GUARD;
+        return kept.then_some(None);
+    }
+    let outcome = match outcome {
+        0 => Outcome::Solved,
+        1 => Outcome::Infeasible(Cause::Growth, listed as usize),
+        2 => Outcome::Infeasible(Cause::Pass, listed as usize),
+        3 => Outcome::Infeasible(Cause::Sweep, listed as usize),
+        _ => return None,
+    };
+    Some(Some((
+        outcome,
+        BoxReport {
+            sweeps,
+            exact_passes,
+            converged: converged == 1,
+            exact: exact == 1,
+            residual,
+            idle,
+        },
+    )))
 }
 
 /// Whether a multiplier left lies past a million scales.
@@ -358,8 +451,8 @@ impl Call for Solve {
         original(case, reference)
     }
 
-    fn port(_: &Case) -> Option<Answer> {
-        None
+    fn port(case: &Case) -> Option<Answer> {
+        Some(ported(case, port::SOLVE?))
     }
 
     fn difference(expected: &Answer, found: &Answer, zeros: Zeros) -> Option<&'static str> {
