@@ -4,3 +4,6 @@ pub mod Rays
 pub mod Due
 pub mod Trials
 pub mod Runs
+pub mod Solves
+pub mod Orders
+pub mod Theorem
