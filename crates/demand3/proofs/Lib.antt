@@ -1,0 +1,9 @@
+pub mod Words
+pub mod Boxes
+pub mod Rays
+pub mod Due
+pub mod Trials
+pub mod Runs
+pub mod Solves
+pub mod Orders
+pub mod Theorem

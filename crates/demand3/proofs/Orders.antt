@@ -1,0 +1,161 @@
+-- Every order of a list of at most 20,000,000 tallied solves leaves the same tally and gives each solve the answer that it has alone: no tally on the way is full.
+use Prim.Native.Nat.{ℕ, zero, suc, _+_, _*_, _≤_, _<_, zero-le}
+use mathlib.Core.Path.{_≡_, refl, sym, _∙_, ap}
+use mathlib.Core.Bool.{Bool, true, false, cond}
+use mathlib.Core.List.{List, [], _∷_, map, List·Permᴰ, List·Permᴰ·nil, List·Permᴰ·cons, List·Permᴰ·swap, List·Permᴰ·trans}
+use native.Mathlib.Omega.{arith}
+use lib.Dec.{eqb}
+use lib.ListN.{length}
+use borrow.Author.Tests.{le-ltb, ne-eqb, eqb-true}
+use Rattle.report.specs.Joins.{NOTHING, both, and, AllSummable}
+use Rattle.report.specs.declared.SolveReport.{SolveReport}
+use Rattle.report.proofs.Joins.{Held, both-held, both-comm, both-assoc, and-joins}
+use Rattle.boxed.specs.Solves.{Outcome, refused, solved, infeasible, Result, reply, solveReply, SWEEP_CAP}
+use Rattle.boxed.specs.declared.BoxReport.{BoxReport}
+use Rattle.tally.specs.Tally.{Call, number, alone, turned, kept, joinedTo, full, numberOn, answerOn, Tallied, with, tallied, Tallies, before, all}
+use Rattle.demand3.specs.Demand.{reportIn, reported, sumOf}
+use Rattle.demand3.proofs.Solves.{Modest, Reported}
+
+-- ---- the tally with every report added, whatever the counts come to
+
+abbrev pub plus : SolveReport → Outcome → SolveReport
+plus t (refused k) = t
+plus t (solved r) = both t (turned r)
+plus t (infeasible c l r) = both t (turned r)
+
+unfoldable pub total : SolveReport → List Call → SolveReport
+total t [] = t
+total t (c ∷ l) = total (plus t (alone c .outcome)) l
+
+both-swap : (t a b : SolveReport) → Held t → Held a → Held b → both (both t a) b ≡ both (both t b) a
+both-swap t a b p q r = both-assoc t a b p q r ∙ ap (both t) (both-comm a b q r) ∙ sym (both-assoc t b a p r q)
+
+turned-held : (r : BoxReport) → Modest r → Held (turned r)
+unfolding turned
+turned-held r h = h .held
+
+plus-held : (t : SolveReport) (o : Outcome) → Reported Modest o → Held t → Held (plus t o)
+plus-held t (refused k) h p = p
+plus-held t (solved r) h p = both-held t (turned r) p (turned-held r h)
+plus-held t (infeasible c l r) h p = both-held t (turned r) p (turned-held r h)
+
+plus-swap : (t : SolveReport) (o u : Outcome) → Reported Modest o → Reported Modest u → Held t → plus (plus t o) u ≡ plus (plus t u) o
+plus-swap t (refused k) u h g p = refl
+plus-swap t (solved r) (refused j) h g p = refl
+plus-swap t (solved r) (solved s) h g p = both-swap t (turned r) (turned s) p (turned-held r h) (turned-held s g)
+plus-swap t (solved r) (infeasible c l s) h g p = both-swap t (turned r) (turned s) p (turned-held r h) (turned-held s g)
+plus-swap t (infeasible c l r) (refused j) h g p = refl
+plus-swap t (infeasible c l r) (solved s) h g p = both-swap t (turned r) (turned s) p (turned-held r h) (turned-held s g)
+plus-swap t (infeasible c l r) (infeasible d k s) h g p = both-swap t (turned r) (turned s) p (turned-held r h) (turned-held s g)
+
+-- ---- its counts
+
+-- a count that `both` adds comes to the start's and the sum
+module _ (f : SolveReport → ℕ) (adds : (a b : SolveReport) → f (both a b) ≡ f a + f b) where
+  plus-sum : (t : SolveReport) (o : Outcome) (l : List BoxReport) → f (plus t o) + sumOf f (map turned l) ≡ f t + sumOf f (map turned (reportIn o l))
+  plus-sum t (refused k) l = refl
+  plus-sum t (solved r) l = rw adds (omega arith)
+  plus-sum t (infeasible c s r) l = rw adds (omega arith)
+
+  pub total-sum : (l : List Call) (t : SolveReport) → f (total t l) ≡ f t + sumOf f (map turned (reported (map alone l)))
+  unfolding total
+  total-sum [] t = omega arith
+  total-sum (c ∷ l) t = total-sum l (plus t (alone c .outcome)) ∙ plus-sum t (alone c .outcome) (reported (map alone l))
+
+-- `most_iterations` is the larger of two, and of solves it is 0
+plus-most : (t : SolveReport) (o : Outcome) → t .«most_iterations» ≡ 0 → plus t o .«most_iterations» ≡ 0
+unfolding turned
+plus-most t (refused k) h = h
+plus-most t (solved r) h = rw h
+plus-most t (infeasible c l r) h = rw h
+
+pub total-most : (l : List Call) (t : SolveReport) → t .«most_iterations» ≡ 0 → total t l .«most_iterations» ≡ 0
+unfolding total
+total-most [] t h = h
+total-most (c ∷ l) t h = total-most l (plus t (alone c .outcome)) (plus-most t (alone c .outcome) h)
+
+-- ---- no tally from NOTHING is ever full
+
+pub record Within (k : ℕ) (t : SolveReport) : Type 0 where
+  pub increments : t .increments ≤ k
+  pub sweeps : t .sweeps ≤ 200 * k
+  pub passes : t .«exact_passes» ≤ 9 * k
+  pub iterations : t .iterations ≡ 0
+  pub rejected : t .rejected ≡ 0
+  pub anchors : t .anchors ≡ 0
+
+pub within-nothing : Within 0 NOTHING
+within-nothing = record { increments = zero-le; sweeps = zero-le; passes = zero-le; iterations = refl; rejected = refl; anchors = refl }
+
+not-full : (k : ℕ) (t : SolveReport) → k ≤ 20000000 → Within k t → full t ≡ false
+unfolding full
+not-full k t b w =
+    let i = w .increments in
+    rw (ne-eqb (t .increments) 4294967295 (λ e. omega arith), le-ltb 4294967095 (t .sweeps) (omega arith), le-ltb 4294967286 (t .«exact_passes») (omega arith))
+
+module _ (k : ℕ) (t : SolveReport) (b : k < 20000000) (w : Within k t) (r : BoxReport) (m : Modest r) where
+  summable : AllSummable t (turned r)
+  unfolding turned
+  summable =
+      record {
+        increments = omega arith;
+        others = record { iterations = omega arith; rejected = omega arith; anchors = omega arith; sweeps = omega arith; «exact_passes» = omega arith };
+      }
+
+  joined-one : kept t (and t (turned r)) ≡ both t (turned r)
+  joined-one = rw (and-joins t (turned r) summable)
+
+  within-one : Within (suc k) (both t (turned r))
+  unfolding turned
+  within-one = record { increments = omega arith; sweeps = omega arith; passes = omega arith; iterations = omega arith; rejected = omega arith; anchors = omega arith }
+
+within-more : (k : ℕ) (t : SolveReport) → Within k t → Within (suc k) t
+within-more k t w =
+    record { increments = omega arith; sweeps = omega arith; passes = omega arith; iterations = w .iterations; rejected = w .rejected; anchors = w .anchors }
+
+joined-is : (k : ℕ) (t : SolveReport) (o : Outcome) → k < 20000000 → Within k t → Reported Modest o → (joinedTo t o ≡ plus t o) × Within (suc k) (plus t o)
+joined-is k t (refused j) b w m = (refl, within-more k t w)
+joined-is k t (solved r) b w m = (joined-one k t b w r m, within-one k t b w r m)
+joined-is k t (infeasible c l r) b w m = (joined-one k t b w r m, within-one k t b w r m)
+
+same-number : (n : ℕ) → cond (eqb n 0) 0 n ≡ n
+same-number n = go (eqb n 0) refl
+  where
+    go : (b : Bool) → eqb n 0 ≡ b → cond b 0 n ≡ n
+    go true e = sym (eqb-true n 0 e)
+    go false e = refl
+
+-- on a tally that is not full a solve is answered as it is alone
+answer-is : (t : SolveReport) (c : Call) → full t ≡ false → answerOn t c ≡ alone c
+unfolding answerOn numberOn alone solveReply
+answer-is t c h =
+    ap (reply SWEEP_CAP (c .problem) (c .watch) (c .nu) (c .states) (c .listed)) (ap (λ (b : Bool). cond (eqb (number c) 0) (cond b 11 0) (number c)) h ∙ same-number (number c))
+
+tallied-is : (k : ℕ) (t : SolveReport) (c : Call) → k < 20000000 → Within k t → tallied t c ≡ record { tally = joinedTo t (alone c .outcome); answer = alone c }
+unfolding tallied with
+tallied-is k t c b w = ap (with t) (answer-is t c (not-full k t (omega arith) w))
+
+-- ---- the two laws, from what is known of each solve
+
+module _ (modest : (c : Call) → Reported Modest (alone c .outcome)) where
+  pub all-is : (l : List Call) (k : ℕ) (t : SolveReport) → k + length l ≤ 20000000 → Within k t → all t l ≡ record { tally = total t l; answers = map alone l }
+  unfolding all before total
+  all-is [] k t b w = refl
+  all-is (c ∷ l) k t b w =
+      let j = joined-is k t (alone c .outcome) (omega arith) w (modest c) in
+      let e : tallied t c ≡ record { tally = plus t (alone c .outcome); answer = alone c }
+      = tallied-is k t c (omega arith) w ∙ ap (λ (s : SolveReport). let r : Tallied = record { tally = s; answer = alone c } in r) (j .0) in
+      let ih = all-is l (suc k) (plus t (alone c .outcome)) (omega arith) (j .1) in
+      rw (e, ih)
+
+  pub total-perm : {l₁ l₂ : List Call} → List·Permᴰ l₁ l₂ → (t : SolveReport) → Held t → total t l₁ ≡ total t l₂
+  unfolding total
+  total-perm List·Permᴰ·nil t p = refl
+  total-perm (List·Permᴰ·cons {a = a} {b = b} {l₁ = l₁} {l₂ = l₂} e d) t p =
+      ap (λ (x : Call). total (plus t (alone x .outcome)) l₁) e ∙ total-perm d (plus t (alone b .outcome)) (plus-held t (alone b .outcome) (modest b) p)
+  total-perm (List·Permᴰ·swap {a = a} {b = b} {a′ = a′} {b′ = b′} {l = l} e g) t p =
+      ap (λ (s : SolveReport). total s l)
+      (plus-swap t (alone a .outcome) (alone b .outcome) (modest a) (modest b) p
+      ∙ ap (λ (x : Call). plus (plus t (alone x .outcome)) (alone a .outcome)) g
+      ∙ ap (λ (x : Call). plus (plus t (alone a′ .outcome)) (alone x .outcome)) e)
+  total-perm (List·Permᴰ·trans d g) t p = total-perm d t p ∙ total-perm g t p

@@ -1,0 +1,155 @@
+-- What holds of a run after each sweep, going on or ended.
+use Prim.Native.Nat.{ℕ, suc, _-_, _≤_, _<_}
+use mathlib.Core.Path.{_≡_, refl, sym, _∙_, ap}
+use mathlib.Core.Bool.{Bool, true, false, cond}
+use mathlib.Core.List.{List, [], _∷_}
+use native.Mathlib.Omega.{arith}
+use native.Mathlib.Nat.{not-suc-le-zero, le-of-suc-le-suc, le-refl}
+use lib.Arith.{lt-of-le-ne}
+use lib.Dec.{eqb}
+use lib.ListN.{length, set, length-set}
+use lib.Ieee.{Float, le}
+use borrow.Author.Tests.{eqb-true, eqb-false}
+use Rattle.loops.proofs.Turns.{turns-keep}
+use Rattle.loops.proofs.Gather.{getD-set, Gathered}
+use Rattle.floats.specs.Ops.{at, 1e-9}
+use Rattle.sweep.specs.Rows.{Problem, rows, state, residual, swept, past, grown, way, idleRow, idleState, markedRow, markedTo, marked}
+use Rattle.ray.specs.Rays.{ray}
+use Rattle.exact_pass.specs.Headings.{Pass, moving, found, failed, fighting}
+use Rattle.exact_pass.specs.Passes.{exactPass}
+use Rattle.boxed.specs.Solves.{Ending, exact, still, fight, Stand, stand, Run, going, ended, unless, checkpoint, passed, checked, Watch, stands, tested, unlessGrown, turn, run, SWEEP_CAP}
+use Rattle.boxed.specs.declared.Cause.the-variants as cause
+use Rattle.demand3.specs.Claims.{notAbove}
+use Rattle.demand3.proofs.Rays.{grown-gathered, ray-gathered, Fights}
+use Rattle.demand3.proofs.Due.{due-next}
+use Rattle.demand3.proofs.Boxes.{Boxed, swept-boxed}
+use Rattle.demand3.proofs.Trials.{Marks, Holds, hard, Fought, Passing, exact-passing}
+
+-- ---- the states at the start
+
+pub marked-at : (p : Problem) (st : List ℕ) → rows p ≤ length st → (rows p ≤ length (marked p st (rows p))) × ((i : ℕ) → i < rows p → state (marked p st (rows p)) i ≡ idleState (idleRow p i))
+unfolding markedTo markedRow
+marked-at p st l =
+    turns-keep (markedRow (p .w) (rows p)) st (λ k x. (rows p ≤ length x) × ((i : ℕ) → i < k → state x i ≡ idleState (idleRow p i))) (rows p)
+    (l, λ i d. absurd (not-suc-le-zero d))
+    λ i x c h. (
+      rw (length-set x i (idleState (idleRow p i))) (h .0),
+      λ j d. let e = h .0 in getD-set x i j (idleState (idleRow p i)) 0 (omega arith) ∙ go i x (h .1) j d (eqb j i) refl,
+    )
+  where
+    go : (i : ℕ) (x : List ℕ) → ((j : ℕ) → j < i → state x j ≡ idleState (idleRow p j)) → (j : ℕ) → j < suc i → (a : Bool) → eqb j i ≡ a
+        → cond a (idleState (idleRow p i)) (state x j) ≡ idleState (idleRow p j)
+    go i x h j d true e = sym (ap (λ (k : ℕ). idleState (idleRow p k)) (eqb-true j i e))
+    go i x h j d false e = h j (lt-of-le-ne (le-of-suc-le-suc d) (eqb-false j i e))
+
+code : (b : Bool) → eqb (idleState b) 3 ≡ b
+unfolding idleState
+code true = refl
+code false = refl
+
+pub marked-marks : (p : Problem) (st : List ℕ) → rows p ≤ length st → Marks p (marked p st (rows p))
+marked-marks p st l = let h = marked-at p st l in record { long = h .0; idle = λ i b. ap (λ (s : ℕ). eqb s 3) (h .1 i b) ∙ code (idleRow p i) }
+
+-- ---- a run
+
+pub record Stands (p : Problem) (k : ℕ) (s : Stand) : Type 0 where
+  pub marks : Marks p (s .states)
+  pub boxed : Boxed p (s .nu)
+  pub passes : s .passes ≡ notAbove k
+
+pub record Still (p : Problem) (j : ℕ) (s : Stand) : Type 0 where
+  pub standing : Stands p j s
+  pub small : le (residual p (s .states) (s .nu) (rows p)) 1e-9 ≡ true
+
+pub record Exact (p : Problem) (j : ℕ) (s : Stand) : Type 0 where
+  pub passes : s .passes ≡ notAbove j
+  pub marks : Marks p (s .states)
+  pub holds : Holds p (s .states) (s .nu)
+  pub gentle : (i : ℕ) → i < rows p → hard p (s .states) (s .nu) i ≡ false
+
+-- growth ends a sweep before its pass
+pub record Grew (p : Problem) (j : ℕ) (s : Stand) (l : List ℕ) : Type 0 where
+  pub boxed : Boxed p (s .nu)
+  pub passes : s .passes ≡ notAbove (j - 1)
+  pub some : 0 < length l
+  pub these : Gathered (λ i. past (at (s .nu) i) (at (p .scale) i) ≡ true) (rows p) l
+
+pub record Fell (p : Problem) (j : ℕ) (s : Stand) (l : List ℕ) : Type 0 where
+  pub standing : Stands p j s
+  pub fought : Fought p (s .states) l
+
+abbrev pub Ends : Problem → ℕ → Ending → Stand → Type 0
+Ends p j still s = Still p j s
+Ends p j exact s = Exact p j s
+Ends p j (fight cause.Growth l) s = Grew p j s l
+Ends p j (fight cause.Pass l) s = Fell p j s l
+Ends p j (fight cause.Sweep l) s = Fell p j s l
+
+-- after k sweeps, c passes being looked for
+abbrev pub Runs : Problem → ℕ → ℕ → Run → Type 0
+Runs p k c (going s) = Stands p c s
+Runs p k c (ended j e s) = (0 < j) × (j ≤ k) × Ends p j e s
+
+module _ (p : Problem) (m : Watch) (k : ℕ) (few : k < 200) where
+  grown-runs : (s : Stand) (l : List ℕ) → Stands p k s → Gathered (λ i. past (at (s .nu) i) (at (p .scale) i) ≡ true) (rows p) l → Runs p (suc k) k (unless cause.Growth (suc k) s l)
+  unfolding unless
+  grown-runs s [] h g = h
+  grown-runs s (a ∷ l) h g = (omega arith, omega arith, record { boxed = h .boxed; passes = h .passes ∙ ap notAbove (omega arith); some = omega arith; these = g })
+
+  -- at a checkpoint one more pass is due
+  due-yes : checkpoint SWEEP_CAP (suc k) ≡ true → notAbove (suc k) ≡ suc (notAbove k)
+  due-yes e = due-next k few ∙ ap (λ (b : Bool). cond b (suc (notAbove k)) (notAbove k)) e
+
+  due-no : checkpoint SWEEP_CAP (suc k) ≡ false → notAbove (suc k) ≡ notAbove k
+  due-no e = due-next k few ∙ ap (λ (b : Bool). cond b (suc (notAbove k)) (notAbove k)) e
+
+  passed-runs : (s : Stand) (x : Pass) → checkpoint SWEEP_CAP (suc k) ≡ true → Stands p k s → Passing p x → Runs p (suc k) (suc k) (passed (suc k) s x)
+  unfolding passed
+  passed-runs s (moving t) e h g = record { marks = g .marks; boxed = h .boxed; passes = ap suc (h .passes) ∙ sym (due-yes e) }
+  passed-runs s (failed t) e h g = record { marks = g .marks; boxed = h .boxed; passes = ap suc (h .passes) ∙ sym (due-yes e) }
+  passed-runs s (found t) e h g =
+      (omega arith, omega arith, record { passes = ap suc (h .passes) ∙ sym (due-yes e); marks = g .0 .marks; holds = g .0 .holds; gentle = g .1 })
+  passed-runs s (fighting l t) e h g =
+      (omega arith, omega arith, record { standing = record { marks = g .0 .marks; boxed = h .boxed; passes = ap suc (h .passes) ∙ sym (due-yes e) }; fought = g .1 })
+
+  checked-runs : (x : Run) → Runs p (suc k) k x → Runs p (suc k) (suc k) (checked SWEEP_CAP p (suc k) x)
+  unfolding checked
+  checked-runs (ended j e s) h = h
+  checked-runs (going s) h = go (checkpoint SWEEP_CAP (suc k)) refl
+    where
+      go : (b : Bool) → checkpoint SWEEP_CAP (suc k) ≡ b → Runs p (suc k) (suc k) (cond b (passed (suc k) s (exactPass p (s .states) (s .nu))) (going s))
+      go true e = passed-runs s (exactPass p (s .states) (s .nu)) e h (exact-passing p (s .states) (s .nu) (h .marks) (h .boxed))
+      go false e = record { marks = h .marks; boxed = h .boxed; passes = h .passes ∙ sym (due-no e) }
+
+  fell-runs : (s : Stand) (l : List ℕ) → Stands p (suc k) s → Gathered (Fights p (s .states)) (rows p) l → Runs p (suc k) (suc k) (unless cause.Sweep (suc k) s l)
+  unfolding unless
+  fell-runs s [] h g = h
+  fell-runs s (a ∷ l) h g = (omega arith, omega arith, record { standing = h; fought = record { some = omega arith; these = g } })
+
+  tested-runs : (before : List Float) (x : Run) → Runs p (suc k) (suc k) x → Runs p (suc k) (suc k) (tested p m (suc k) before x)
+  unfolding tested
+  tested-runs before (ended j e s) h = h
+  tested-runs before (going s) h = go (stands m (s .nu) before) (le (residual p (s .states) (s .nu) (rows p)) 1e-9) refl
+    where
+      y : List Float
+      y = way (s .nu) before (rows p)
+
+      go : (a b : Bool) → le (residual p (s .states) (s .nu) (rows p)) 1e-9 ≡ b
+          → Runs p (suc k) (suc k) (cond a (cond b (ended (suc k) still s) (unless cause.Sweep (suc k) s (ray p (s .states) (way (s .nu) before (rows p))))) (going s))
+      go true true e = (omega arith, omega arith, record { standing = h; small = e })
+      go true false e = fell-runs s (ray p (s .states) y) h (ray-gathered p (s .states) y)
+      go false b e = h
+
+  turn-runs : (x : Run) → Runs p k k x → Runs p (suc k) (suc k) (turn SWEEP_CAP p m k x)
+  unfolding turn unlessGrown
+  turn-runs (ended j e s) h = (h .0, omega (arith, h .1), h .2)
+  turn-runs (going s) h =
+      let nu = swept p (s .states) (s .nu) (rows p) in
+      let t = stand nu (s .states) (s .passes) in
+      tested-runs (s .nu) (checked SWEEP_CAP p (suc k) (unless cause.Growth (suc k) t (grown nu (p .scale) (rows p))))
+      (checked-runs (unless cause.Growth (suc k) t (grown nu (p .scale) (rows p)))
+      (grown-runs t (grown nu (p .scale) (rows p)) (record { marks = h .marks; boxed = swept-boxed p (s .states) (s .nu) (h .boxed); passes = h .passes }) (grown-gathered nu (p .scale) (rows p))))
+
+pub run-runs : (p : Problem) (m : Watch) (s : Stand) → Stands p 0 s → Runs p 200 200 (run SWEEP_CAP p m s 200)
+unfolding run
+run-runs p m s h = turns-keep (turn SWEEP_CAP p m) (going s) (λ k. Runs p k k) 200 h λ k x b g. turn-runs p m k b x g

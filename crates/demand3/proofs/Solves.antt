@@ -1,0 +1,355 @@
+-- Every solve has the claims of demand 3, and every report is one that a tally can take.
+use Prim.Native.Nat.{ℕ, zero, suc, _-_, _*_, _%_, _≤_, _<_, zero-le}
+use mathlib.Core.Path.{_≡_, refl, sym, _∙_, ap, subst}
+use mathlib.Core.Bool.{Bool, true, false, not, cond, _&&_, _||_, true≢false}
+use mathlib.Core.List.{List, [], _∷_}
+use native.Mathlib.Omega.{arith}
+use native.Mathlib.Nat.{not-suc-le-zero, le-of-eq, le-refl}
+use lib.Dec.{ltb, eqb}
+use lib.ListN.{length, getD}
+use lib.Ieee.{Float, binary64, ofBits, lt, le, eq, ne}
+use lib.Ieee.Bits.{ofBits-fits}
+use lib.Ieee.Fits.{div-fits}
+use borrow.Author.Tests.{eqb-true, ltb-false, not-false}
+use Rattle.loops.specs.Loops.{every, fronted}
+use Rattle.loops.proofs.Turns.{turns-keep}
+use Rattle.loops.proofs.Every.{both-true}
+use Rattle.loops.proofs.Gather.{each-at, Gathered}
+use Rattle.loops.proofs.Paste.{front-read}
+use Rattle.floats.specs.Ops.{at, Fits, 0ᶠ, 1e-9, 1e6, _⊖_, _⊗_, _⊘_}
+use Rattle.floats.specs.Helpers.{larger, abs, clamp, isNaN}
+use Rattle.floats.proofs.Maximum.{larger-fits}
+use Rattle.floats.proofs.Order.{le-left, le-right}
+use Rattle.floats.proofs.Box.{inBox}
+use Rattle.floats.proofs.Bound.{nil, above, nil-lo, nil-hi, nil-abs, nil-div, nil-not-above, acting-above, not-lt-negative, not-lt-positive}
+use Rattle.sweep.specs.Rows.{Problem, rows, W, state, acts, cannotAct, idleRow, idleState, idleRows, begun, marked, rowSum, update, updated, naturalResidual, residualRow, residual, past}
+use Rattle.sweep.specs.Rows as D
+use Rattle.moves.specs.Moves.{wrong}
+use Rattle.boxed.specs.Solves.{Ending, exact, still, fight, Stand, stand, Run, going, ended, Watch, run, Outcome, refused, solved, infeasible, Result, reportOf, unfound, result, nothing, begin, solveFrom, solve, goodScaleAt, first, refusal, reply, solveReply, SWEEP_CAP}
+use Rattle.boxed.specs.declared.BoxReport.{BoxReport}
+use Rattle.boxed.specs.declared.Cause.{Cause}
+use Rattle.boxed.specs.declared.Cause.the-variants as cause
+use Rattle.tally.specs.Tally.{Call, number, alone}
+use Rattle.demand3.specs.Claims.{Upright, NaNOrInBox, acting, notAbove, below, OnBound, Sound, Reason, Listed, grewBy, ClaimsOf, Claims}
+use Rattle.demand3.proofs.Words.{lt-abs, acts-above, idle-not-above, diagonal, own-is, rising-at, gathered-few}
+use Rattle.demand3.proofs.Boxes.{Boxed, Inside, begun-boxed}
+use Rattle.demand3.proofs.Rays.{Fights}
+use Rattle.demand3.proofs.Due.{due-zero, due-most, below-is}
+use Rattle.demand3.proofs.Trials.{Marks, hard, Fought, state-not-idle, acts-not-idle}
+use Rattle.demand3.proofs.Runs.{Stands, Exact, Grew, Fell, Runs, run-runs, marked-marks, marked-at}
+
+-- ---- the residual is a value that an f64 holds
+
+residual-fits : (p : Problem) (st : List ℕ) (nu : List Float) → Fits (residual p st nu (rows p))
+unfolding residual residualRow naturalResidual
+residual-fits p st nu = turns-keep (residualRow p st nu) 0ᶠ (λ i x. Fits x) (rows p) (ofBits-fits binary64 0) λ i x b h. go i x h (acts st i)
+  where
+    go : (i : ℕ) (x : Float) → Fits x → (a : Bool) → Fits (cond a (larger x (D.ownResidual p nu i)) x)
+    go i x h true = larger-fits x (D.ownResidual p nu i) h (div-fits binary64 (abs (at nu i ⊖ updated p nu i (rowSum p nu i))) (at (p .scale) i))
+    go i x h false = h
+
+-- ---- a row on its bound
+
+wrong-lo : (u : Float) → wrong 1 u ≡ false → lt u 0ᶠ ≡ false
+unfolding wrong
+wrong-lo u h = go (lt u 0ᶠ) refl h
+  where
+    go : (b : Bool) → lt u 0ᶠ ≡ b → b || false ≡ false → lt u 0ᶠ ≡ false
+    go true e k = absurd (true≢false k)
+    go false e k = e
+
+wrong-hi : (u : Float) → wrong 2 u ≡ false → lt 0ᶠ u ≡ false
+unfolding wrong
+wrong-hi u h = h
+
+gentle : (s : ℕ) (u r : Float) → wrong s u && lt 1e-9 r ≡ false → (wrong s u ≡ false → nil r ≡ true) → lt 1e-9 r ≡ false
+gentle s u r h k = go (wrong s u) refl (lt 1e-9 r) refl h
+  where
+    go : (a : Bool) → wrong s u ≡ a → (b : Bool) → lt 1e-9 r ≡ b → a && b ≡ false → lt 1e-9 r ≡ false
+    go true e true f g = absurd (true≢false g)
+    go a e false f g = f
+    go false e true f g = nil-not-above r (k e)
+
+acts-is-above : (d : Float) → cannotAct d ≡ false → above d ≡ true
+unfolding cannotAct isNaN
+acts-is-above d h = acting-above d h
+
+-- ---- what is not refused
+
+first-false : (c : Bool) (k : ℕ) (l : List (Bool × ℕ)) → first ((c, suc k) ∷ l) ≡ 0 → (c ≡ false) × (first l ≡ 0)
+first-false true k l h = absurd (omega arith)
+first-false false k l h = (refl, h)
+
+or-false : (a b : Bool) → a || b ≡ false → (a ≡ false) × (b ≡ false)
+or-false true b h = absurd (true≢false h)
+or-false false b h = (refl, h)
+
+record Accepted (p : Problem) (nu : List Float) (st l : List ℕ) : Type 0 where
+  few : rows p ≤ 32
+  square : length (p .w) ≡ rows p * rows p
+  nus : length nu ≡ rows p
+  states : rows p ≤ length st
+  listed : rows p ≤ length l
+
+-- all six tests fail
+six : (a b c d e f : Bool) → first ((a, 5) ∷ (b, 6) ∷ (c, 7) ∷ (d, 8) ∷ (e, 9) ∷ (f, 10) ∷ []) ≡ 0 → (a ≡ false) × (b ≡ false) × (c ≡ false) × (f ≡ false)
+six a b c d e f h =
+    let h5 = first-false a 4 ((b, 6) ∷ (c, 7) ∷ (d, 8) ∷ (e, 9) ∷ (f, 10) ∷ []) h in
+    let h6 = first-false b 5 ((c, 7) ∷ (d, 8) ∷ (e, 9) ∷ (f, 10) ∷ []) (h5 .1) in
+    let h7 = first-false c 6 ((d, 8) ∷ (e, 9) ∷ (f, 10) ∷ []) (h6 .1) in
+    let h8 = first-false d 7 ((e, 9) ∷ (f, 10) ∷ []) (h7 .1) in
+    let h9 = first-false e 8 ((f, 10) ∷ []) (h8 .1) in
+    (h5 .0, h6 .0, h7 .0, first-false f 9 [] (h9 .1) .0)
+
+accepted : (p : Problem) (motion nu : List Float) (st l : List ℕ) (room : ℕ) → refusal p motion nu st l room ≡ 0 → Accepted p nu st l
+unfolding refusal
+accepted p motion nu st l room h =
+    let n = rows p in
+    let lengths = eqb (length (p .lo)) n && eqb (length (p .hi)) n && eqb (length (p .scale)) n in
+    let g = six (ltb 32 n || ltb 2048 (length motion)) (not (eqb (length (p .w)) (n * n))) (not (lengths && eqb (length nu) n))
+    (not (every (goodScaleAt (p .scale)) n)) (ltb 0 n && not (eqb (length motion % n) 0)) (ltb room 2304 || ltb (length st) n || ltb (length l) n) h in
+    let ten = or-false (ltb room 2304 || ltb (length st) n) (ltb (length l) n) (g .3) in
+    record {
+      few = ltb-false 32 n (or-false (ltb 32 n) (ltb 2048 (length motion)) (g .0) .0);
+      square = eqb-true (length (p .w)) (n * n) (not-false (eqb (length (p .w)) (n * n)) (g .1));
+      nus = eqb-true (length nu) n (both-true lengths (eqb (length nu) n) (not-false (lengths && eqb (length nu) n) (g .2)) .1);
+      states = ltb-false (length st) n (or-false (ltb room 2304) (ltb (length st) n) (ten .0) .1);
+      listed = ltb-false (length l) n (ten .1);
+    }
+
+-- ---- what is known of a report
+
+pub record Modest (r : BoxReport) : Type 0 where
+  pub few : r .sweeps ≤ 200
+  pub fewer : r .«exact_passes» ≤ 9
+  pub held : Fits (r .residual)
+
+abbrev pub Reported : (BoxReport → Type 0) → Outcome → Type 0
+Reported P (refused k) = Unit {0}
+Reported P (solved r) = P r
+Reported P (infeasible c l r) = P r
+
+report-modest : (p : Problem) (idle k : ℕ) (c e : Bool) (s : Stand) → k ≤ 200 → s .passes ≤ 9 → Modest (reportOf p idle k c e s)
+unfolding reportOf
+report-modest p idle k c e s h g = record { few = h; fewer = g; held = residual-fits p (s .states) (s .nu) }
+
+result-modest : (p : Problem) (idle : ℕ) (l : List ℕ) (x : Run) → Runs p 200 200 x → Reported Modest (result SWEEP_CAP p idle l x .outcome)
+unfolding result unfound
+result-modest p idle l (going s) h = report-modest p idle 200 false false s (le-refl 200) (rw (h .passes) (due-most 200))
+result-modest p idle l (ended j still s) h = report-modest p idle j true false s (h .1) (rw (h .2 .standing .passes) (due-most j))
+result-modest p idle l (ended j exact s) h = report-modest p idle j true true s (h .1) (rw (h .2 .passes) (due-most j))
+result-modest p idle l (ended j (fight cause.Growth r) s) h = report-modest p idle j false false s (h .1) (rw (h .2 .passes) (due-most (j - 1)))
+result-modest p idle l (ended j (fight cause.Pass r) s) h = report-modest p idle j false false s (h .1) (rw (h .2 .standing .passes) (due-most j))
+result-modest p idle l (ended j (fight cause.Sweep r) s) h = report-modest p idle j false false s (h .1) (rw (h .2 .standing .passes) (due-most j))
+
+-- ---- the claims of an accepted solve
+
+ended-below : (k j : ℕ) → 0 < j → j ≤ 200 → k ≡ notAbove (j - 1) → k ≡ below j
+ended-below k zero h b e = absurd (not-suc-le-zero h)
+ended-below k (suc j) h b e = let g : suc j - 1 ≡ j = omega arith in e ∙ ap notAbove g ∙ sym (below-is j b)
+
+module _ (c : Call) (zeroth : number c ≡ 0) (fair : Upright (c .problem)) (ok : Accepted (c .problem) (c .nu) (c .states) (c .listed)) where
+  abbrev p : Problem
+  p = c .problem
+
+  in-box : (nu : List Float) (i : ℕ) → Inside p nu i → NaNOrInBox p nu i
+  unfolding inBox
+  in-box nu i h = h
+
+  -- a row that does not act is Idle
+  idle-is : (i : ℕ) → i < rows p → acting p i ≡ false → idleRow p i ≡ true
+  idle-is i b h = idle-not-above (W p i i) (rw (diagonal p (ok .few) (ok .square) i b) h)
+
+  -- not exact: every multiplier is left by sweeps
+  plain-sound : (a : Result) (idle k : ℕ) (v g : Bool) (s : Stand) → a .nu ≡ s .nu → k ≤ 200 → Boxed p (s .nu) → s .passes ≡ cond g (below k) (notAbove k)
+      → (v ≡ true → le (residual p (s .states) (s .nu) (rows p)) 1e-9 ≡ true) → Sound p a g (reportOf p idle k v false s)
+  unfolding reportOf
+  plain-sound a idle k v g s e h b q r =
+      record {
+        fewSweeps = h;
+        passes = q;
+        leftBySweeps = λ z i d. rw e (in-box (s .nu) i (b .boxes (fair .ordered) i d));
+        leftIdle = λ i d z. rw e (in-box (s .nu) i (b .boxes (fair .ordered) i d));
+        converged = λ z y. r z;
+        atLo = λ z. absurd (true≢false (sym z));
+        atHi = λ z. absurd (true≢false (sym z));
+      }
+
+  -- exact
+  module _ (nu : List Float) (long : rows p ≤ length nu) (j : ℕ) (b : j < rows p) (here : idleRow p j ≡ false) where
+    on-lo : at nu j ≡ at (p .lo) j → wrong 1 (rowSum p nu j) && lt 1e-9 (D.ownResidual p nu j) ≡ false → OnBound p nu j (at (p .lo) j)
+    unfolding naturalResidual update
+    on-lo e h =
+        let u = rowSum p nu j in
+        record {
+          equals = rw e (le-left (at (p .lo) j) (at (p .hi) j) (fair .ordered j b));
+          own = ap (lt 1e-9) (own-is p (ok .few) (ok .square) j b nu long) ∙ gentle 1 u (D.ownResidual p nu j) h λ k.
+              nil-div binary64 (abs (at nu j ⊖ updated p nu j u)) (at (p .scale) j)
+              (nil-abs (at nu j ⊖ updated p nu j u)
+              (subst (λ (v : Float). nil (v ⊖ clamp (v ⊖ u ⊘ W p j j) (at (p .lo) j) (at (p .hi) j)) ≡ true) (sym e)
+              (nil-lo (at (p .lo) j) (at (p .hi) j) u (W p j j) (fair .lows j b) (fair .highs j b) (fair .ordered j b) (acts-is-above (W p j j) here) (not-lt-negative u (wrong-lo u k)))));
+        }
+
+    on-hi : at nu j ≡ at (p .hi) j → wrong 2 (rowSum p nu j) && lt 1e-9 (D.ownResidual p nu j) ≡ false → OnBound p nu j (at (p .hi) j)
+    unfolding naturalResidual update
+    on-hi e h =
+        let u = rowSum p nu j in
+        record {
+          equals = rw e (le-right (at (p .lo) j) (at (p .hi) j) (fair .ordered j b));
+          own = ap (lt 1e-9) (own-is p (ok .few) (ok .square) j b nu long) ∙ gentle 2 u (D.ownResidual p nu j) h λ k.
+              nil-div binary64 (abs (at nu j ⊖ updated p nu j u)) (at (p .scale) j)
+              (nil-abs (at nu j ⊖ updated p nu j u)
+              (subst (λ (v : Float). nil (v ⊖ clamp (v ⊖ u ⊘ W p j j) (at (p .lo) j) (at (p .hi) j)) ≡ true) (sym e)
+              (nil-hi (at (p .lo) j) (at (p .hi) j) u (W p j j) (fair .lows j b) (fair .highs j b) (fair .ordered j b) (acts-is-above (W p j j) here) (not-lt-positive u (wrong-hi u k)))));
+        }
+
+  exact-sound : (a : Result) (idle k : ℕ) (s : Stand) → a .nu ≡ s .nu → a .states ≡ s .states → k ≤ 200 → Exact p k s → Sound p a false (reportOf p idle k true true s)
+  unfolding reportOf
+  exact-sound a idle k s e i h x =
+      record {
+        fewSweeps = h;
+        passes = x .passes;
+        leftBySweeps = λ z. absurd (true≢false z);
+        leftIdle = λ j d z. rw e (in-box (s .nu) j (x .holds .rest (fair .ordered) j d (eqb-true (state (s .states) j) 3 (x .marks .idle j d ∙ idle-is j d z))));
+        converged = λ z y. absurd (true≢false y);
+        atLo = λ z j d y. let f : state (s .states) j ≡ 1 = rw i at y in
+            rw e
+            (on-lo (s .nu) (x .holds .long) j d (state-not-idle p (s .states) j 1 (x .marks) d f refl) (x .holds .low j d f)
+            (subst (λ (v : ℕ). wrong v (rowSum p (s .nu) j) && lt 1e-9 (D.ownResidual p (s .nu) j) ≡ false) f (x .gentle j d)));
+        atHi = λ z j d y. let f : state (s .states) j ≡ 2 = rw i at y in
+            rw e
+            (on-hi (s .nu) (x .holds .long) j d (state-not-idle p (s .states) j 2 (x .marks) d f refl) (x .holds .high j d f)
+            (subst (λ (v : ℕ). wrong v (rowSum p (s .nu) j) && lt 1e-9 (D.ownResidual p (s .nu) j) ≡ false) f (x .gentle j d)));
+      }
+
+  -- infeasible
+  listed-rows : (a : Result) (s : Cause) (r : List ℕ) {P : ℕ → Type 0} → a .listed ≡ fronted r (c .listed) → 0 < length r → Gathered P (rows p) r
+      → ((k : ℕ) → k < length r → Reason p (a .nu) s (getD r k 0)) → Listed p a s r
+  listed-rows a s r e some g why =
+      let few = gathered-few (rows p) r g in
+      let room = ok .listed in
+      record {
+        front = rw e (front-read r (c .listed) (length r) refl (omega arith));
+        some = some;
+        rising = rising-at 0 r (g .rising);
+        ofProblem = each-at (λ j. j < rows p) r (g .below);
+        reasons = why;
+      }
+
+  grew-reason : (nu : List Float) (i : ℕ) → past (at nu i) (at (p .scale) i) ≡ true → Reason p nu cause.Growth i
+  unfolding past
+  grew-reason nu i h = sym (lt-abs (1e6 ⊗ at (p .scale) i) (at nu i)) ∙ h
+
+  fought-reason : (nu : List Float) (st : List ℕ) (i : ℕ) → Marks p st → i < rows p → Fights p st i → Reason p nu cause.Pass i
+  fought-reason nu st i m b h =
+      (rw (← diagonal p (ok .few) (ok .square) i b) (acts-above (W p i i) (acts-not-idle p st i m b (h .0))), h .1)
+
+  fought-reasons : (nu : List Float) (st : List ℕ) (r : List ℕ) → Marks p st → Gathered (Fights p st) (rows p) r → (k : ℕ) → k < length r → Reason p nu cause.Pass (getD r k 0)
+  fought-reasons nu st r m g k b = fought-reason nu st (getD r k 0) m (each-at (λ j. j < rows p) r (g .below) k b) (each-at (Fights p st) r (g .passing) k b)
+
+  result-claims : (idle : ℕ) (x : Run) → Runs p 200 200 x → Claims c (result SWEEP_CAP p idle (c .listed) x)
+  unfolding result unfound
+  result-claims idle (going s) h = (zeroth, plain-sound (result SWEEP_CAP p idle (c .listed) (going s)) idle 200 false false s refl (le-refl 200) (h .boxed) (h .passes) (λ z. absurd (true≢false (sym z))))
+  result-claims idle (ended j still s) h =
+      (zeroth, plain-sound (result SWEEP_CAP p idle (c .listed) (ended j still s)) idle j true false s refl (h .1) (h .2 .standing .boxed) (h .2 .standing .passes) (λ z. h .2 .small))
+  result-claims idle (ended j exact s) h = (zeroth, exact-sound (result SWEEP_CAP p idle (c .listed) (ended j exact s)) idle j s refl refl (h .1) (h .2))
+  result-claims idle (ended j (fight cause.Growth r) s) h =
+      let a = result SWEEP_CAP p idle (c .listed) (ended j (fight cause.Growth r) s) in
+      (
+        zeroth,
+        plain-sound a idle j false true s refl (h .1) (h .2 .boxed) (ended-below (s .passes) j (h .0) (h .1) (h .2 .passes)) (λ z. absurd (true≢false (sym z))),
+        listed-rows a cause.Growth r refl (h .2 .some) (h .2 .these)
+        (λ k b. grew-reason (s .nu) (getD r k 0) (each-at (λ i. past (at (s .nu) i) (at (p .scale) i) ≡ true) r (h .2 .these .passing) k b)),
+      )
+  result-claims idle (ended j (fight cause.Pass r) s) h =
+      let a = result SWEEP_CAP p idle (c .listed) (ended j (fight cause.Pass r) s) in
+      (
+        zeroth,
+        plain-sound a idle j false false s refl (h .1) (h .2 .standing .boxed) (h .2 .standing .passes) (λ z. absurd (true≢false (sym z))),
+        listed-rows a cause.Pass r refl (h .2 .fought .some) (h .2 .fought .these) (fought-reasons (s .nu) (s .states) r (h .2 .standing .marks) (h .2 .fought .these)),
+      )
+  result-claims idle (ended j (fight cause.Sweep r) s) h =
+      let a = result SWEEP_CAP p idle (c .listed) (ended j (fight cause.Sweep r) s) in
+      (
+        zeroth,
+        plain-sound a idle j false false s refl (h .1) (h .2 .standing .boxed) (h .2 .standing .passes) (λ z. absurd (true≢false (sym z))),
+        listed-rows a cause.Sweep r refl (h .2 .fought .some) (h .2 .fought .these) (fought-reasons (s .nu) (s .states) r (h .2 .standing .marks) (h .2 .fought .these)),
+      )
+
+-- ---- a solve
+
+not-bound : (b : Bool) (s v : ℕ) → s ≡ idleState b → s ≡ v → (v ≡ 3 → ⊥) → (v ≡ 0 → ⊥) → ⊥
+unfolding idleState
+not-bound true s v e f g h = g (sym f ∙ e)
+not-bound false s v e f g h = h (sym f ∙ e)
+
+start-stands : (p : Problem) (nu : List Float) (st l : List ℕ) → Accepted p nu st l → Stands p 0 (begin p nu st)
+unfolding begin
+start-stands p nu st l ok = record { marks = marked-marks p st (ok .states); boxed = begun-boxed p nu (le-of-eq (sym (ok .nus))); passes = sym due-zero }
+
+solve-modest : (p : Problem) (m : Watch) (nu : List Float) (st l : List ℕ) → Accepted p nu st l → Reported Modest (solve SWEEP_CAP p m nu st l .outcome)
+unfolding solve solveFrom
+solve-modest p m nu st l ok = go (length (idleRows p (rows p))) (begin p nu st) (start-stands p nu st l ok) (eqb (length (idleRows p (rows p))) (rows p))
+  where
+    go : (idle : ℕ) (s : Stand) → Stands p 0 s → (b : Bool)
+        → Reported Modest (cond b (record { outcome = solved (nothing idle); nu = s .nu; states = s .states; listed = l }) (result SWEEP_CAP p idle l (run SWEEP_CAP p m s SWEEP_CAP)) .outcome)
+    go idle s h true = record { few = zero-le; fewer = zero-le; held = ofBits-fits binary64 0 }
+    go idle s h false = result-modest p idle l (run SWEEP_CAP p m s 200) (run-runs p m s h)
+
+-- all rows Idle: no row is on a bound, and every multiplier is as the clamp put it
+still-claims : (c : Call) → number c ≡ 0 → Upright (c .problem) → (ok : Accepted (c .problem) (c .nu) (c .states) (c .listed)) → (idle : ℕ)
+    → Claims c (record { outcome = solved (nothing idle); nu = begin (c .problem) (c .nu) (c .states) .nu; states = begin (c .problem) (c .nu) (c .states) .states; listed = c .listed })
+unfolding begin inBox
+still-claims c z fair ok idle =
+    let s = start-stands (c .problem) (c .nu) (c .states) (c .listed) ok in
+    let m = marked-at (c .problem) (c .states) (ok .states) in
+    (
+      z,
+      record {
+        fewSweeps = zero-le;
+        passes = sym due-zero;
+        leftBySweeps = λ y i d. s .boxed .boxes (fair .ordered) i d;
+        leftIdle = λ i d y. s .boxed .boxes (fair .ordered) i d;
+        converged = λ x y. absurd (true≢false y);
+        atLo = λ x i d y. absurd (not-bound (idleRow (c .problem) i) (state (marked (c .problem) (c .states) (rows (c .problem))) i) 1 (m .1 i d) y (λ e. omega arith) (λ e. omega arith));
+        atHi = λ x i d y. absurd (not-bound (idleRow (c .problem) i) (state (marked (c .problem) (c .states) (rows (c .problem))) i) 2 (m .1 i d) y (λ e. omega arith) (λ e. omega arith));
+      },
+    )
+
+solve-claims : (c : Call) → number c ≡ 0 → Upright (c .problem) → Accepted (c .problem) (c .nu) (c .states) (c .listed)
+    → Claims c (solve SWEEP_CAP (c .problem) (c .watch) (c .nu) (c .states) (c .listed))
+unfolding solve solveFrom
+solve-claims c z fair ok = go (length (idleRows (c .problem) (rows (c .problem)))) (eqb (length (idleRows (c .problem) (rows (c .problem)))) (rows (c .problem)))
+  where
+    go : (idle : ℕ) (b : Bool)
+        → Claims c
+        (cond b
+        (record { outcome = solved (nothing idle); nu = begin (c .problem) (c .nu) (c .states) .nu; states = begin (c .problem) (c .nu) (c .states) .states; listed = c .listed })
+        (result SWEEP_CAP (c .problem) idle (c .listed) (run SWEEP_CAP (c .problem) (c .watch) (begin (c .problem) (c .nu) (c .states)) SWEEP_CAP)))
+    go idle true = still-claims c z fair ok idle
+    go idle false =
+        result-claims c z fair ok idle (run SWEEP_CAP (c .problem) (c .watch) (begin (c .problem) (c .nu) (c .states)) 200)
+        (run-runs (c .problem) (c .watch) (begin (c .problem) (c .nu) (c .states)) (start-stands (c .problem) (c .nu) (c .states) (c .listed) ok))
+
+-- ---- a call
+
+is-accepted : (c : Call) → number c ≡ 0 → Accepted (c .problem) (c .nu) (c .states) (c .listed)
+is-accepted c e = accepted (c .problem) (c .watch .motion) (c .nu) (c .states) (c .listed) (c .room) e
+
+reply-modest : (c : Call) (k : ℕ) → number c ≡ k → Reported Modest (reply SWEEP_CAP (c .problem) (c .watch) (c .nu) (c .states) (c .listed) k .outcome)
+unfolding reply
+reply-modest c zero e = solve-modest (c .problem) (c .watch) (c .nu) (c .states) (c .listed) (is-accepted c e)
+reply-modest c (suc k) e = tt
+
+reply-claims : (c : Call) → (number c ≡ 0 → Upright (c .problem)) → (k : ℕ) → number c ≡ k → Claims c (reply SWEEP_CAP (c .problem) (c .watch) (c .nu) (c .states) (c .listed) k)
+unfolding reply
+reply-claims c fair zero e = solve-claims c e (fair e) (is-accepted c e)
+reply-claims c fair (suc k) e = record { refusedBy = e; nuKept = refl; statesKept = refl; listKept = refl }
+
+pub modest : (c : Call) → Reported Modest (alone c .outcome)
+unfolding alone solveReply
+modest c = reply-modest c (number c) refl
+
+pub claims : (c : Call) → (number c ≡ 0 → Upright (c .problem)) → Claims c (alone c)
+unfolding alone solveReply
+claims c fair = reply-claims c fair (number c) refl

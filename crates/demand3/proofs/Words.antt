@@ -1,0 +1,150 @@
+-- The claim's own words against the solver's definitions: a magnitude, a row's sum and natural residual by the places of the matrix, a row that acts, and the rows listed.
+use Prim.Native.Nat.{ℕ, zero, suc, _+_, _*_, _≤_, _<_}
+use mathlib.Core.Path.{_≡_, refl, sym, _∙_, ap}
+use mathlib.Core.Bool.{Bool, true, false, not, cond, _||_, true≢false}
+use mathlib.Core.List.{List, [], _∷_}
+use native.Mathlib.Omega.{arith}
+use native.Mathlib.Nat.{mul-pos, zero-mul, zero-lt-suc, not-suc-le-zero, le-of-suc-le-suc}
+use lib.IntN.{ℤ}
+use lib.Dec.{ltb, eqb}
+use lib.ListN.{length, getD}
+use lib.Ieee.{Float, nan, inf, fin, binary64, up, down, ofBits, neg, lt, le, eq, ne, level}
+use lib.Ieee.Fits.{up-pos, down-pos, sub-fits}
+use borrow.Author.Tests.{lt-ltb, le-ltb, ltb-false}
+use Rattle.loops.specs.Loops.{turns}
+use Rattle.loops.proofs.Gather.{Each, each-at, From, Gathered}
+use Rattle.floats.specs.Ops.{_⊕_, _⊖_, _⊗_, _⊘_, at, 0ᶠ, Fits}
+use Rattle.floats.specs.Helpers.{abs, clamp, isNaN}
+use Rattle.floats.proofs.Maximum.{not-zero}
+use Rattle.floats.proofs.Meaning.{unsigned, abs-is}
+use Rattle.floats.proofs.Order.{total}
+use Rattle.sweep.specs.Rows.{Problem, rows, row, cannotAct, rowSumTo, rowSum, fewer, update, naturalResidual}
+use Rattle.sweep.specs.Rows as D
+use Rattle.sweep.proofs.Matrix.{row-at, row-length}
+use Rattle.demand3.specs.Claims.{magnitude, cell, sumTo, distance, ownResidual}
+
+-- ---- a magnitude
+
+pub magnitude-is : (v : Float) → magnitude v ≡ unsigned v
+magnitude-is nan = refl
+magnitude-is (inf s) = refl
+magnitude-is (fin s m e) = refl
+
+level-zero : (s : Bool) (a b : ℕ) → a ≡ 0 → b ≡ 0 → level s a false b ≡ true
+level-zero true a b p q = rw (p, q)
+level-zero false a b p q = rw (p, q)
+
+abs-zero : (s : Bool) (e : ℤ) → abs (fin s zero e) ≡ 0ᶠ
+unfolding abs eq ofBits
+abs-zero s e = rw (level-zero s (0 * up e * 1) (0 * 1 * down e) (ap (λ (x : ℕ). x * 1) (zero-mul (up e))) (zero-mul (down e)))
+
+abs-more : (s : Bool) (m : ℕ) (e : ℤ) → abs (fin s (suc m) e) ≡ fin false (suc m) e
+unfolding abs lt neg ofBits
+abs-more true m e =
+    let z = zero-mul (down e) in
+    let p : 0 < suc m * up e * 1 = mul-pos (mul-pos (zero-lt-suc m) (up-pos e)) (zero-lt-suc 0) in
+    rw (not-zero true m e, lt-ltb 0 (suc m * up e * 1 + 0 * 1 * down e) (omega arith))
+abs-more false m e =
+    let z : 0 * 1 * down e ≡ 0 = zero-mul (down e) in
+    rw (not-zero false m e, le-ltb (suc m * up e * 1) (0 * 1 * down e) (omega arith))
+
+-- of the zeros, below each the same values are
+below-zero : (x : Float) (e : ℤ) → lt x 0ᶠ ≡ lt x (fin false zero e)
+unfolding lt ofBits
+below-zero nan e = refl
+below-zero (inf true) e = refl
+below-zero (inf false) e = refl
+below-zero (fin false n d) e =
+    let z : 0 * 1 * down d ≡ 0 = zero-mul (down d) in
+    let y : 0 * up e * down d ≡ 0 = ap (λ (x : ℕ). x * down d) (zero-mul (up e)) ∙ zero-mul (down d) in
+    le-ltb (n * up d * 1) (0 * 1 * down d) (omega arith) ∙ sym (le-ltb (n * up d * down e) (0 * up e * down d) (omega arith))
+below-zero (fin true zero d) e =
+    let a : 0 * up d * 1 ≡ 0 = ap (λ (x : ℕ). x * 1) (zero-mul (up d)) in
+    let b : 0 * up d * down e ≡ 0 = ap (λ (x : ℕ). x * down e) (zero-mul (up d)) ∙ zero-mul (down e) in
+    let z : 0 * 1 * down d ≡ 0 = zero-mul (down d) in
+    let y : 0 * up e * down d ≡ 0 = ap (λ (x : ℕ). x * down d) (zero-mul (up e)) ∙ zero-mul (down d) in
+    le-ltb 0 (0 * up d * 1 + 0 * 1 * down d) (omega arith) ∙ sym (le-ltb 0 (0 * up d * down e + 0 * up e * down d) (omega arith))
+below-zero (fin true (suc n) d) e =
+    let a : 0 < suc n * up d * 1 = mul-pos (mul-pos (zero-lt-suc n) (up-pos d)) (zero-lt-suc 0) in
+    let b : 0 < suc n * up d * down e = mul-pos (mul-pos (zero-lt-suc n) (up-pos d)) (down-pos e) in
+    lt-ltb 0 (suc n * up d * 1 + 0 * 1 * down d) (omega arith) ∙ sym (lt-ltb 0 (suc n * up d * down e + 0 * up e * down d) (omega arith))
+
+-- what is below the solver's absolute value is below the magnitude
+pub lt-abs : (x v : Float) → lt x (abs v) ≡ lt x (magnitude v)
+lt-abs x nan = ap (lt x) (unfold abs eq lt ofBits in refl)
+lt-abs x (inf true) = ap (lt x) (unfold abs eq lt neg ofBits in refl)
+lt-abs x (inf false) = ap (lt x) (unfold abs eq lt ofBits in refl)
+lt-abs x (fin s zero e) = ap (lt x) (abs-zero s e) ∙ below-zero x e
+lt-abs x (fin s (suc m) e) = ap (lt x) (abs-more s m e)
+
+-- ---- a row that acts
+
+pub acts-above : (d : Float) → cannotAct d ≡ false → lt 0ᶠ d ≡ true
+unfolding cannotAct isNaN ne
+acts-above d h = go (eq d d) refl (lt 0ᶠ d) refl h
+  where
+    go : (a : Bool) → eq d d ≡ a → (b : Bool) → lt 0ᶠ d ≡ b → not a || le d 0ᶠ ≡ false → b ≡ true
+    go false i b j g = absurd (true≢false g)
+    go true i true j g = refl
+    go true i false j g = absurd (true≢false (sym (total 0ᶠ d (unfold eq ofBits in refl) i j) ∙ g))
+
+pub idle-not-above : (d : Float) → lt 0ᶠ d ≡ false → cannotAct d ≡ true
+unfolding cannotAct isNaN ne
+idle-not-above d h = go (eq d d) refl
+  where
+    go : (a : Bool) → eq d d ≡ a → not a || le d 0ᶠ ≡ true
+    go false i = refl
+    go true i = total 0ᶠ d (unfold eq ofBits in refl) i h
+
+-- ---- a row's sum and natural residual
+
+fewer-left : (a b : ℕ) → a ≤ b → fewer a b ≡ a
+unfolding fewer
+fewer-left a b h = go (ltb a b) refl
+  where
+    go : (t : Bool) → ltb a b ≡ t → cond t a b ≡ a
+    go true e = refl
+    go false e = omega (arith, ltb-false a b e)
+
+distance-is : (v u d lo hi s : Float) → distance v u d lo hi s ≡ naturalResidual v u d lo hi s
+unfolding distance naturalResidual update clamp
+distance-is v u d lo hi s =
+    let x = v ⊖ cond (lt (v ⊖ u ⊘ d) lo) lo (cond (lt hi (v ⊖ u ⊘ d)) hi (v ⊖ u ⊘ d)) in
+    ap (λ (z : Float). z ⊘ s) (magnitude-is x ∙ sym (abs-is x (sub-fits binary64 v (cond (lt (v ⊖ u ⊘ d) lo) lo (cond (lt hi (v ⊖ u ⊘ d)) hi (v ⊖ u ⊘ d))))))
+
+module _ (p : Problem) (few : rows p ≤ 32) (square : length (p .w) ≡ rows p * rows p) (i : ℕ) (here : i < rows p) where
+  pub diagonal : D.W p i i ≡ cell p i i
+  diagonal = row-at (p .w) (rows p) i few square here i here
+
+  sum-to : (nu : List Float) (j : ℕ) → j ≤ rows p → sumTo p nu i j ≡ rowSumTo (row p i) (at (p .free) i) nu j
+  unfolding sumTo rowSumTo turns
+  sum-to nu zero h = refl
+  sum-to nu (suc j) h =
+      ap (λ (s : Float). s ⊕ cell p i j ⊗ at nu j) (sum-to nu j (omega arith))
+      ∙ ap (λ (c : Float). rowSumTo (row p i) (at (p .free) i) nu j ⊕ c ⊗ at nu j) (sym (row-at (p .w) (rows p) i few square here j h))
+
+  sum-is : (nu : List Float) → rows p ≤ length nu → sumTo p nu i (rows p) ≡ rowSum p nu i
+  sum-is nu long =
+      let e : fewer (length (row p i)) (length nu) ≡ rows p
+      = rw (row-length (p .w) (rows p) i few square here) (fewer-left (rows p) (length nu) long) in
+      rw e (sum-to nu (rows p) (native.Mathlib.Nat.le-refl (rows p)))
+
+  pub own-is : (nu : List Float) → rows p ≤ length nu → ownResidual p nu i ≡ D.ownResidual p nu i
+  own-is nu long =
+      rw (sum-is nu long, ← diagonal) (distance-is (at nu i) (rowSum p nu i) (D.W p i i) (at (p .lo) i) (at (p .hi) i) (at (p .scale) i))
+
+-- ---- the rows listed, by their places
+
+pub rising-at : (a : ℕ) (l : List ℕ) → From a l → (k : ℕ) → suc k < length l → getD l k 0 < getD l (suc k) 0
+rising-at a [] f k h = absurd (not-suc-le-zero h)
+rising-at a (b ∷ []) f k h = absurd (not-suc-le-zero (le-of-suc-le-suc h))
+rising-at a (b ∷ c ∷ l) f zero h = f .1 .0
+rising-at a (b ∷ c ∷ l) f (suc k) h = rising-at (suc b) (c ∷ l) (f .1) k (le-of-suc-le-suc h)
+
+-- there are no more of them than there are rows
+few-rising : (n a : ℕ) (l : List ℕ) → a ≤ n → From a l → Each (λ b. b < n) l → a + length l ≤ n
+few-rising n a [] h f e = omega arith
+few-rising n a (b ∷ l) h f e = let r = few-rising n (suc b) l (e .0) (f .1) (e .1) in let q = f .0 in omega arith
+
+pub gathered-few : {P : ℕ → Type 0} (n : ℕ) (l : List ℕ) → Gathered P n l → length l ≤ n
+gathered-few n l g = omega (arith, few-rising n 0 l (omega arith) (g .rising) (g .below))

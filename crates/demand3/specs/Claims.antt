@@ -1,0 +1,148 @@
+-- What demand 3 says of one solve and its answer, in the order of document 01's "The words of demand 3". Definitions only.
+-- They are written with the comparisons and the numbers themselves and not with the solver's helpers: an error in a helper would otherwise stand on both sides.
+use Prim.Native.Nat.{ℕ, zero, suc, _+_, _*_, _≤_, _<_}
+use mathlib.Core.Path.{_≡_}
+use mathlib.Core.Bool.{Bool, true, false, cond, _&&_, _||_}
+use mathlib.Core.List.{List, [], _∷_}
+use lib.Dec.{leb, ltb}
+use lib.ListN.{length, getD, take}
+use lib.Ieee.{Float, nan, inf, fin, lt, le, eq, ne}
+use Rattle.floats.specs.Ops.{_⊕_, _⊖_, _⊗_, _⊘_, at, Fits, 0ᶠ, 1e6, 1e-9, ∞, −∞}
+use Rattle.sweep.specs.Rows.{Problem, rows}
+use Rattle.boxed.specs.Solves.{Outcome, refused, solved, infeasible, Result}
+use Rattle.boxed.specs.declared.BoxReport.{BoxReport}
+use Rattle.boxed.specs.declared.Cause.{Cause}
+use Rattle.boxed.specs.declared.Cause.the-variants as cause
+use Rattle.tally.specs.Tally.{Call, number}
+
+-- ---- the hypothesis
+
+-- every lower bound at most its upper, and each a value that an f64 holds, as every float of a call is
+pub record Upright (p : Problem) : Type 0 where
+  pub ordered : (i : ℕ) → i < rows p → le (at (p .lo) i) (at (p .hi) i) ≡ true
+  pub lows : (i : ℕ) → i < rows p → Fits (at (p .lo) i)
+  pub highs : (i : ℕ) → i < rows p → Fits (at (p .hi) i)
+
+-- ---- the words
+
+-- |v|, which is v with its sign bit clear
+abbrev pub magnitude : Float → Float
+magnitude nan = nan
+magnitude (inf s) = inf false
+magnitude (fin s m e) = fin false m e
+
+-- W_ij, the matrix being held by rows
+abbrev pub cell : Problem → ℕ → ℕ → Float
+cell p i j = at (p .w) (i * rows p + j)
+
+-- u_i over the first k columns: u_free_i, then + W_ij nu_j for j rising
+unfoldable pub sumTo : Problem → List Float → ℕ → ℕ → Float
+sumTo p nu i zero = at (p .free) i
+sumTo p nu i (suc j) = sumTo p nu i j ⊕ cell p i j ⊗ at nu j
+
+-- lo if v < lo, else hi if v > hi, else v
+abbrev pub within : Float → Float → Float → Float
+within v lo hi = cond (lt v lo) lo (cond (lt hi v) hi v)
+
+-- |nu_i - clamp(nu_i - u_i / W_ii)| / scale_i, of one row's values
+unfoldable pub distance : Float → Float → Float → Float → Float → Float → Float
+distance v u d lo hi s = magnitude (v ⊖ within (v ⊖ u ⊘ d) lo hi) ⊘ s
+
+-- row i's natural residual with the multipliers nu
+abbrev pub ownResidual : Problem → List Float → ℕ → Float
+ownResidual p nu i = distance (at nu i) (sumTo p nu i (rows p)) (cell p i i) (at (p .lo) i) (at (p .hi) i) (at (p .scale) i)
+
+-- Idle: the diagonal is NaN or at most 0
+abbrev pub acting : Problem → ℕ → Bool
+acting p i = lt 0ᶠ (cell p i i)
+
+-- NaN, or at least lo and at most hi
+abbrev pub NaNOrInBox : Problem → List Float → ℕ → Type 0
+NaNOrInBox p nu i = ne (at nu i) (at nu i) || (le (at (p .lo) i) (at nu i) && le (at nu i) (at (p .hi) i)) ≡ true
+
+-- the sweeps that an exact pass follows, and how many of them are not above k, or below k
+abbrev pub passSweeps : List ℕ
+passSweeps = 1 ∷ 2 ∷ 4 ∷ 8 ∷ 16 ∷ 32 ∷ 64 ∷ 128 ∷ 200 ∷ []
+
+abbrev pub membersNotAbove : ℕ → List ℕ → ℕ
+membersNotAbove k [] = 0
+membersNotAbove k (c ∷ l) = cond (leb c k) 1 0 + membersNotAbove k l
+
+abbrev pub membersBelow : ℕ → List ℕ → ℕ
+membersBelow k [] = 0
+membersBelow k (c ∷ l) = cond (ltb c k) 1 0 + membersBelow k l
+
+unfoldable pub notAbove : ℕ → ℕ
+notAbove k = membersNotAbove k passSweeps
+
+unfoldable pub below : ℕ → ℕ
+below k = membersBelow k passSweeps
+
+-- ---- an accepted solve
+
+-- a row on a bound: the multiplier equals it as a number, and its own residual is not above 1e-9, as no NaN is
+pub record OnBound (p : Problem) (nu : List Float) (i : ℕ) (bound : Float) : Type 0 where
+  pub equals : eq (at nu i) bound ≡ true
+  pub own : lt 1e-9 (ownResidual p nu i) ≡ false
+
+-- what holds of every answer; `grew` is whether growth ended the solve
+pub record Sound (p : Problem) (a : Result) (grew : Bool) (r : BoxReport) : Type 0 where
+  -- at most 200 sweeps
+  pub fewSweeps : r .sweeps ≤ 200
+  -- exactly as many passes as 1, 2, 4 .. 128, 200 has members not above its sweeps (below, where growth ended it)
+  pub passes : r .«exact_passes» ≡ cond grew (below (r .sweeps)) (notAbove (r .sweeps))
+  -- Multipliers left by sweeps are NaN or in their boxes. Where the answer is not exact they are all of them: only the pass that finds an exact answer writes its multipliers.
+  pub leftBySweeps : r .exact ≡ false → (i : ℕ) → i < rows p → NaNOrInBox p (a .nu) i
+  -- In an exact answer that pass has written every row that acts, and an Idle row is left as the clamp before the first sweep put it.
+  pub leftIdle : (i : ℕ) → i < rows p → acting p i ≡ false → NaNOrInBox p (a .nu) i
+  -- converged but not exact means residual at most 1e-9
+  pub converged : r .converged ≡ true → r .exact ≡ false → le (r .residual) 1e-9 ≡ true
+  -- in an exact answer a row on a bound equals it, its own residual not above 1e-9: at state 1 lo, at state 2 hi
+  pub atLo : r .exact ≡ true → (i : ℕ) → i < rows p → getD (a .states) i 0 ≡ 1 → OnBound p (a .nu) i (at (p .lo) i)
+  pub atHi : r .exact ≡ true → (i : ℕ) → i < rows p → getD (a .states) i 0 ≡ 2 → OnBound p (a .nu) i (at (p .hi) i)
+
+-- past a million scales where growth is the cause, else acting with no lower or no upper limit
+abbrev pub PastAMillionScales : Problem → List Float → ℕ → Type 0
+PastAMillionScales p nu i = lt (1e6 ⊗ at (p .scale) i) (magnitude (at nu i)) ≡ true
+
+abbrev pub ActingWithoutLimit : Problem → ℕ → Type 0
+ActingWithoutLimit p i = (acting p i ≡ true) × (eq (at (p .lo) i) −∞ || eq (at (p .hi) i) ∞ ≡ true)
+
+abbrev pub Reason : Problem → List Float → Cause → ℕ → Type 0
+Reason p nu cause.Growth i = PastAMillionScales p nu i
+Reason p nu cause.Pass i = ActingWithoutLimit p i
+Reason p nu cause.Sweep i = ActingWithoutLimit p i
+
+-- the rows l that an infeasible answer lists
+pub record Listed (p : Problem) (a : Result) (c : Cause) (l : List ℕ) : Type 0 where
+  -- they are the filled front of the row list
+  pub front : take (length l) (a .listed) ≡ l
+  -- at least one
+  pub some : 0 < length l
+  -- rising: each above the one before
+  pub rising : (k : ℕ) → suc k < length l → getD l k 0 < getD l (suc k) 0
+  -- each a row of the problem, with its reason
+  pub ofProblem : (k : ℕ) → k < length l → getD l k 0 < rows p
+  pub reasons : (k : ℕ) → k < length l → Reason p (a .nu) c (getD l k 0)
+
+abbrev pub grewBy : Cause → Bool
+grewBy cause.Growth = true
+grewBy cause.Pass = false
+grewBy cause.Sweep = false
+
+-- ---- a solve and its answer
+
+-- a refused solve has the number that it has by itself, and its buffers hold what they were lent with
+pub record Refusal (c : Call) (a : Result) (k : ℕ) : Type 0 where
+  pub refusedBy : number c ≡ k
+  pub nuKept : a .nu ≡ c .nu
+  pub statesKept : a .states ≡ c .states
+  pub listKept : a .listed ≡ c .listed
+
+abbrev pub ClaimsOf : Call → Result → Outcome → Type 0
+ClaimsOf c a (refused k) = Refusal c a k
+ClaimsOf c a (solved r) = (number c ≡ 0) × Sound (c .problem) a false r
+ClaimsOf c a (infeasible s l r) = (number c ≡ 0) × Sound (c .problem) a (grewBy s) r × Listed (c .problem) a s l
+
+abbrev pub Claims : Call → Result → Type 0
+Claims c a = ClaimsOf c a (a .outcome)

@@ -1,0 +1,95 @@
+-- The tallied solve of document 01: a solve whose report is joined to a tally, and a list of them. Definitions only.
+use Prim.Native.Nat.{ℕ}
+use mathlib.Core.Bool.{Bool, cond, _||_}
+use mathlib.Core.List.{List, [], _∷_}
+use lib.Dec.{ltb, eqb}
+use lib.Ieee.{Float}
+use Rattle.sweep.specs.Rows.{Problem}
+use Rattle.boxed.specs.Solves.{Watch, Outcome, refused, solved, infeasible, Result, refusal, reply, solveReply, SWEEP_CAP}
+use Rattle.boxed.specs.declared.BoxReport.{BoxReport}
+use Rattle.report.specs.Joins as report
+use Rattle.report.specs.declared.SolveReport.{SolveReport}
+
+-- What a solve is given: the problem with its watched motion, and what its buffers hold as lent. Of the workspace it is the length alone, since no answer depends on what
+-- the workspace held.
+pub record Call : Type 0 where
+  pub problem : Problem
+  pub watch : Watch
+  pub nu : List Float
+  pub states : List ℕ
+  pub listed : List ℕ
+  pub room : ℕ
+
+-- the number of the solve by itself, 5 to 10, or 0 where it is accepted
+abbrev pub number : Call → ℕ
+number c = refusal (c .problem) (c .watch .motion) (c .nu) (c .states) (c .listed) (c .room)
+
+-- the answer of the solve by itself
+unfoldable pub alone : Call → Result
+alone c = solveReply (c .problem) (c .watch) (c .nu) (c .states) (c .listed) (c .room)
+
+-- ---- a report joined to the tally
+
+-- the SolveReport that a BoxReport is turned into
+unfoldable pub turned : BoxReport → SolveReport
+turned r =
+    record {
+      increments = 1;
+      iterations = 0;
+      «most_iterations» = 0;
+      rejected = 0;
+      anchors = 0;
+      sweeps = r .sweeps;
+      «exact_passes» = r .«exact_passes»;
+      converged = r .converged;
+      exact = r .exact;
+      residual = r .residual;
+    }
+
+-- a join that is refused leaves the tally as it was; number 11 is there so that none is
+abbrev pub kept : SolveReport → report.Answer → SolveReport
+kept t (report.refused k) = t
+kept t (report.joined s) = s
+
+-- a refused solve joins nothing
+abbrev pub joinedTo : SolveReport → Outcome → SolveReport
+joinedTo t (refused k) = t
+joinedTo t (solved r) = kept t (report.and t (turned r))
+joinedTo t (infeasible c l r) = kept t (report.and t (turned r))
+
+-- ---- the tallied solve
+
+-- whether the tally might not hold one solve more: 200 sweeps and 9 passes at most
+unfoldable pub full : SolveReport → Bool
+full t = eqb (t .increments) 4294967295 || ltb 4294967095 (t .sweeps) || ltb 4294967286 (t .«exact_passes»)
+
+-- 5 to 10 first, then 11
+unfoldable pub numberOn : SolveReport → Call → ℕ
+numberOn t c = cond (eqb (number c) 0) (cond (full t) 11 0) (number c)
+
+-- a refusal changes nothing, whatever its number
+unfoldable pub answerOn : SolveReport → Call → Result
+answerOn t c = reply SWEEP_CAP (c .problem) (c .watch) (c .nu) (c .states) (c .listed) (numberOn t c)
+
+pub record Tallied : Type 0 where
+  pub tally : SolveReport
+  pub answer : Result
+
+unfoldable pub with : SolveReport → Result → Tallied
+with t a = record { tally = joinedTo t (a .outcome); answer = a }
+
+unfoldable pub tallied : SolveReport → Call → Tallied
+tallied t c = with t (answerOn t c)
+
+-- ---- a list of tallied solves, each on the tally that the one before it left
+
+pub record Tallies : Type 0 where
+  pub tally : SolveReport
+  pub answers : List Result
+
+unfoldable pub before : Result → Tallies → Tallies
+before a rest = record { tally = rest .tally; answers = a ∷ rest .answers }
+
+unfoldable pub all : SolveReport → List Call → Tallies
+all t [] = record { tally = t; answers = [] }
+all t (c ∷ l) = before (tallied t c .answer) (all (tallied t c .tally) l)

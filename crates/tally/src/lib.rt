@@ -1,0 +1,1 @@
+// The tallied solve: its definition is in specs/Tally.antt.
