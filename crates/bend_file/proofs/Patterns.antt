@@ -1,17 +1,12 @@
 -- Which patterns `from_bits` does not take: those of a NaN, which the definition reads as the NaN.
 use Prim.Native.Nat.{ℕ, _%_, _≤_, _<_}
-use mathlib.Core.Path.{_≡_, refl, sym, _∙_, subst}
-use mathlib.Core.Bool.{Bool, true, false, not, true≢false}
+use mathlib.Core.Path.{_≡_, sym, _∙_, subst}
+use mathlib.Core.Bool.{Bool, not}
 use lib.Dec.{T, ltb}
-use lib.Ieee.{Float, nan, inf, fin, binary64, isNan, nanBits, ofBits}
+use lib.Ieee.{nan, binary64, nanBits, ofBits}
 use lib.Ieee.Bits.{nanBits-is, nanBits-above}
 use borrow.Author.Tests.{lt-ltb, le-ltb}
-
-only-nan : (x : Float) → isNan x ≡ true → x ≡ nan
-unfolding isNan
-only-nan nan h = refl
-only-nan (inf s) h = absurd (true≢false (sym h))
-only-nan (fin s m e) h = absurd (true≢false (sym h))
+use Rattle.floats.proofs.Meaning.{only-nan}
 
 pub nan-pattern : (b : ℕ) → 0x7FF0000000000000 < b % 0x8000000000000000 → ofBits binary64 b ≡ nan
 nan-pattern b h = only-nan (ofBits binary64 b) (sym (nanBits-is binary64 b) ∙ nanBits-above binary64 b ∙ lt-ltb 0x7FF0000000000000 (b % 0x8000000000000000) h)
