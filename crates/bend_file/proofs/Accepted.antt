@@ -1,7 +1,7 @@
 -- What the reader accepts is a bend file of the problem that it gives, and every bend file is accepted so.
 use Prim.Native.Nat.{ℕ, suc, _+_, _-_, _*_, _≤_, _<_}
 use mathlib.Core.Path.{_≡_, refl, sym, _∙_, ap}
-use mathlib.Core.Bool.{Bool, true, false, not, cond, _&&_, true≢false}
+use mathlib.Core.Bool.{Bool, true, false, not, cond}
 use mathlib.Core.List.{List, [], _∷_}
 use native.Mathlib.Omega.{arith}
 use native.Mathlib.Nat.{mul-le-mul}
@@ -9,20 +9,21 @@ use lib.Dec.{leb, eqb}
 use lib.ListN.{length, take, drop, getD}
 use lib.Seq.{drop-cons}
 use borrow.Author.Tests.{le-leb, leb-true, eq-eqb, eqb-true, eqb-false}
+use Rattle.loops.proofs.Every.{both-true}
 use Rattle.bend_file.specs.Little.{byte, u16, u32}
 use Rattle.bend_file.specs.Trailer.{start, rows, coords, count, sized, marked, small, Small, wanted, counted, reaching, number, shape}
 use Rattle.bend_file.specs.Read.{Problem, problem, Answer, refused, accepted, answer, Room}
 use Rattle.bend_file.specs.Format.{BendFile}
 use Rattle.bend_file.specs.declared.trailer.Shape.{Shape}
 use Rattle.bend_file.specs.declared.trailer.Shape.the-variants.{Refused, At}
-use Rattle.bend_file.proofs.Rules.{apart, small-is}
+use Rattle.bend_file.proofs.Rules.{small-is}
 
 -- ---- each rule as a fact
 
 module _ (f : List ℕ) (end : ℕ) where
   sizes : sized end ≡ true → (16 ≤ end) × (end ≤ 65536)
   unfolding sized
-  sizes e = let s = apart (leb 16 end) (leb end 65536) e in (leb-true 16 end (s .0), leb-true end 65536 (s .1))
+  sizes e = let s = both-true (leb 16 end) (leb end 65536) e in (leb-true 16 end (s .0), leb-true end 65536 (s .1))
 
   sizes-back : 16 ≤ end → end ≤ 65536 → sized end ≡ true
   unfolding sized
@@ -151,9 +152,9 @@ module _ (f : List ℕ) (h : 4 ≤ length f) where
   mark-is : marked f (length f) ≡ true → take 4 (drop (length f - 4) f) ≡ mark
   unfolding marked
   mark-is e =
-      let s3 = apart _ (eqb (byte f (length f - 1)) 0x44) e in
-      let s2 = apart _ (eqb (byte f (length f - 2)) 0x4E) (s3 .0) in
-      let s1 = apart (eqb (byte f (length f - 4)) 0x42) (eqb (byte f (length f - 3)) 0x45) (s2 .0) in
+      let s3 = both-true _ (eqb (byte f (length f - 1)) 0x44) e in
+      let s2 = both-true _ (eqb (byte f (length f - 2)) 0x4E) (s3 .0) in
+      let s1 = both-true (eqb (byte f (length f - 4)) 0x42) (eqb (byte f (length f - 3)) 0x45) (s2 .0) in
       last-four
       ∙ rw (eqb-true (byte f (length f - 4)) 0x42 (s1 .0), eqb-true (byte f (length f - 3)) 0x45 (s1 .1), eqb-true (byte f (length f - 2)) 0x4E (s2 .1), eqb-true (byte f (length f - 1)) 0x44 (s3 .1))
 

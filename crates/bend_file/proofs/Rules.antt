@@ -1,27 +1,23 @@
 -- What the reader's tests, one after another, say of the file.
 use Prim.Native.Nat.{ℕ, suc, _+_, _-_, _*_, _≤_, _<_}
 use mathlib.Core.Path.{_≡_, refl, sym, _∙_}
-use mathlib.Core.Bool.{Bool, true, false, not, cond, _&&_, and-false, true≢false}
+use mathlib.Core.Bool.{Bool, true, false, not, cond, and-false}
 use mathlib.Core.List.{List}
 use native.Mathlib.Omega.{arith}
 use native.Mathlib.Nat.{mul-le-mul}
 use lib.Dec.{leb, eqb}
 use lib.ListN.{length}
 use borrow.Author.Tests.{le-leb, lt-leb, leb-true, eq-eqb, ne-eqb, eqb-true}
+use Rattle.loops.proofs.Every.{both-true}
 use Rattle.bend_file.specs.Little.{u16, u32}
 use Rattle.bend_file.specs.Trailer.{start, rows, coords, count, sized, marked, small, Small, wanted, counted, reaching, number, shape}
 use Rattle.bend_file.specs.declared.trailer.Shape.{Shape}
 use Rattle.bend_file.specs.declared.trailer.Shape.the-variants.{Refused, At}
 
--- a conjunction taken apart
-pub apart : (a b : Bool) → a && b ≡ true → (a ≡ true) × (b ≡ true)
-apart true b e = (refl, e)
-apart false b e = absurd (true≢false (sym e))
-
 pub small-is : (n c : ℕ) → small n c ≡ true → Small n c
 unfolding small
 small-is n c e =
-    let s = apart (leb n 32) (leb (c * n) 2048) e in
+    let s = both-true (leb n 32) (leb (c * n) 2048) e in
     let h = leb-true n 32 (s .0) in
     record { few = h; square = mul-le-mul h h; moving = leb-true (c * n) 2048 (s .1) }
 

@@ -1,19 +1,13 @@
 -- Which patterns `from_bits` takes, and what `to_bits` asks: no NaN. Every pattern of a NaN is the one NaN.
 use Prim.Native.Nat.{ℕ, _%_, _≤_, _<_}
-use mathlib.Core.Path.{_≡_, refl, sym, _∙_, subst}
-use mathlib.Core.Bool.{Bool, true, false, not, true≢false}
+use mathlib.Core.Path.{_≡_, sym, _∙_, subst}
+use mathlib.Core.Bool.{Bool, false, not}
 use lib.Dec.{T}
-use lib.Ieee.{Float, nan, inf, fin, binary64, isNan, nanBits, ofBits, ne}
+use lib.Ieee.{Float, nan, binary64, isNan, nanBits, ofBits, ne}
 use lib.Ieee.Bits.{nanBits-is, nanBits-above}
 use borrow.Author.Tests.{lt-ltb, le-ltb}
 use Rattle.floats.specs.Helpers.{isNaN}
-use Rattle.floats.proofs.Meaning.{is-nan}
-
-only-nan : (x : Float) → isNan x ≡ true → x ≡ nan
-unfolding isNan
-only-nan nan h = refl
-only-nan (inf s) h = absurd (true≢false (sym h))
-only-nan (fin s m e) h = absurd (true≢false (sym h))
+use Rattle.floats.proofs.Meaning.{is-nan, only-nan}
 
 pub nan-pattern : (b : ℕ) → 0x7FF0000000000000 < b % 0x8000000000000000 → ofBits binary64 b ≡ nan
 nan-pattern b h = only-nan (ofBits binary64 b) (sym (nanBits-is binary64 b) ∙ nanBits-above binary64 b ∙ lt-ltb 0x7FF0000000000000 (b % 0x8000000000000000) h)

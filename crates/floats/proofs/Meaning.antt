@@ -26,6 +26,13 @@ is-nan (inf true) = refl
 is-nan (inf false) = refl
 is-nan (fin s m e) = rw (level-self s (m * up e * down e))
 
+-- there is one NaN
+pub only-nan : (v : Float) → isNan v ≡ true → v ≡ nan
+unfolding isNan
+only-nan nan h = refl
+only-nan (inf s) h = absurd (true≢false (sym h))
+only-nan (fin s m e) h = absurd (true≢false (sym h))
+
 abbrev pub isFin : Float → Bool
 isFin nan = false
 isFin (inf s) = false

@@ -1,20 +1,20 @@
 -- Laws of text laid into a buffer: nothing, one byte, and one piece after another.
 use Prim.Native.Nat.{ℕ, zero, suc, _+_, _-_, _/_, _%_, _≤_, _<_, min}
 use mathlib.Core.Path.{_≡_, refl, sym, _∙_, ap}
-use mathlib.Core.Bool.{Bool, true, false, not, true≢false}
+use mathlib.Core.Bool.{Bool, true, false, not}
 use mathlib.Core.List.{List, [], _∷_, _++_}
 use native.Mathlib.Omega.{arith}
 use native.Mathlib.Nat.{add-zero}
 use native.Mathlib.Numerals.{add-one}
 use lib.Dec.{T, leb, ltb}
-use lib.Ieee.{Float, nan, inf, fin, isNan, ne, toBits}
+use lib.Ieee.{Float, nan, isNan, ne, toBits}
 use lib.ListN.{length, getD, set, take, drop, length-append, length-set}
 use Rattle.loops.specs.Loops.{turns}
 use lib.Seq.{sets, length-sets, set-out, take-suc, take-all, take-at, sets-eq}
 use borrow.Author.Tests.{leb-true, leb-false, ltb-false, lt-ltb, le-ltb}
 use Rattle.printer.specs.Output.{digit, digits, decimal, hex, pattern, space, rowLine, rowLines, listed}
 use Rattle.floats.specs.Helpers.{isNaN}
-use Rattle.floats.proofs.Meaning.{is-nan}
+use Rattle.floats.proofs.Meaning.{is-nan, only-nan}
 use Rattle.printer.specs.Writing.{Wrote}
 
 sets-out : (t l : List ℕ) (i : ℕ) → length l ≤ i → sets l i t ≡ l
@@ -112,12 +112,6 @@ reading p e = rw e at p
 test-of-nan : (v : Float) → ne v v ≡ isNan v
 unfolding isNaN
 test-of-nan v = is-nan v
-
-only-nan : (v : Float) → isNan v ≡ true → v ≡ nan
-unfolding isNan
-only-nan nan h = refl
-only-nan (inf s) h = absurd (true≢false (sym h))
-only-nan (fin s m e) h = absurd (true≢false (sym h))
 
 pub nan-printed : (v : Float) → ne v v ≡ true → hex 16 0x7FF8000000000000 ≡ pattern v
 unfolding pattern toBits

@@ -1,10 +1,11 @@
 -- The test of a join's sums says what each sum comes to.
 use Prim.Native.Nat.{ℕ, _+_, _-_, _≤_}
-use mathlib.Core.Path.{_≡_, refl, sym, _∙_}
-use mathlib.Core.Bool.{Bool, true, false, _&&_, true≢false}
+use mathlib.Core.Path.{_≡_, refl}
+use mathlib.Core.Bool.{Bool, true, false}
 use native.Mathlib.Omega.{arith}
 use lib.Dec.{leb}
 use borrow.Author.Tests.{le-leb, lt-leb, leb-true, leb-false}
+use Rattle.loops.proofs.Every.{both-true}
 use Rattle.report.specs.declared.SolveReport.{SolveReport}
 use Rattle.report.specs.Joins.{most, sumFits, sumsFit, allSumsFit, Summable, AllSummable}
 
@@ -25,19 +26,14 @@ fits-back : (x y : ℕ) → x + y ≤ most → sumFits x y ≡ true
 unfolding sumFits
 fits-back x y h = le-leb (x + y) most h
 
--- a conjunction taken apart
-apart : (a b : Bool) → a && b ≡ true → (a ≡ true) × (b ≡ true)
-apart true b e = (refl, e)
-apart false b e = absurd (true≢false (sym e))
-
 module _ (a b : SolveReport) where
   pub summable : sumsFit a b ≡ true → Summable a b
   unfolding sumsFit
   summable e =
-      let s5 = apart _ (sumFits (a .«exact_passes») (b .«exact_passes»)) e in
-      let s4 = apart _ (sumFits (a .sweeps) (b .sweeps)) (s5 .0) in
-      let s3 = apart _ (sumFits (a .anchors) (b .anchors)) (s4 .0) in
-      let s2 = apart (sumFits (a .iterations) (b .iterations)) (sumFits (a .rejected) (b .rejected)) (s3 .0) in
+      let s5 = both-true _ (sumFits (a .«exact_passes») (b .«exact_passes»)) e in
+      let s4 = both-true _ (sumFits (a .sweeps) (b .sweeps)) (s5 .0) in
+      let s3 = both-true _ (sumFits (a .anchors) (b .anchors)) (s4 .0) in
+      let s2 = both-true (sumFits (a .iterations) (b .iterations)) (sumFits (a .rejected) (b .rejected)) (s3 .0) in
       record {
         iterations = fits (a .iterations) (b .iterations) (s2 .0);
         rejected = fits (a .rejected) (b .rejected) (s2 .1);
@@ -60,7 +56,7 @@ module _ (a b : SolveReport) where
   pub all-summable : allSumsFit a b ≡ true → AllSummable a b
   unfolding allSumsFit
   all-summable e =
-      let s = apart (sumFits (a .increments) (b .increments)) (sumsFit a b) e in
+      let s = both-true (sumFits (a .increments) (b .increments)) (sumsFit a b) e in
       record { increments = fits (a .increments) (b .increments) (s .0); others = summable (s .1) }
 
   pub all-sums-fit : AllSummable a b → allSumsFit a b ≡ true
