@@ -7,3 +7,4 @@ pub mod Runs
 pub mod Solves
 pub mod Orders
 pub mod Theorem
+pub mod Instance

@@ -254,23 +254,20 @@ module _ (c : Call) (zeroth : number c ≡ 0) (fair : Upright (c .problem)) (ok 
       (zeroth, plain-sound (result SWEEP_CAP p idle (c .listed) (ended j still s)) idle j true false s refl (h .1) (h .2 .standing .boxed) (h .2 .standing .passes) (λ z. h .2 .small))
   result-claims idle (ended j exact s) h = (zeroth, exact-sound (result SWEEP_CAP p idle (c .listed) (ended j exact s)) idle j s refl refl (h .1) (h .2))
   result-claims idle (ended j (fight cause.Growth r) s) h =
-      let a = result SWEEP_CAP p idle (c .listed) (ended j (fight cause.Growth r) s) in
-      (
+      let a = result SWEEP_CAP p idle (c .listed) (ended j (fight cause.Growth r) s) in (
         zeroth,
         plain-sound a idle j false true s refl (h .1) (h .2 .boxed) (ended-below (s .passes) j (h .0) (h .1) (h .2 .passes)) (λ z. absurd (true≢false (sym z))),
         listed-rows a cause.Growth r refl (h .2 .some) (h .2 .these)
-        (λ k b. grew-reason (s .nu) (getD r k 0) (each-at (λ i. past (at (s .nu) i) (at (p .scale) i) ≡ true) r (h .2 .these .passing) k b)),
+            (λ k b. grew-reason (s .nu) (getD r k 0) (each-at (λ i. past (at (s .nu) i) (at (p .scale) i) ≡ true) r (h .2 .these .passing) k b)),
       )
   result-claims idle (ended j (fight cause.Pass r) s) h =
-      let a = result SWEEP_CAP p idle (c .listed) (ended j (fight cause.Pass r) s) in
-      (
+      let a = result SWEEP_CAP p idle (c .listed) (ended j (fight cause.Pass r) s) in (
         zeroth,
         plain-sound a idle j false false s refl (h .1) (h .2 .standing .boxed) (h .2 .standing .passes) (λ z. absurd (true≢false (sym z))),
         listed-rows a cause.Pass r refl (h .2 .fought .some) (h .2 .fought .these) (fought-reasons (s .nu) (s .states) r (h .2 .standing .marks) (h .2 .fought .these)),
       )
   result-claims idle (ended j (fight cause.Sweep r) s) h =
-      let a = result SWEEP_CAP p idle (c .listed) (ended j (fight cause.Sweep r) s) in
-      (
+      let a = result SWEEP_CAP p idle (c .listed) (ended j (fight cause.Sweep r) s) in (
         zeroth,
         plain-sound a idle j false false s refl (h .1) (h .2 .standing .boxed) (h .2 .standing .passes) (λ z. absurd (true≢false (sym z))),
         listed-rows a cause.Sweep r refl (h .2 .fought .some) (h .2 .fought .these) (fought-reasons (s .nu) (s .states) r (h .2 .standing .marks) (h .2 .fought .these)),
@@ -302,8 +299,7 @@ still-claims : (c : Call) → number c ≡ 0 → Upright (c .problem) → (ok : 
 unfolding begin inBox
 still-claims c z fair ok idle =
     let s = start-stands (c .problem) (c .nu) (c .states) (c .listed) ok in
-    let m = marked-at (c .problem) (c .states) (ok .states) in
-    (
+    let m = marked-at (c .problem) (c .states) (ok .states) in (
       z,
       record {
         fewSweeps = zero-le;
