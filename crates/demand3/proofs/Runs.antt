@@ -1,6 +1,6 @@
 -- What holds of a run after each sweep, going on or ended.
 use Prim.Native.Nat.{ℕ, suc, _-_, _≤_, _<_}
-use mathlib.Core.Path.{_≡_, refl, sym, _∙_, ap}
+use mathlib.Core.Path.{_≡_, refl, sym, _∙_, ap, subst}
 use mathlib.Core.Bool.{Bool, true, false, not, cond}
 use mathlib.Core.List.{List, [], _∷_}
 use native.Mathlib.Omega.{arith}
@@ -80,10 +80,12 @@ pub record Still (p : Problem) (st₀ : List ℕ) (nu₀ : List Float) (j : ℕ)
   pub standing : Stands p st₀ nu₀ j j s
   pub small : le (residual p (s .states) (s .nu) (rows p)) 1e-9 ≡ true
 
-pub record Exact (p : Problem) (j : ℕ) (s : Stand) : Type 0 where
+-- Idle rows have what the sweeps left
+pub record Exact (p : Problem) (st₀ : List ℕ) (nu₀ : List Float) (j : ℕ) (s : Stand) : Type 0 where
   pub passes : s .passes ≡ notAbove j
   pub marks : Marks p (s .states)
-  pub holds : Holds p (s .states) (s .nu)
+  pub boxed : Boxed p (sweptAlone p st₀ nu₀ j)
+  pub holds : Holds p (sweptAlone p st₀ nu₀ j) (s .states) (s .nu)
   pub gentle : (i : ℕ) → i < rows p → hard p (s .states) (s .nu) i ≡ false
 
 -- growth ends a sweep before its pass
@@ -100,7 +102,7 @@ pub record Fell (p : Problem) (st₀ : List ℕ) (nu₀ : List Float) (j : ℕ) 
 
 abbrev pub Ends : Problem → List ℕ → List Float → ℕ → Ending → Stand → Type 0
 Ends p st₀ nu₀ j still s = Still p st₀ nu₀ j s
-Ends p st₀ nu₀ j exact s = Exact p j s
+Ends p st₀ nu₀ j exact s = Exact p st₀ nu₀ j s
 Ends p st₀ nu₀ j (fight cause.Growth l) s = Grew p st₀ nu₀ j s l
 Ends p st₀ nu₀ j (fight cause.Pass l) s = Fell p st₀ nu₀ j s l
 Ends p st₀ nu₀ j (fight cause.Sweep l) s = Fell p st₀ nu₀ j s l
@@ -123,12 +125,21 @@ module _ (p : Problem) (m : Watch) (st₀ : List ℕ) (nu₀ : List Float) (firs
   due-no : checkpoint SWEEP_CAP (suc k) ≡ false → notAbove (suc k) ≡ notAbove k
   due-no e = due-next k few ∙ ap (λ (b : Bool). cond b (suc (notAbove k)) (notAbove k)) e
 
-  passed-runs : (s : Stand) (x : Pass) → checkpoint SWEEP_CAP (suc k) ≡ true → Stands p st₀ nu₀ k (suc k) s → Passing p x → Runs p st₀ nu₀ (suc k) (suc k) (passed (suc k) s x)
+  passed-runs : (s : Stand) (x : Pass) → checkpoint SWEEP_CAP (suc k) ≡ true → Stands p st₀ nu₀ k (suc k) s → Passing p (s .nu) x → Runs p st₀ nu₀ (suc k) (suc k) (passed (suc k) s x)
   unfolding passed
   passed-runs s (moving t) e h g = record { marks = g .marks; boxed = h .boxed; passes = ap suc (h .passes) ∙ sym (due-yes e); alone = h .alone }
   passed-runs s (failed t) e h g = record { marks = g .marks; boxed = h .boxed; passes = ap suc (h .passes) ∙ sym (due-yes e); alone = h .alone }
-  passed-runs s (found t) e h g =
-      (omega arith, omega arith, record { passes = ap suc (h .passes) ∙ sym (due-yes e); marks = g .0 .marks; holds = g .0 .holds; gentle = g .1 })
+  passed-runs s (found t) e h g = (
+    omega arith,
+    omega arith,
+    record {
+      passes = ap suc (h .passes) ∙ sym (due-yes e);
+      marks = g .0 .marks;
+      boxed = subst (Boxed p) (h .alone) (h .boxed);
+      holds = subst (λ (v : List Float). Holds p v (t .states) (t .nu)) (h .alone) (g .0 .holds);
+      gentle = g .1;
+    },
+  )
   passed-runs s (fighting l t) e h g =
       (omega arith, omega arith, record { standing = record { marks = g .0 .marks; boxed = h .boxed; passes = ap suc (h .passes) ∙ sym (due-yes e); alone = h .alone }; fought = g .1 })
 
@@ -138,7 +149,7 @@ module _ (p : Problem) (m : Watch) (st₀ : List ℕ) (nu₀ : List Float) (firs
   checked-runs (going s) h = go (checkpoint SWEEP_CAP (suc k)) refl
     where
       go : (b : Bool) → checkpoint SWEEP_CAP (suc k) ≡ b → Runs p st₀ nu₀ (suc k) (suc k) (cond b (passed (suc k) s (exactPass p (s .states) (s .nu))) (going s))
-      go true e = passed-runs s (exactPass p (s .states) (s .nu)) e h (exact-passing p (s .states) (s .nu) (h .marks) (h .boxed))
+      go true e = passed-runs s (exactPass p (s .states) (s .nu)) e h (exact-passing p (s .states) (s .nu) (h .marks) (h .boxed .long))
       go false e = record { marks = h .marks; boxed = h .boxed; passes = h .passes ∙ sym (due-no e); alone = h .alone }
 
   fell-runs : (s : Stand) (l : List ℕ) → Stands p st₀ nu₀ (suc k) (suc k) s → Gathered (Fights p (s .states)) (rows p) l → Runs p st₀ nu₀ (suc k) (suc k) (unless cause.Sweep (suc k) s l)

@@ -176,6 +176,7 @@ module _ (c : Call) (zeroth : number c ≡ 0) (fair : Upright (c .problem)) (ok 
         fewSweeps = h;
         passes = q;
         leftBySweeps = λ z. e ∙ w;
+        idleLeft = λ i d z. ap (λ (nu : List Float). at nu i) (e ∙ w);
         inBoxes = λ z i d. rw e (in-box (s .nu) i (b .boxes (fair .ordered) i d));
         idleInBoxes = λ i d z. rw e (in-box (s .nu) i (b .boxes (fair .ordered) i d));
         converged = λ z y. r z;
@@ -211,9 +212,11 @@ module _ (c : Call) (zeroth : number c ≡ 0) (fair : Upright (c .problem)) (ok 
               (nil-hi (at (p .lo) j) (at (p .hi) j) u (W p j j) (fair .lows j b) (fair .highs j b) (fair .ordered j b) (acts-is-above (W p j j) here) (not-lt-positive u (wrong-hi u k)))));
         }
 
-  exact-sound : (a : Result) (idle k : ℕ) (s : Stand) → a .nu ≡ s .nu → a .states ≡ s .states → Sweeps k → k ≤ 200 → Exact p k s → Sound c a false (reportOf p idle k true true s)
+  exact-sound : (a : Result) (idle k : ℕ) (s : Stand) → a .nu ≡ s .nu → a .states ≡ s .states → Sweeps k → k ≤ 200 → Exact p (marked p (c .states) (rows p)) (begun p (c .nu) (rows p)) k s → Sound c a false (reportOf p idle k true true s)
   unfolding reportOf
   exact-sound a idle k s e i n h x =
+      let rest : (j : ℕ) → j < rows p → acting p j ≡ false → at (s .nu) j ≡ at (bySweeps c k) j
+      = λ j d z. x .holds .rest j d (eqb-true (state (s .states) j) 3 (x .marks .idle j d ∙ idle-is j d z)) in
       record {
         madeSweeps = n .0;
         lastSweep = λ z. n .1;
@@ -221,7 +224,8 @@ module _ (c : Call) (zeroth : number c ≡ 0) (fair : Upright (c .problem)) (ok 
         passes = x .passes;
         leftBySweeps = λ z. absurd (true≢false z);
         inBoxes = λ z. absurd (true≢false z);
-        idleInBoxes = λ j d z. rw e (in-box (s .nu) j (x .holds .rest (fair .ordered) j d (eqb-true (state (s .states) j) 3 (x .marks .idle j d ∙ idle-is j d z))));
+        idleLeft = λ j d z. ap (λ (nu : List Float). at nu j) e ∙ rest j d z;
+        idleInBoxes = λ j d z. rw (e, rest j d z) (in-box (bySweeps c k) j (x .boxed .boxes (fair .ordered) j d));
         converged = λ z y. absurd (true≢false y);
         atLo = λ z j d y. let f : state (s .states) j ≡ 1 = rw i at y in
             rw e
@@ -327,7 +331,7 @@ solve-modest p m nu st l ok = go (length (idleRows p (rows p))) (begin p nu st) 
 -- all rows Idle: no row is on a bound, and every multiplier is as the clamp put it
 still-claims : (c : Call) → number c ≡ 0 → Upright (c .problem) → (ok : Accepted (c .problem) (c .nu) (c .states) (c .listed)) → (idle : ℕ)
     → Claims c (record { outcome = solved (nothing idle); nu = begin (c .problem) (c .nu) (c .states) .nu; states = begin (c .problem) (c .nu) (c .states) .states; listed = c .listed })
-unfolding begin inBox
+unfolding begin inBox sweptAlone
 still-claims c z fair ok idle =
     let s = start-stands (c .problem) (c .nu) (c .states) (c .listed) ok in
     let m = marked-at (c .problem) (c .states) (ok .states) in (
@@ -338,6 +342,7 @@ still-claims c z fair ok idle =
         fewSweeps = zero-le;
         passes = sym due-zero;
         leftBySweeps = λ y. absurd (true≢false y);
+        idleLeft = λ i d y. refl;
         inBoxes = λ y. absurd (true≢false y);
         idleInBoxes = λ i d y. s .boxed .boxes (fair .ordered) i d;
         converged = λ x y. absurd (true≢false y);

@@ -117,9 +117,10 @@ pub record Sound (c : Call) (a : Result) (grew : Bool) (r : BoxReport) : Type 0 
   pub passes : r .«exact_passes» ≡ cond grew (below (r .sweeps)) (notAbove (r .sweeps))
   -- Left by sweeps are, in an answer that is not exact, all multipliers: only the pass that finds an exact answer writes the multipliers of an answer.
   pub leftBySweeps : r .exact ≡ false → a .nu ≡ bySweeps c (r .sweeps)
-  -- They are NaN or in their boxes.
+  -- In an exact answer they are those of the Idle rows: that pass has written every row that acts, and no other.
+  pub idleLeft : (i : ℕ) → i < rows (c .problem) → acting (c .problem) i ≡ false → at (a .nu) i ≡ at (bySweeps c (r .sweeps)) i
+  -- Multipliers left by sweeps are NaN or in their boxes.
   pub inBoxes : r .exact ≡ false → (i : ℕ) → i < rows (c .problem) → NaNOrInBox (c .problem) (a .nu) i
-  -- In an exact answer the pass has written every row that acts. An Idle row is left as the clamp before the first sweep put it: it too is NaN or in its box.
   pub idleInBoxes : (i : ℕ) → i < rows (c .problem) → acting (c .problem) i ≡ false → NaNOrInBox (c .problem) (a .nu) i
   -- converged but not exact means residual at most 1e-9
   pub converged : r .converged ≡ true → r .exact ≡ false → le (r .residual) 1e-9 ≡ true
