@@ -2,14 +2,13 @@
 use Prim.Native.Nat.{ℕ, _<_}
 use mathlib.Core.Path.{_≡_, refl, sym}
 use mathlib.Core.Bool.{Bool, true, false, _&&_, true≢false}
-use mathlib.Core.List.{List, [], _∷_, List·Permᴰ, List·Permᴰ·swap}
+use mathlib.Core.List.{[], _∷_, List·Permᴰ·swap}
 use lib.Dec.{T, lit≤}
-use lib.Ieee.{Float, binary64, ofBits, le, lt, eq, fits}
+use lib.Ieee.{binary64, ofBits, le, lt, eq, fits}
 use Rattle.loops.specs.Loops.{every}
 use Rattle.loops.proofs.Every.{every-at}
 use Rattle.floats.specs.Ops.{at, Fits}
 use Rattle.sweep.specs.Rows.{Problem, rows}
-use Rattle.tally.specs.Tally.{Call}
 use Rattle.tally.specs.Examples.{grows, fights, refuses}
 use Rattle.demand3.specs.Claims.{Upright}
 use Rattle.demand3.specs.Demand.{Demanded}

@@ -1,10 +1,10 @@
 -- A run ends in the sweep that it says: until then it goes on.
 use Prim.Native.Nat.{ℕ, zero, suc, _≤_, _<_}
-use mathlib.Core.Path.{_≡_, refl, sym, _∙_, ap}
+use mathlib.Core.Path.{_≡_, refl, _∙_, ap}
 use mathlib.Core.Bool.{Bool, true, false, cond}
 use mathlib.Core.List.{List, [], _∷_}
 use native.Mathlib.Omega.{arith}
-use native.Mathlib.Nat.{not-suc-le-zero, le-of-suc-le-suc}
+use native.Mathlib.Nat.{le-of-suc-le-suc}
 use lib.Arith.{lt-of-le-ne}
 use lib.Dec.{eqb}
 use lib.Ieee.{Float, le}

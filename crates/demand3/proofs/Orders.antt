@@ -1,6 +1,6 @@
 -- Every order of a list of tallied solves leaves the same tally and gives each solve the answer that it has alone, as long as no tally on the way can be full: 21,474,836 solves of 200
 -- sweeps each are the most of which that is so.
-use Prim.Native.Nat.{ℕ, zero, suc, _+_, _*_, _≤_, _<_, zero-le}
+use Prim.Native.Nat.{ℕ, suc, _+_, _*_, _≤_, _<_, zero-le}
 use mathlib.Core.Path.{_≡_, refl, sym, _∙_, ap}
 use mathlib.Core.Bool.{Bool, true, false, cond}
 use mathlib.Core.List.{List, [], _∷_, map, List·Permᴰ, List·Permᴰ·nil, List·Permᴰ·cons, List·Permᴰ·swap, List·Permᴰ·trans}
@@ -11,9 +11,9 @@ use borrow.Author.Tests.{le-ltb, ne-eqb, eqb-true}
 use Rattle.report.specs.Joins.{NOTHING, both, and, AllSummable}
 use Rattle.report.specs.declared.SolveReport.{SolveReport}
 use Rattle.report.proofs.Joins.{Held, both-held, both-comm, both-assoc, and-joins}
-use Rattle.boxed.specs.Solves.{Outcome, refused, solved, infeasible, Result, reply, solveReply, SWEEP_CAP}
+use Rattle.boxed.specs.Solves.{Outcome, refused, solved, infeasible, reply, solveReply, SWEEP_CAP}
 use Rattle.boxed.specs.declared.BoxReport.{BoxReport}
-use Rattle.tally.specs.Tally.{Call, number, alone, turned, kept, joinedTo, full, numberOn, answerOn, Tallied, with, tallied, Tallies, before, all}
+use Rattle.tally.specs.Tally.{Call, number, alone, turned, kept, joinedTo, full, numberOn, answerOn, Tallied, with, tallied, before, all}
 use Rattle.demand3.specs.Demand.{reportIn, reported, sumOf}
 use Rattle.demand3.proofs.Solves.{Modest, Reported}
 

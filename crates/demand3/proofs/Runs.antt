@@ -4,10 +4,10 @@ use mathlib.Core.Path.{_≡_, refl, sym, _∙_, ap, subst}
 use mathlib.Core.Bool.{Bool, true, false, not, cond}
 use mathlib.Core.List.{List, [], _∷_}
 use native.Mathlib.Omega.{arith}
-use native.Mathlib.Nat.{not-suc-le-zero, le-of-suc-le-suc, le-refl}
+use native.Mathlib.Nat.{not-suc-le-zero, le-of-suc-le-suc}
 use lib.Arith.{lt-of-le-ne}
 use lib.Dec.{eqb}
-use lib.ListN.{length, set, length-set}
+use lib.ListN.{length, length-set}
 use lib.Ieee.{Float, le}
 use borrow.Author.Tests.{eqb-true, eqb-false}
 use Rattle.loops.specs.Loops.{turns}

@@ -7,7 +7,7 @@ use native.Mathlib.Omega.{arith}
 use native.Mathlib.Nat.{not-suc-le-zero, le-of-eq, le-refl}
 use lib.Dec.{ltb, eqb}
 use lib.ListN.{length, getD}
-use lib.Ieee.{Float, binary64, ofBits, lt, le, eq, ne}
+use lib.Ieee.{Float, binary64, lt, le}
 use lib.Ieee.Bits.{ofBits-fits}
 use lib.Ieee.Fits.{div-fits}
 use borrow.Author.Tests.{eqb-true, ltb-false, not-false}
@@ -25,19 +25,19 @@ use Rattle.floats.proofs.Bound.{nil, above, nil-lo, nil-hi, nil-abs, nil-div, n
 use Rattle.sweep.specs.Rows.{Problem, rows, W, state, acts, cannotAct, idleRow, idleState, idleRows, begun, marked, rowSum, update, updated, naturalResidual, residualRow, residual, past}
 use Rattle.sweep.specs.Rows as D
 use Rattle.moves.specs.Moves.{wrong}
-use Rattle.boxed.specs.Solves.{Ending, exact, still, fight, Stand, stand, Run, going, ended, Watch, run, Outcome, refused, solved, infeasible, Result, reportOf, unfound, result, nothing, begin, solveFrom, solve, goodScaleAt, first, refusal, reply, solveReply, SWEEP_CAP}
+use Rattle.boxed.specs.Solves.{exact, still, fight, Stand, Run, going, ended, Watch, run, Outcome, refused, solved, infeasible, Result, reportOf, unfound, result, nothing, begin, solveFrom, solve, goodScaleAt, first, refusal, reply, solveReply, SWEEP_CAP}
 use Rattle.boxed.specs.declared.BoxReport.{BoxReport}
 use Rattle.boxed.specs.declared.Cause.{Cause}
 use Rattle.boxed.specs.declared.Cause.the-variants as cause
 use Rattle.tally.specs.Tally.{Call, number, alone}
-use Rattle.demand3.specs.Claims.{sweptAlone, Upright, NaNOrInBox, acting, notAbove, below, afterSweeps, goesOn, bySweeps, OnBound, Sound, Reason, Listed, grewBy, ClaimsOf, Claims}
+use Rattle.demand3.specs.Claims.{sweptAlone, Upright, NaNOrInBox, acting, notAbove, below, afterSweeps, goesOn, bySweeps, OnBound, Sound, Reason, Listed, Claims}
 use Rattle.demand3.proofs.Words.{lt-abs, acts-above, idle-not-above, diagonal, own-is, rising-at, gathered-few}
 use Rattle.demand3.proofs.Boxes.{Boxed, Inside, begun-boxed}
 use Rattle.demand3.proofs.Rays.{Fights}
 use Rattle.demand3.proofs.Due.{due-zero, due-most, below-is}
-use Rattle.demand3.proofs.Trials.{Marks, hard, Fought, state-not-idle, acts-not-idle}
+use Rattle.demand3.proofs.Trials.{Marks, state-not-idle, acts-not-idle}
 use Rattle.demand3.proofs.Made.{Made, made}
-use Rattle.demand3.proofs.Runs.{Stands, Exact, Grew, Fell, Runs, run-runs, marked-marks, marked-at}
+use Rattle.demand3.proofs.Runs.{Stands, Exact, Runs, run-runs, marked-marks, marked-at}
 
 -- ---- the residual is a value that an f64 holds
 

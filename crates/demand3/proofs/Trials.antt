@@ -1,7 +1,7 @@
 -- What holds through an exact pass: Idle rows keep their state and multiplier, and a row on a bound holds exactly that bound.
-use Prim.Native.Nat.{ℕ, zero, suc, _+_, _*_, _≤_, _<_}
+use Prim.Native.Nat.{ℕ, suc, _≤_, _<_}
 use mathlib.Core.Path.{_≡_, refl, sym, _∙_, ap, subst}
-use mathlib.Core.Bool.{Bool, true, false, not, cond, _&&_, _||_, true≢false}
+use mathlib.Core.Bool.{Bool, true, false, cond, _&&_, _||_, true≢false}
 use mathlib.Core.List.{List, [], _∷_}
 use native.Mathlib.Omega.{arith}
 use native.Mathlib.Nat.{not-suc-le-zero, le-of-suc-le-suc}
@@ -20,7 +20,7 @@ use Rattle.ray.specs.Rays.{ray}
 use Rattle.moves.specs.Moves.{heldRow, heldTo, held, inside, inconsistent, toTarget, narrowed, narrow, roomRow, roomTo, room, unblocked, movedRow, moved, wrong, harder, pushedRow, unpushed, pushed}
 use Rattle.moves.specs.declared.Blocking.{Blocking}
 use Rattle.moves.specs.declared.Hardest.{Hardest}
-use Rattle.exact_pass.specs.Headings.{Trial, trial, Pass, moving, found, failed, fighting, released, release, boundAt, stopped, fought, wentTo, went, headedBy, headed}
+use Rattle.exact_pass.specs.Headings.{Trial, trial, Pass, moving, found, failed, fighting, released, release, stopped, fought, wentTo, went, headedBy, headed}
 use Rattle.exact_pass.specs.Passes.{aimed, towardBy, toward, step, stuck, move, moves, limit, passFrom, exactPass}
 use Rattle.demand3.proofs.Rays.{Fights, ray-gathered}
 

@@ -52,7 +52,7 @@ distance v u d lo hi s = magnitude (v ⊖ within (v ⊖ u ⊘ d) lo hi) ⊘ s
 abbrev pub ownResidual : Problem → List Float → ℕ → Float
 ownResidual p nu i = distance (at nu i) (sumTo p nu i (rows p)) (cell p i i) (at (p .lo) i) (at (p .hi) i) (at (p .scale) i)
 
--- Idle: the diagonal is NaN or at most 0
+-- a row acts unless it is Idle, its diagonal NaN or at most 0
 abbrev pub acting : Problem → ℕ → Bool
 acting p i = lt 0ᶠ (cell p i i)
 
@@ -60,7 +60,7 @@ acting p i = lt 0ᶠ (cell p i i)
 abbrev pub NaNOrInBox : Problem → List Float → ℕ → Type 0
 NaNOrInBox p nu i = ne (at nu i) (at nu i) || (le (at (p .lo) i) (at nu i) && le (at nu i) (at (p .hi) i)) ≡ true
 
--- the sweeps that an exact pass follows, and how many of them are not above k, or below k
+-- the sweeps with an exact pass, and how many of them are not above k, or below k
 abbrev pub passSweeps : List ℕ
 passSweeps = 1 ∷ 2 ∷ 4 ∷ 8 ∷ 16 ∷ 32 ∷ 64 ∷ 128 ∷ 200 ∷ []
 
@@ -113,7 +113,7 @@ pub record Sound (c : Call) (a : Result) (grew : Bool) (r : BoxReport) : Type 0 
   pub lastSweep : 0 < r .sweeps → goesOn (afterSweeps c (r .sweeps)) && ltb (r .sweeps) 200 ≡ false
   -- at most 200 sweeps
   pub fewSweeps : r .sweeps ≤ 200
-  -- exactly as many passes as 1, 2, 4 .. 128, 200 has members not above its sweeps (below, where growth ended it)
+  -- exactly as many passes as 1, 2, 4 .. 128, 200 has members not above its sweeps (below, where growth ended it); the definition counts one where it makes one (`passed`)
   pub passes : r .«exact_passes» ≡ cond grew (below (r .sweeps)) (notAbove (r .sweeps))
   -- Left by sweeps are, in an answer that is not exact, all multipliers: only the pass that finds an exact answer writes the multipliers of an answer.
   pub leftBySweeps : r .exact ≡ false → a .nu ≡ bySweeps c (r .sweeps)
