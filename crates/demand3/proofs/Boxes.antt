@@ -1,10 +1,10 @@
 -- Multipliers that the clamp before the first sweep and the sweeps leave: NaN or in their boxes.
-use Prim.Native.Nat.{ℕ, zero, suc, _≤_, _<_}
+use Prim.Native.Nat.{ℕ, suc, _≤_, _<_}
 use mathlib.Core.Path.{_≡_, refl}
 use mathlib.Core.Bool.{Bool, true, false, cond}
 use mathlib.Core.List.{List}
 use native.Mathlib.Omega.{arith}
-use native.Mathlib.Nat.{not-suc-le-zero, le-of-suc-le-suc, le-refl}
+use native.Mathlib.Nat.{not-suc-le-zero, le-of-suc-le-suc}
 use lib.Arith.{lt-of-le-ne}
 use lib.Dec.{eqb}
 use lib.ListN.{length, set, length-set}

@@ -4,6 +4,8 @@ pub mod Rays
 pub mod Due
 pub mod Trials
 pub mod Runs
+pub mod Made
 pub mod Solves
 pub mod Orders
 pub mod Theorem
+pub mod Instance

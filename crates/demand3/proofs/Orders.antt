@@ -1,5 +1,6 @@
--- Every order of a list of at most 20,000,000 tallied solves leaves the same tally and gives each solve the answer that it has alone: no tally on the way is full.
-use Prim.Native.Nat.{ℕ, zero, suc, _+_, _*_, _≤_, _<_, zero-le}
+-- Every order of a list of tallied solves leaves the same tally and gives each solve the answer that it has alone, as long as no tally on the way can be full: 21,474,836 solves of 200
+-- sweeps each are the most of which that is so.
+use Prim.Native.Nat.{ℕ, suc, _+_, _*_, _≤_, _<_, zero-le}
 use mathlib.Core.Path.{_≡_, refl, sym, _∙_, ap}
 use mathlib.Core.Bool.{Bool, true, false, cond}
 use mathlib.Core.List.{List, [], _∷_, map, List·Permᴰ, List·Permᴰ·nil, List·Permᴰ·cons, List·Permᴰ·swap, List·Permᴰ·trans}
@@ -10,9 +11,9 @@ use borrow.Author.Tests.{le-ltb, ne-eqb, eqb-true}
 use Rattle.report.specs.Joins.{NOTHING, both, and, AllSummable}
 use Rattle.report.specs.declared.SolveReport.{SolveReport}
 use Rattle.report.proofs.Joins.{Held, both-held, both-comm, both-assoc, and-joins}
-use Rattle.boxed.specs.Solves.{Outcome, refused, solved, infeasible, Result, reply, solveReply, SWEEP_CAP}
+use Rattle.boxed.specs.Solves.{Outcome, refused, solved, infeasible, reply, solveReply, SWEEP_CAP}
 use Rattle.boxed.specs.declared.BoxReport.{BoxReport}
-use Rattle.tally.specs.Tally.{Call, number, alone, turned, kept, joinedTo, full, numberOn, answerOn, Tallied, with, tallied, Tallies, before, all}
+use Rattle.tally.specs.Tally.{Call, number, alone, turned, kept, joinedTo, full, numberOn, answerOn, Tallied, with, tallied, before, all}
 use Rattle.demand3.specs.Demand.{reportIn, reported, sumOf}
 use Rattle.demand3.proofs.Solves.{Modest, Reported}
 
@@ -76,6 +77,9 @@ total-most (c ∷ l) t h = total-most l (plus t (alone c .outcome)) (plus-most t
 
 -- ---- no tally from NOTHING is ever full
 
+abbrev pub enough : ℕ
+enough = 21474836
+
 pub record Within (k : ℕ) (t : SolveReport) : Type 0 where
   pub increments : t .increments ≤ k
   pub sweeps : t .sweeps ≤ 200 * k
@@ -87,13 +91,13 @@ pub record Within (k : ℕ) (t : SolveReport) : Type 0 where
 pub within-nothing : Within 0 NOTHING
 within-nothing = record { increments = zero-le; sweeps = zero-le; passes = zero-le; iterations = refl; rejected = refl; anchors = refl }
 
-not-full : (k : ℕ) (t : SolveReport) → k ≤ 20000000 → Within k t → full t ≡ false
+not-full : (k : ℕ) (t : SolveReport) → k < enough → Within k t → full t ≡ false
 unfolding full
 not-full k t b w =
     let i = w .increments in
     rw (ne-eqb (t .increments) 4294967295 (λ e. omega arith), le-ltb 4294967095 (t .sweeps) (omega arith), le-ltb 4294967286 (t .«exact_passes») (omega arith))
 
-module _ (k : ℕ) (t : SolveReport) (b : k < 20000000) (w : Within k t) (r : BoxReport) (m : Modest r) where
+module _ (k : ℕ) (t : SolveReport) (b : k < enough) (w : Within k t) (r : BoxReport) (m : Modest r) where
   summable : AllSummable t (turned r)
   unfolding turned
   summable =
@@ -113,7 +117,7 @@ within-more : (k : ℕ) (t : SolveReport) → Within k t → Within (suc k) t
 within-more k t w =
     record { increments = omega arith; sweeps = omega arith; passes = omega arith; iterations = w .iterations; rejected = w .rejected; anchors = w .anchors }
 
-joined-is : (k : ℕ) (t : SolveReport) (o : Outcome) → k < 20000000 → Within k t → Reported Modest o → (joinedTo t o ≡ plus t o) × Within (suc k) (plus t o)
+joined-is : (k : ℕ) (t : SolveReport) (o : Outcome) → k < enough → Within k t → Reported Modest o → (joinedTo t o ≡ plus t o) × Within (suc k) (plus t o)
 joined-is k t (refused j) b w m = (refl, within-more k t w)
 joined-is k t (solved r) b w m = (joined-one k t b w r m, within-one k t b w r m)
 joined-is k t (infeasible c l r) b w m = (joined-one k t b w r m, within-one k t b w r m)
@@ -131,14 +135,14 @@ unfolding answerOn numberOn alone solveReply
 answer-is t c h =
     ap (reply SWEEP_CAP (c .problem) (c .watch) (c .nu) (c .states) (c .listed)) (ap (λ (b : Bool). cond (eqb (number c) 0) (cond b 11 0) (number c)) h ∙ same-number (number c))
 
-tallied-is : (k : ℕ) (t : SolveReport) (c : Call) → k < 20000000 → Within k t → tallied t c ≡ record { tally = joinedTo t (alone c .outcome); answer = alone c }
+tallied-is : (k : ℕ) (t : SolveReport) (c : Call) → k < enough → Within k t → tallied t c ≡ record { tally = joinedTo t (alone c .outcome); answer = alone c }
 unfolding tallied with
 tallied-is k t c b w = ap (with t) (answer-is t c (not-full k t (omega arith) w))
 
 -- ---- the two laws, from what is known of each solve
 
 module _ (modest : (c : Call) → Reported Modest (alone c .outcome)) where
-  pub all-is : (l : List Call) (k : ℕ) (t : SolveReport) → k + length l ≤ 20000000 → Within k t → all t l ≡ record { tally = total t l; answers = map alone l }
+  pub all-is : (l : List Call) (k : ℕ) (t : SolveReport) → k + length l ≤ enough → Within k t → all t l ≡ record { tally = total t l; answers = map alone l }
   unfolding all before total
   all-is [] k t b w = refl
   all-is (c ∷ l) k t b w =

@@ -1,10 +1,9 @@
 -- The rows that growth or a ray lists: rising, below the number of rows, each with its reason.
-use Prim.Native.Nat.{ℕ, suc, _<_}
+use Prim.Native.Nat.{ℕ, suc}
 use mathlib.Core.Path.{_≡_, refl, sym}
 use mathlib.Core.Bool.{Bool, true, false, not, cond, _&&_, _||_, true≢false, or-true}
 use mathlib.Core.List.{List, [], _∷_, _++_}
 use lib.Ieee.{Float, lt, le, eq}
-use Rattle.loops.specs.Loops.{those}
 use Rattle.loops.proofs.Turns.{turns-keep}
 use Rattle.loops.proofs.Gather.{Gathered, gathered-none, gathered-skip, gathered-take, those-gathered}
 use Rattle.floats.specs.Ops.{at, 0ᶠ, 1e-9, ∞, −∞, _⊗_}

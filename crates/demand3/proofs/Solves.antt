@@ -1,13 +1,13 @@
 -- Every solve has the claims of demand 3, and every report is one that a tally can take.
 use Prim.Native.Nat.{ℕ, zero, suc, _-_, _*_, _%_, _≤_, _<_, zero-le}
 use mathlib.Core.Path.{_≡_, refl, sym, _∙_, ap, subst}
-use mathlib.Core.Bool.{Bool, true, false, not, cond, _&&_, _||_, true≢false}
+use mathlib.Core.Bool.{Bool, true, false, not, cond, _&&_, _||_, true≢false, and-false}
 use mathlib.Core.List.{List, [], _∷_}
 use native.Mathlib.Omega.{arith}
 use native.Mathlib.Nat.{not-suc-le-zero, le-of-eq, le-refl}
 use lib.Dec.{ltb, eqb}
 use lib.ListN.{length, getD}
-use lib.Ieee.{Float, binary64, ofBits, lt, le, eq, ne}
+use lib.Ieee.{Float, binary64, lt, le}
 use lib.Ieee.Bits.{ofBits-fits}
 use lib.Ieee.Fits.{div-fits}
 use borrow.Author.Tests.{eqb-true, ltb-false, not-false}
@@ -25,18 +25,19 @@ use Rattle.floats.proofs.Bound.{nil, above, nil-lo, nil-hi, nil-abs, nil-div, n
 use Rattle.sweep.specs.Rows.{Problem, rows, W, state, acts, cannotAct, idleRow, idleState, idleRows, begun, marked, rowSum, update, updated, naturalResidual, residualRow, residual, past}
 use Rattle.sweep.specs.Rows as D
 use Rattle.moves.specs.Moves.{wrong}
-use Rattle.boxed.specs.Solves.{Ending, exact, still, fight, Stand, stand, Run, going, ended, Watch, run, Outcome, refused, solved, infeasible, Result, reportOf, unfound, result, nothing, begin, solveFrom, solve, goodScaleAt, first, refusal, reply, solveReply, SWEEP_CAP}
+use Rattle.boxed.specs.Solves.{exact, still, fight, Stand, Run, going, ended, Watch, run, Outcome, refused, solved, infeasible, Result, reportOf, unfound, result, nothing, begin, solveFrom, solve, goodScaleAt, first, refusal, reply, solveReply, SWEEP_CAP}
 use Rattle.boxed.specs.declared.BoxReport.{BoxReport}
 use Rattle.boxed.specs.declared.Cause.{Cause}
 use Rattle.boxed.specs.declared.Cause.the-variants as cause
 use Rattle.tally.specs.Tally.{Call, number, alone}
-use Rattle.demand3.specs.Claims.{Upright, NaNOrInBox, acting, notAbove, below, OnBound, Sound, Reason, Listed, grewBy, ClaimsOf, Claims}
+use Rattle.demand3.specs.Claims.{sweptAlone, Upright, NaNOrInBox, acting, notAbove, below, afterSweeps, goesOn, bySweeps, OnBound, Sound, Reason, Listed, Claims}
 use Rattle.demand3.proofs.Words.{lt-abs, acts-above, idle-not-above, diagonal, own-is, rising-at, gathered-few}
 use Rattle.demand3.proofs.Boxes.{Boxed, Inside, begun-boxed}
 use Rattle.demand3.proofs.Rays.{Fights}
 use Rattle.demand3.proofs.Due.{due-zero, due-most, below-is}
-use Rattle.demand3.proofs.Trials.{Marks, hard, Fought, state-not-idle, acts-not-idle}
-use Rattle.demand3.proofs.Runs.{Stands, Exact, Grew, Fell, Runs, run-runs, marked-marks, marked-at}
+use Rattle.demand3.proofs.Trials.{Marks, state-not-idle, acts-not-idle}
+use Rattle.demand3.proofs.Made.{Made, made}
+use Rattle.demand3.proofs.Runs.{Stands, Exact, Runs, run-runs, marked-marks, marked-at}
 
 -- ---- the residual is a value that an f64 holds
 
@@ -133,14 +134,14 @@ report-modest : (p : Problem) (idle k : ℕ) (c e : Bool) (s : Stand) → k ≤ 
 unfolding reportOf
 report-modest p idle k c e s h g = record { few = h; fewer = g; held = residual-fits p (s .states) (s .nu) }
 
-result-modest : (p : Problem) (idle : ℕ) (l : List ℕ) (x : Run) → Runs p 200 200 x → Reported Modest (result SWEEP_CAP p idle l x .outcome)
+result-modest : (p : Problem) (idle : ℕ) (l : List ℕ) (x : Run) (st₀ : List ℕ) (nu₀ : List Float) → Runs p st₀ nu₀ 200 200 x → Reported Modest (result SWEEP_CAP p idle l x .outcome)
 unfolding result unfound
-result-modest p idle l (going s) h = report-modest p idle 200 false false s (le-refl 200) (rw (h .passes) (due-most 200))
-result-modest p idle l (ended j still s) h = report-modest p idle j true false s (h .1) (rw (h .2 .standing .passes) (due-most j))
-result-modest p idle l (ended j exact s) h = report-modest p idle j true true s (h .1) (rw (h .2 .passes) (due-most j))
-result-modest p idle l (ended j (fight cause.Growth r) s) h = report-modest p idle j false false s (h .1) (rw (h .2 .passes) (due-most (j - 1)))
-result-modest p idle l (ended j (fight cause.Pass r) s) h = report-modest p idle j false false s (h .1) (rw (h .2 .standing .passes) (due-most j))
-result-modest p idle l (ended j (fight cause.Sweep r) s) h = report-modest p idle j false false s (h .1) (rw (h .2 .standing .passes) (due-most j))
+result-modest p idle l (going s) st₀ nu₀ h = report-modest p idle 200 false false s (le-refl 200) (rw (h .passes) (due-most 200))
+result-modest p idle l (ended j still s) st₀ nu₀ h = report-modest p idle j true false s (h .1) (rw (h .2 .standing .passes) (due-most j))
+result-modest p idle l (ended j exact s) st₀ nu₀ h = report-modest p idle j true true s (h .1) (rw (h .2 .passes) (due-most j))
+result-modest p idle l (ended j (fight cause.Growth r) s) st₀ nu₀ h = report-modest p idle j false false s (h .1) (rw (h .2 .passes) (due-most (j - 1)))
+result-modest p idle l (ended j (fight cause.Pass r) s) st₀ nu₀ h = report-modest p idle j false false s (h .1) (rw (h .2 .standing .passes) (due-most j))
+result-modest p idle l (ended j (fight cause.Sweep r) s) st₀ nu₀ h = report-modest p idle j false false s (h .1) (rw (h .2 .standing .passes) (due-most j))
 
 -- ---- the claims of an accepted solve
 
@@ -160,16 +161,24 @@ module _ (c : Call) (zeroth : number c ≡ 0) (fair : Upright (c .problem)) (ok 
   idle-is : (i : ℕ) → i < rows p → acting p i ≡ false → idleRow p i ≡ true
   idle-is i b h = idle-not-above (W p i i) (rw (diagonal p (ok .few) (ok .square) i b) h)
 
+  -- it goes on until sweep k, which is its last
+  abbrev Sweeps : ℕ → Type 0
+  Sweeps k = ((i : ℕ) → i < k → goesOn (afterSweeps c i) ≡ true) × (goesOn (afterSweeps c k) && ltb k 200 ≡ false)
+
   -- not exact: every multiplier is left by sweeps
-  plain-sound : (a : Result) (idle k : ℕ) (v g : Bool) (s : Stand) → a .nu ≡ s .nu → k ≤ 200 → Boxed p (s .nu) → s .passes ≡ cond g (below k) (notAbove k)
-      → (v ≡ true → le (residual p (s .states) (s .nu) (rows p)) 1e-9 ≡ true) → Sound p a g (reportOf p idle k v false s)
+  plain-sound : (a : Result) (idle k : ℕ) (v g : Bool) (s : Stand) → a .nu ≡ s .nu → Sweeps k → k ≤ 200 → Boxed p (s .nu) → s .nu ≡ bySweeps c k → s .passes ≡ cond g (below k) (notAbove k)
+      → (v ≡ true → le (residual p (s .states) (s .nu) (rows p)) 1e-9 ≡ true) → Sound c a g (reportOf p idle k v false s)
   unfolding reportOf
-  plain-sound a idle k v g s e h b q r =
+  plain-sound a idle k v g s e n h b w q r =
       record {
+        madeSweeps = n .0;
+        lastSweep = λ z. n .1;
         fewSweeps = h;
         passes = q;
-        leftBySweeps = λ z i d. rw e (in-box (s .nu) i (b .boxes (fair .ordered) i d));
-        leftIdle = λ i d z. rw e (in-box (s .nu) i (b .boxes (fair .ordered) i d));
+        leftBySweeps = λ z. e ∙ w;
+        idleLeft = λ i d z. ap (λ (nu : List Float). at nu i) (e ∙ w);
+        inBoxes = λ z i d. rw e (in-box (s .nu) i (b .boxes (fair .ordered) i d));
+        idleInBoxes = λ i d z. rw e (in-box (s .nu) i (b .boxes (fair .ordered) i d));
         converged = λ z y. r z;
         atLo = λ z. absurd (true≢false (sym z));
         atHi = λ z. absurd (true≢false (sym z));
@@ -203,14 +212,20 @@ module _ (c : Call) (zeroth : number c ≡ 0) (fair : Upright (c .problem)) (ok 
               (nil-hi (at (p .lo) j) (at (p .hi) j) u (W p j j) (fair .lows j b) (fair .highs j b) (fair .ordered j b) (acts-is-above (W p j j) here) (not-lt-positive u (wrong-hi u k)))));
         }
 
-  exact-sound : (a : Result) (idle k : ℕ) (s : Stand) → a .nu ≡ s .nu → a .states ≡ s .states → k ≤ 200 → Exact p k s → Sound p a false (reportOf p idle k true true s)
+  exact-sound : (a : Result) (idle k : ℕ) (s : Stand) → a .nu ≡ s .nu → a .states ≡ s .states → Sweeps k → k ≤ 200 → Exact p (marked p (c .states) (rows p)) (begun p (c .nu) (rows p)) k s → Sound c a false (reportOf p idle k true true s)
   unfolding reportOf
-  exact-sound a idle k s e i h x =
+  exact-sound a idle k s e i n h x =
+      let rest : (j : ℕ) → j < rows p → acting p j ≡ false → at (s .nu) j ≡ at (bySweeps c k) j
+      = λ j d z. x .holds .rest j d (eqb-true (state (s .states) j) 3 (x .marks .idle j d ∙ idle-is j d z)) in
       record {
+        madeSweeps = n .0;
+        lastSweep = λ z. n .1;
         fewSweeps = h;
         passes = x .passes;
         leftBySweeps = λ z. absurd (true≢false z);
-        leftIdle = λ j d z. rw e (in-box (s .nu) j (x .holds .rest (fair .ordered) j d (eqb-true (state (s .states) j) 3 (x .marks .idle j d ∙ idle-is j d z))));
+        inBoxes = λ z. absurd (true≢false z);
+        idleLeft = λ j d z. ap (λ (nu : List Float). at nu j) e ∙ rest j d z;
+        idleInBoxes = λ j d z. rw (e, rest j d z) (in-box (bySweeps c k) j (x .boxed .boxes (fair .ordered) j d));
         converged = λ z y. absurd (true≢false y);
         atLo = λ z j d y. let f : state (s .states) j ≡ 1 = rw i at y in
             rw e
@@ -247,33 +262,49 @@ module _ (c : Call) (zeroth : number c ≡ 0) (fair : Upright (c .problem)) (ok 
   fought-reasons : (nu : List Float) (st : List ℕ) (r : List ℕ) → Marks p st → Gathered (Fights p st) (rows p) r → (k : ℕ) → k < length r → Reason p nu cause.Pass (getD r k 0)
   fought-reasons nu st r m g k b = fought-reason nu st (getD r k 0) m (each-at (λ j. j < rows p) r (g .below) k b) (each-at (Fights p st) r (g .passing) k b)
 
-  result-claims : (idle : ℕ) (x : Run) → Runs p 200 200 x → Claims c (result SWEEP_CAP p idle (c .listed) x)
+  went-on : ((i : ℕ) → i ≤ 200 → goesOn (afterSweeps c i) ≡ true) → Sweeps 200
+  went-on h = ((λ i b. h i (omega arith)), and-false (goesOn (afterSweeps c 200)))
+
+  ended-in : (j : ℕ) → ((i : ℕ) → i < j → goesOn (afterSweeps c i) ≡ true) × (goesOn (afterSweeps c j) ≡ false) → Sweeps j
+  ended-in j h = (h .0, ap (λ (b : Bool). b && ltb j 200) (h .1))
+
+  abbrev Whole : Run → Type 0
+  Whole x = Runs p (marked p (c .states) (rows p)) (begun p (c .nu) (rows p)) 200 200 x
+
+  abbrev MadeSo : Run → Type 0
+  MadeSo x = Made p (c .watch) (begin p (c .nu) (c .states)) 200 x
+
+  result-claims : (idle : ℕ) (x : Run) → MadeSo x → Whole x → Claims c (result SWEEP_CAP p idle (c .listed) x)
   unfolding result unfound
-  result-claims idle (going s) h = (zeroth, plain-sound (result SWEEP_CAP p idle (c .listed) (going s)) idle 200 false false s refl (le-refl 200) (h .boxed) (h .passes) (λ z. absurd (true≢false (sym z))))
-  result-claims idle (ended j still s) h =
-      (zeroth, plain-sound (result SWEEP_CAP p idle (c .listed) (ended j still s)) idle j true false s refl (h .1) (h .2 .standing .boxed) (h .2 .standing .passes) (λ z. h .2 .small))
-  result-claims idle (ended j exact s) h = (zeroth, exact-sound (result SWEEP_CAP p idle (c .listed) (ended j exact s)) idle j s refl refl (h .1) (h .2))
-  result-claims idle (ended j (fight cause.Growth r) s) h =
+  result-claims idle (going s) n h =
+      (zeroth, plain-sound (result SWEEP_CAP p idle (c .listed) (going s)) idle 200 false false s refl (went-on n) (le-refl 200) (h .boxed) (h .alone) (h .passes) (λ z. absurd (true≢false (sym z))))
+  result-claims idle (ended j still s) n h =
+      let g = h .2 .standing in
+      (zeroth, plain-sound (result SWEEP_CAP p idle (c .listed) (ended j still s)) idle j true false s refl (ended-in j n) (h .1) (g .boxed) (g .alone) (g .passes) (λ z. h .2 .small))
+  result-claims idle (ended j exact s) n h = (zeroth, exact-sound (result SWEEP_CAP p idle (c .listed) (ended j exact s)) idle j s refl refl (ended-in j n) (h .1) (h .2))
+  result-claims idle (ended j (fight cause.Growth r) s) n h =
       let a = result SWEEP_CAP p idle (c .listed) (ended j (fight cause.Growth r) s) in
-      (
+      let g = h .2 in (
         zeroth,
-        plain-sound a idle j false true s refl (h .1) (h .2 .boxed) (ended-below (s .passes) j (h .0) (h .1) (h .2 .passes)) (λ z. absurd (true≢false (sym z))),
-        listed-rows a cause.Growth r refl (h .2 .some) (h .2 .these)
-        (λ k b. grew-reason (s .nu) (getD r k 0) (each-at (λ i. past (at (s .nu) i) (at (p .scale) i) ≡ true) r (h .2 .these .passing) k b)),
+        plain-sound a idle j false true s refl (ended-in j n) (h .1) (g .boxed) (g .alone) (ended-below (s .passes) j (h .0) (h .1) (g .passes)) (λ z. absurd (true≢false (sym z))),
+        listed-rows a cause.Growth r refl (g .some) (g .these)
+            (λ k b. grew-reason (s .nu) (getD r k 0) (each-at (λ i. past (at (s .nu) i) (at (p .scale) i) ≡ true) r (g .these .passing) k b)),
       )
-  result-claims idle (ended j (fight cause.Pass r) s) h =
+  result-claims idle (ended j (fight cause.Pass r) s) n h =
       let a = result SWEEP_CAP p idle (c .listed) (ended j (fight cause.Pass r) s) in
-      (
+      let g = h .2 .standing in
+      let f = h .2 .fought in (
         zeroth,
-        plain-sound a idle j false false s refl (h .1) (h .2 .standing .boxed) (h .2 .standing .passes) (λ z. absurd (true≢false (sym z))),
-        listed-rows a cause.Pass r refl (h .2 .fought .some) (h .2 .fought .these) (fought-reasons (s .nu) (s .states) r (h .2 .standing .marks) (h .2 .fought .these)),
+        plain-sound a idle j false false s refl (ended-in j n) (h .1) (g .boxed) (g .alone) (g .passes) (λ z. absurd (true≢false (sym z))),
+        listed-rows a cause.Pass r refl (f .some) (f .these) (fought-reasons (s .nu) (s .states) r (g .marks) (f .these)),
       )
-  result-claims idle (ended j (fight cause.Sweep r) s) h =
+  result-claims idle (ended j (fight cause.Sweep r) s) n h =
       let a = result SWEEP_CAP p idle (c .listed) (ended j (fight cause.Sweep r) s) in
-      (
+      let g = h .2 .standing in
+      let f = h .2 .fought in (
         zeroth,
-        plain-sound a idle j false false s refl (h .1) (h .2 .standing .boxed) (h .2 .standing .passes) (λ z. absurd (true≢false (sym z))),
-        listed-rows a cause.Sweep r refl (h .2 .fought .some) (h .2 .fought .these) (fought-reasons (s .nu) (s .states) r (h .2 .standing .marks) (h .2 .fought .these)),
+        plain-sound a idle j false false s refl (ended-in j n) (h .1) (g .boxed) (g .alone) (g .passes) (λ z. absurd (true≢false (sym z))),
+        listed-rows a cause.Sweep r refl (f .some) (f .these) (fought-reasons (s .nu) (s .states) r (g .marks) (f .these)),
       )
 
 -- ---- a solve
@@ -283,33 +314,37 @@ unfolding idleState
 not-bound true s v e f g h = g (sym f ∙ e)
 not-bound false s v e f g h = h (sym f ∙ e)
 
-start-stands : (p : Problem) (nu : List Float) (st l : List ℕ) → Accepted p nu st l → Stands p 0 (begin p nu st)
-unfolding begin
-start-stands p nu st l ok = record { marks = marked-marks p st (ok .states); boxed = begun-boxed p nu (le-of-eq (sym (ok .nus))); passes = sym due-zero }
+start-stands : (p : Problem) (nu : List Float) (st l : List ℕ) → Accepted p nu st l → Stands p (marked p st (rows p)) (begun p nu (rows p)) 0 0 (begin p nu st)
+unfolding begin sweptAlone
+start-stands p nu st l ok = record { marks = marked-marks p st (ok .states); boxed = begun-boxed p nu (le-of-eq (sym (ok .nus))); passes = sym due-zero; alone = refl }
 
 solve-modest : (p : Problem) (m : Watch) (nu : List Float) (st l : List ℕ) → Accepted p nu st l → Reported Modest (solve SWEEP_CAP p m nu st l .outcome)
 unfolding solve solveFrom
 solve-modest p m nu st l ok = go (length (idleRows p (rows p))) (begin p nu st) (start-stands p nu st l ok) (eqb (length (idleRows p (rows p))) (rows p))
   where
-    go : (idle : ℕ) (s : Stand) → Stands p 0 s → (b : Bool)
+    go : (idle : ℕ) (s : Stand) → Stands p (marked p st (rows p)) (begun p nu (rows p)) 0 0 s → (b : Bool)
         → Reported Modest (cond b (record { outcome = solved (nothing idle); nu = s .nu; states = s .states; listed = l }) (result SWEEP_CAP p idle l (run SWEEP_CAP p m s SWEEP_CAP)) .outcome)
     go idle s h true = record { few = zero-le; fewer = zero-le; held = ofBits-fits binary64 0 }
-    go idle s h false = result-modest p idle l (run SWEEP_CAP p m s 200) (run-runs p m s h)
+    go idle s h false = result-modest p idle l (run SWEEP_CAP p m s 200) (marked p st (rows p)) (begun p nu (rows p))
+        (run-runs p m (marked p st (rows p)) (begun p nu (rows p)) s (marked-marks p st (ok .states)) h)
 
 -- all rows Idle: no row is on a bound, and every multiplier is as the clamp put it
 still-claims : (c : Call) → number c ≡ 0 → Upright (c .problem) → (ok : Accepted (c .problem) (c .nu) (c .states) (c .listed)) → (idle : ℕ)
     → Claims c (record { outcome = solved (nothing idle); nu = begin (c .problem) (c .nu) (c .states) .nu; states = begin (c .problem) (c .nu) (c .states) .states; listed = c .listed })
-unfolding begin inBox
+unfolding begin inBox sweptAlone
 still-claims c z fair ok idle =
     let s = start-stands (c .problem) (c .nu) (c .states) (c .listed) ok in
-    let m = marked-at (c .problem) (c .states) (ok .states) in
-    (
+    let m = marked-at (c .problem) (c .states) (ok .states) in (
       z,
       record {
+        madeSweeps = λ k h. absurd (not-suc-le-zero h);
+        lastSweep = λ h. absurd (not-suc-le-zero h);
         fewSweeps = zero-le;
         passes = sym due-zero;
-        leftBySweeps = λ y i d. s .boxed .boxes (fair .ordered) i d;
-        leftIdle = λ i d y. s .boxed .boxes (fair .ordered) i d;
+        leftBySweeps = λ y. absurd (true≢false y);
+        idleLeft = λ i d y. refl;
+        inBoxes = λ y. absurd (true≢false y);
+        idleInBoxes = λ i d y. s .boxed .boxes (fair .ordered) i d;
         converged = λ x y. absurd (true≢false y);
         atLo = λ x i d y. absurd (not-bound (idleRow (c .problem) i) (state (marked (c .problem) (c .states) (rows (c .problem))) i) 1 (m .1 i d) y (λ e. omega arith) (λ e. omega arith));
         atHi = λ x i d y. absurd (not-bound (idleRow (c .problem) i) (state (marked (c .problem) (c .states) (rows (c .problem))) i) 2 (m .1 i d) y (λ e. omega arith) (λ e. omega arith));
@@ -328,8 +363,12 @@ solve-claims c z fair ok = go (length (idleRows (c .problem) (rows (c .problem))
         (result SWEEP_CAP (c .problem) idle (c .listed) (run SWEEP_CAP (c .problem) (c .watch) (begin (c .problem) (c .nu) (c .states)) SWEEP_CAP)))
     go idle true = still-claims c z fair ok idle
     go idle false =
-        result-claims c z fair ok idle (run SWEEP_CAP (c .problem) (c .watch) (begin (c .problem) (c .nu) (c .states)) 200)
-        (run-runs (c .problem) (c .watch) (begin (c .problem) (c .nu) (c .states)) (start-stands (c .problem) (c .nu) (c .states) (c .listed) ok))
+        let p = c .problem in
+        let st = marked p (c .states) (rows p) in
+        let nu = begun p (c .nu) (rows p) in
+        let s = begin p (c .nu) (c .states) in
+        result-claims c z fair ok idle (run SWEEP_CAP p (c .watch) s 200) (made p (c .watch) s 200)
+        (run-runs p (c .watch) st nu s (marked-marks p (c .states) (ok .states)) (start-stands p (c .nu) (c .states) (c .listed) ok))
 
 -- ---- a call
 

@@ -1,5 +1,5 @@
 -- Demand 3.
-use Prim.Native.Nat.{ℕ, suc, _+_, _≤_}
+use Prim.Native.Nat.{ℕ, suc, _+_}
 use mathlib.Core.Path.{_≡_, refl, sym, _∙_, ap}
 use mathlib.Core.List.{List, [], _∷_, map, List·Permᴰ, List·Permᴰ·nil, List·Permᴰ·cons, List·Permᴰ·swap, List·Permᴰ·trans}
 use native.Mathlib.Omega.{arith}
@@ -11,9 +11,9 @@ use Rattle.report.specs.Joins.{NOTHING, both}
 use Rattle.report.specs.declared.SolveReport.{SolveReport}
 use Rattle.boxed.specs.Solves.{Result}
 use Rattle.boxed.specs.declared.BoxReport.{BoxReport}
-use Rattle.tally.specs.Tally.{Call, number, alone, turned, all, Tallies}
+use Rattle.tally.specs.Tally.{Call, number, alone, turned, Tallies}
 use Rattle.demand3.specs.Claims.{Upright, Claims}
-use Rattle.demand3.specs.Demand.{Every, EachAnswer, beside, reported, sumOf, turnedInto, Sums, Demanded, Demand}
+use Rattle.demand3.specs.Demand.{Every, EachAnswer, beside, reported, sumOf, turnedInto, Sums, Demand}
 use Rattle.demand3.proofs.Orders.{total, total-sum, total-most, within-nothing, all-is, total-perm}
 use Rattle.demand3.proofs.Solves.{modest, claims}
 

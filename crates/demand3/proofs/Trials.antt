@@ -1,7 +1,7 @@
--- What holds through an exact pass: Idle rows keep their state, and a row on a bound holds exactly that bound.
-use Prim.Native.Nat.{ℕ, zero, suc, _+_, _*_, _≤_, _<_}
+-- What holds through an exact pass: Idle rows keep their state and multiplier, and a row on a bound holds exactly that bound.
+use Prim.Native.Nat.{ℕ, suc, _≤_, _<_}
 use mathlib.Core.Path.{_≡_, refl, sym, _∙_, ap, subst}
-use mathlib.Core.Bool.{Bool, true, false, not, cond, _&&_, _||_, true≢false}
+use mathlib.Core.Bool.{Bool, true, false, cond, _&&_, _||_, true≢false}
 use mathlib.Core.List.{List, [], _∷_}
 use native.Mathlib.Omega.{arith}
 use native.Mathlib.Nat.{not-suc-le-zero, le-of-suc-le-suc}
@@ -15,15 +15,13 @@ use Rattle.loops.proofs.Turns.{turns-keep}
 use Rattle.loops.proofs.Gather.{Gathered, those-gathered, getD-set, each-at}
 use Rattle.floats.specs.Ops.{_⊕_, _⊖_, _⊗_, _⊘_, at, 0ᶠ, 1ᶠ, 1e-9, ∞}
 use Rattle.floats.specs.Helpers.{isFinite, larger}
-use Rattle.floats.proofs.Box.{inBox}
 use Rattle.sweep.specs.Rows.{Problem, rows, state, acts, near, stateOf, shownRow, shownTo, shown, rowSum, ownResidual, idleRow}
 use Rattle.ray.specs.Rays.{ray}
 use Rattle.moves.specs.Moves.{heldRow, heldTo, held, inside, inconsistent, toTarget, narrowed, narrow, roomRow, roomTo, room, unblocked, movedRow, moved, wrong, harder, pushedRow, unpushed, pushed}
 use Rattle.moves.specs.declared.Blocking.{Blocking}
 use Rattle.moves.specs.declared.Hardest.{Hardest}
-use Rattle.exact_pass.specs.Headings.{Trial, trial, Pass, moving, found, failed, fighting, released, release, boundAt, stopped, fought, wentTo, went, headedBy, headed}
+use Rattle.exact_pass.specs.Headings.{Trial, trial, Pass, moving, found, failed, fighting, released, release, stopped, fought, wentTo, went, headedBy, headed}
 use Rattle.exact_pass.specs.Passes.{aimed, towardBy, toward, step, stuck, move, moves, limit, passFrom, exactPass}
-use Rattle.demand3.proofs.Boxes.{Ordered, Inside, Boxed}
 use Rattle.demand3.proofs.Rays.{Fights, ray-gathered}
 
 -- ---- states: Idle exactly where the row is
@@ -74,27 +72,28 @@ shown-marks p nu st m = turns-keep (shownRow (p .lo) (p .hi) (p .scale) nu) st (
 
 -- ---- multipliers: a row on a bound holds it
 
-pub record Holds (p : Problem) (st : List ℕ) (nu : List Float) : Type 0 where
+-- `base` is what the pass began with: an Idle row keeps it
+pub record Holds (p : Problem) (base : List Float) (st : List ℕ) (nu : List Float) : Type 0 where
   pub long : rows p ≤ length nu
   pub low : (i : ℕ) → i < rows p → state st i ≡ 1 → at nu i ≡ at (p .lo) i
   pub high : (i : ℕ) → i < rows p → state st i ≡ 2 → at nu i ≡ at (p .hi) i
-  pub rest : Ordered p → (i : ℕ) → i < rows p → state st i ≡ 3 → Inside p nu i
+  pub rest : (i : ℕ) → i < rows p → state st i ≡ 3 → at nu i ≡ at base i
 
-record HoldsTo (p : Problem) (st : List ℕ) (k : ℕ) (nu : List Float) : Type 0 where
+record HoldsTo (p : Problem) (base : List Float) (st : List ℕ) (k : ℕ) (nu : List Float) : Type 0 where
   long : rows p ≤ length nu
   low : (i : ℕ) → i < k → state st i ≡ 1 → at nu i ≡ at (p .lo) i
   high : (i : ℕ) → i < k → state st i ≡ 2 → at nu i ≡ at (p .hi) i
-  rest : Ordered p → (i : ℕ) → i < rows p → state st i ≡ 3 → Inside p nu i
+  rest : (i : ℕ) → i < rows p → state st i ≡ 3 → at nu i ≡ at base i
 
-module _ (p : Problem) (st : List ℕ) (i : ℕ) (b : i < rows p) (nu : List Float) (h : HoldsTo p st i nu) where
-  holds-set : (v : Float) → (state st i ≡ 3 → ⊥) → (state st i ≡ 1 → v ≡ at (p .lo) i) → (state st i ≡ 2 → v ≡ at (p .hi) i) → HoldsTo p st (suc i) (set nu i v)
+module _ (p : Problem) (base : List Float) (st : List ℕ) (i : ℕ) (b : i < rows p) (nu : List Float) (h : HoldsTo p base st i nu) where
+  holds-set : (v : Float) → (state st i ≡ 3 → ⊥) → (state st i ≡ 1 → v ≡ at (p .lo) i) → (state st i ≡ 2 → v ≡ at (p .hi) i) → HoldsTo p base st (suc i) (set nu i v)
   holds-set v w l u =
       let c = h .long in
       record {
         long = rw (length-set nu i v) (h .long);
         low = λ j d e. rw (getD-set nu i j v nan (omega arith)) (low' j d e (eqb j i) refl);
         high = λ j d e. rw (getD-set nu i j v nan (omega arith)) (high' j d e (eqb j i) refl);
-        rest = λ o j d e. rw (getD-set-other nu i j v nan (λ q. w (sym (ap (state st) q) ∙ e))) (h .rest o j d e);
+        rest = λ j d e. getD-set-other nu i j v nan (λ q. w (sym (ap (state st) q) ∙ e)) ∙ h .rest j d e;
       }
     where
       low' : (j : ℕ) → j < suc i → state st j ≡ 1 → (a : Bool) → eqb j i ≡ a → cond a v (at nu j) ≡ at (p .lo) j
@@ -105,7 +104,7 @@ module _ (p : Problem) (st : List ℕ) (i : ℕ) (b : i < rows p) (nu : List Flo
       high' j d e true k = let q = eqb-true j i k in u (sym (ap (state st) q) ∙ e) ∙ sym (ap (at (p .hi)) q)
       high' j d e false k = h .high j (lt-of-le-ne (le-of-suc-le-suc d) (eqb-false j i k)) e
 
-  holds-skip : (state st i ≡ 1 → ⊥) → (state st i ≡ 2 → ⊥) → HoldsTo p st (suc i) nu
+  holds-skip : (state st i ≡ 1 → ⊥) → (state st i ≡ 2 → ⊥) → HoldsTo p base st (suc i) nu
   holds-skip l u =
       record {
         long = h .long;
@@ -122,24 +121,24 @@ module _ (p : Problem) (st : List ℕ) (i : ℕ) (b : i < rows p) (nu : List Flo
       high' j d e true k = absurd (u (sym (ap (state st) (eqb-true j i k)) ∙ e))
       high' j d e false k = h .high j (lt-of-le-ne (le-of-suc-le-suc d) (eqb-false j i k)) e
 
-  holds-step : HoldsTo p st (suc i) (heldRow (p .lo) (p .hi) st i nu)
+  holds-step : HoldsTo p base st (suc i) (heldRow (p .lo) (p .hi) st i nu)
   unfolding heldRow
   holds-step = go (eqb (state st i) 1) refl (eqb (state st i) 2) refl
     where
-      go : (a : Bool) → eqb (state st i) 1 ≡ a → (c : Bool) → eqb (state st i) 2 ≡ c → HoldsTo p st (suc i) (cond a (set nu i (at (p .lo) i)) (cond c (set nu i (at (p .hi) i)) nu))
+      go : (a : Bool) → eqb (state st i) 1 ≡ a → (c : Bool) → eqb (state st i) 2 ≡ c → HoldsTo p base st (suc i) (cond a (set nu i (at (p .lo) i)) (cond c (set nu i (at (p .hi) i)) nu))
       go true e c g = let q = eqb-true (state st i) 1 e in holds-set (at (p .lo) i) (λ z. absurd (let o : _≡_ {A = ℕ} 1 3 = sym q ∙ z in omega arith)) (λ z. refl) (λ z. absurd (let o : _≡_ {A = ℕ} 1 2 = sym q ∙ z in omega arith))
       go false e true g =
           let q = eqb-true (state st i) 2 g in
           holds-set (at (p .hi) i) (λ z. absurd (let o : _≡_ {A = ℕ} 2 3 = sym q ∙ z in omega arith)) (λ z. absurd (eqb-false (state st i) 1 e z)) (λ z. refl)
       go false e false g = holds-skip (eqb-false (state st i) 1 e) (eqb-false (state st i) 2 g)
 
-held-holds : (p : Problem) (st : List ℕ) (nu : List Float) → Boxed p nu → Holds p st (held p st nu (rows p))
+held-holds : (p : Problem) (st : List ℕ) (nu : List Float) → rows p ≤ length nu → Holds p nu st (held p st nu (rows p))
 unfolding heldTo
 held-holds p st nu b = let h = to in record { long = h .long; low = h .low; high = h .high; rest = h .rest }
   where
-    to : HoldsTo p st (rows p) (held p st nu (rows p))
-    to = turns-keep (heldRow (p .lo) (p .hi) st) nu (HoldsTo p st) (rows p)
-        (record { long = b .long; low = λ i c e. absurd (not-suc-le-zero c); high = λ i c e. absurd (not-suc-le-zero c); rest = λ o i c e. b .boxes o i c }) λ i x c h. holds-step p st i c x h
+    to : HoldsTo p nu st (rows p) (held p st nu (rows p))
+    to = turns-keep (heldRow (p .lo) (p .hi) st) nu (HoldsTo p nu st) (rows p)
+        (record { long = b; low = λ i c e. absurd (not-suc-le-zero c); high = λ i c e. absurd (not-suc-le-zero c); rest = λ i c e. refl }) λ i x c h. holds-step p nu st i c x h
 
 -- ---- a move along the rows inside changes only them
 
@@ -173,14 +172,14 @@ moved-kept p st l y alpha nu s b =
 not-inner : (s v : ℕ) → 0 < v → s ≡ v → s ≡ 0 → ⊥
 not-inner s v b e z = omega arith
 
-moved-holds : (p : Problem) (st l : List ℕ) (y : List Float) (alpha : Float) (nu : List Float) → Insides p st l → Holds p st nu → Holds p st (moved l y alpha nu (length l))
+moved-holds : {base : List Float} (p : Problem) (st l : List ℕ) (y : List Float) (alpha : Float) (nu : List Float) → Insides p st l → Holds p base st nu → Holds p base st (moved l y alpha nu (length l))
 moved-holds p st l y alpha nu s h =
     let k = moved-kept p st l y alpha nu s (h .long) in
     record {
       long = k .long;
       low = λ i b e. k .same i (not-inner (state st i) 1 (omega arith) e) ∙ h .low i b e;
       high = λ i b e. k .same i (not-inner (state st i) 2 (omega arith) e) ∙ h .high i b e;
-      rest = λ o i b e. rw (k .same i (not-inner (state st i) 3 (omega arith) e)) (h .rest o i b e);
+      rest = λ i b e. k .same i (not-inner (state st i) 3 (omega arith) e) ∙ h .rest i b e;
     }
 
 -- ---- the row that stops a move is one of them
@@ -264,32 +263,32 @@ module _ (p : Problem) (st : List ℕ) (nu : List Float) where
 
 -- ---- a pass
 
-pub record Tries (p : Problem) (t : Trial) : Type 0 where
+pub record Tries (p : Problem) (base : List Float) (t : Trial) : Type 0 where
   pub marks : Marks p (t .states)
-  pub holds : Holds p (t .states) (t .nu)
+  pub holds : Holds p base (t .states) (t .nu)
 
 -- at least one row, and each fights
 pub record Fought (p : Problem) (st : List ℕ) (l : List ℕ) : Type 0 where
   pub some : 0 < length l
   pub these : Gathered (Fights p st) (rows p) l
 
-abbrev pub Passing : Problem → Pass → Type 0
-Passing p (moving t) = Tries p t
-Passing p (failed t) = Tries p t
-Passing p (found t) = Tries p t × ((i : ℕ) → i < rows p → hard p (t .states) (t .nu) i ≡ false)
-Passing p (fighting l t) = Tries p t × Fought p (t .states) l
+abbrev pub Passing : Problem → List Float → Pass → Type 0
+Passing p base (moving t) = Tries p base t
+Passing p base (failed t) = Tries p base t
+Passing p base (found t) = Tries p base t × ((i : ℕ) → i < rows p → hard p (t .states) (t .nu) i ≡ false)
+Passing p base (fighting l t) = Tries p base t × Fought p (t .states) l
 
 -- a row set to a state, its multiplier to a value
-set-holds : (p : Problem) (st : List ℕ) (nu : List Float) (i s : ℕ) (v : Float) → i < rows p → (s ≡ 3 → ⊥) → (s ≡ 1 → v ≡ at (p .lo) i) → (s ≡ 2 → v ≡ at (p .hi) i)
-    → Marks p st → Holds p st nu → Holds p (set st i s) (set nu i v)
-set-holds p st nu i s v b w l u m h =
+set-holds : {base : List Float} (p : Problem) (st : List ℕ) (nu : List Float) (i s : ℕ) (v : Float) → i < rows p → (s ≡ 3 → ⊥) → (s ≡ 1 → v ≡ at (p .lo) i) → (s ≡ 2 → v ≡ at (p .hi) i)
+    → Marks p st → Holds p base st nu → Holds p base (set st i s) (set nu i v)
+set-holds {base} p st nu i s v b w l u m h =
     let c = h .long in
     let d = m .long in
     record {
       long = rw (length-set nu i v) (h .long);
       low = λ j f e. rw (getD-set nu i j v nan (omega arith)) (low' j f (sym (getD-set st i j s 0 (omega arith)) ∙ e) (eqb j i) refl);
       high = λ j f e. rw (getD-set nu i j v nan (omega arith)) (high' j f (sym (getD-set st i j s 0 (omega arith)) ∙ e) (eqb j i) refl);
-      rest = λ o j f e. rw (getD-set nu i j v nan (omega arith)) (rest' o j f (sym (getD-set st i j s 0 (omega arith)) ∙ e) (eqb j i) refl);
+      rest = λ j f e. rw (getD-set nu i j v nan (omega arith)) (rest' j f (sym (getD-set st i j s 0 (omega arith)) ∙ e) (eqb j i) refl);
     }
   where
     low' : (j : ℕ) → j < rows p → cond (eqb j i) s (state st j) ≡ 1 → (a : Bool) → eqb j i ≡ a → cond a v (at nu j) ≡ at (p .lo) j
@@ -300,11 +299,11 @@ set-holds p st nu i s v b w l u m h =
     high' j f e true k = u (sym (ap (λ (x : Bool). cond x s (state st j)) k) ∙ e) ∙ sym (ap (at (p .hi)) (eqb-true j i k))
     high' j f e false k = h .high j f (sym (ap (λ (x : Bool). cond x s (state st j)) k) ∙ e)
 
-    rest' : Ordered p → (j : ℕ) → j < rows p → cond (eqb j i) s (state st j) ≡ 3 → (a : Bool) → eqb j i ≡ a → inBox (at (p .lo) j) (at (p .hi) j) (cond a v (at nu j)) ≡ true
-    rest' o j f e true k = absurd (w (sym (ap (λ (x : Bool). cond x s (state st j)) k) ∙ e))
-    rest' o j f e false k = h .rest o j f (sym (ap (λ (x : Bool). cond x s (state st j)) k) ∙ e)
+    rest' : (j : ℕ) → j < rows p → cond (eqb j i) s (state st j) ≡ 3 → (a : Bool) → eqb j i ≡ a → cond a v (at nu j) ≡ at base j
+    rest' j f e true k = absurd (w (sym (ap (λ (x : Bool). cond x s (state st j)) k) ∙ e))
+    rest' j f e false k = h .rest j f (sym (ap (λ (x : Bool). cond x s (state st j)) k) ∙ e)
 
-free-holds : (p : Problem) (st : List ℕ) (nu : List Float) (i : ℕ) → i < rows p → Marks p st → Holds p st nu → Holds p (set st i 0) nu
+free-holds : {base : List Float} (p : Problem) (st : List ℕ) (nu : List Float) (i : ℕ) → i < rows p → Marks p st → Holds p base st nu → Holds p base (set st i 0) nu
 free-holds p st nu i b m h =
     rw set-getD at (set-holds p st nu i 0 (at nu i) b (λ e. omega arith) (λ e. absurd (omega arith)) (λ e. absurd (omega arith)) m h)
 
@@ -317,12 +316,12 @@ wrong-acts s u h = go (eqb s 1) refl (eqb s 2) refl h
     go false e true f k = ap (λ (x : ℕ). eqb x 3) (eqb-true s 2 f)
     go false e false f k = absurd (true≢false (sym k))
 
-release-passing : (p : Problem) (t : Trial) → Tries p t → Passing p (release p t)
+release-passing : {base : List Float} (p : Problem) (t : Trial) → Tries p base t → Passing p base (release p t)
 unfolding release released
-release-passing p t h = go (pushed p (t .states) (t .nu) (rows p)) (pushed-released p (t .states) (t .nu))
+release-passing {base} p t h = go (pushed p (t .states) (t .nu) (rows p)) (pushed-released p (t .states) (t .nu))
   where
     go : (b : Hardest) → Released p (t .states) (t .nu) (rows p) b
-        → Passing p (cond (eqb (b .row) (rows p)) (found t) (moving (trial (t .nu) (set (t .states) (b .row) 0))))
+        → Passing p base (cond (eqb (b .row) (rows p)) (found t) (moving (trial (t .nu) (set (t .states) (b .row) 0))))
     go b (nothing e w f) = rw (eq-eqb (b .row) (rows p) e) (h, f)
     go b (this c w) =
         rw (ne-eqb (b .row) (rows p) (λ e. omega arith))
@@ -331,7 +330,7 @@ release-passing p t h = go (pushed p (t .states) (t .nu) (rows p)) (pushed-relea
           holds = free-holds p (t .states) (t .nu) (b .row) c (h .marks) (h .holds);
         })
 
-stopped-passing : (p : Problem) (t : Trial) (r : Blocking) → Tries p t → Stops p (t .states) r → Passing p (stopped p t r)
+stopped-passing : {base : List Float} (p : Problem) (t : Trial) (r : Blocking) → Tries p base t → Stops p (t .states) r → Passing p base (stopped p t r)
 unfolding stopped
 stopped-passing p t r h (nowhere e) = rw e (release-passing p t h)
 stopped-passing p t r h (onLo e b z) =
@@ -347,48 +346,48 @@ stopped-passing p t r h (onHi e b z) =
       holds = set-holds p (t .states) (t .nu) (r .row) 2 (at (p .hi) (r .row)) b (λ q. omega arith) (λ q. absurd (omega arith)) (λ q. refl) (h .marks) (h .holds);
     })
 
-fought-passing : (p : Problem) (t : Trial) (l : List ℕ) → Tries p t → Gathered (Fights p (t .states)) (rows p) l → Passing p (fought t l)
+fought-passing : {base : List Float} (p : Problem) (t : Trial) (l : List ℕ) → Tries p base t → Gathered (Fights p (t .states)) (rows p) l → Passing p base (fought t l)
 unfolding fought
 fought-passing p t [] h g = h
 fought-passing p t (a ∷ l) h g = (h, record { some = omega arith; these = g })
 
-went-passing : (p : Problem) (t : Trial) (l : List ℕ) (y : List Float) (alpha : Float) → Tries p t → Insides p (t .states) l → Passing p (went p t l y alpha)
+went-passing : {base : List Float} (p : Problem) (t : Trial) (l : List ℕ) (y : List Float) (alpha : Float) → Tries p base t → Insides p (t .states) l → Passing p base (went p t l y alpha)
 unfolding went wentTo
-went-passing p t l y alpha h s = go (room p l (t .nu) y alpha (length l)) (room-stops p (t .states) l (t .nu) y alpha s)
+went-passing {base} p t l y alpha h s = go (room p l (t .nu) y alpha (length l)) (room-stops p (t .states) l (t .nu) y alpha s)
   where
     go : (r : Blocking) → Stops p (t .states) r
-        → Passing p (cond (isFinite (r .alpha)) (stopped p (trial (moved l y (r .alpha) (t .nu) (length l)) (t .states)) r) (fought t (ray p (t .states) y)))
+        → Passing p base (cond (isFinite (r .alpha)) (stopped p (trial (moved l y (r .alpha) (t .nu) (length l)) (t .states)) r) (fought t (ray p (t .states) y)))
     go r k = pick (isFinite (r .alpha))
       where
-        pick : (b : Bool) → Passing p (cond b (stopped p (trial (moved l y (r .alpha) (t .nu) (length l)) (t .states)) r) (fought t (ray p (t .states) y)))
+        pick : (b : Bool) → Passing p base (cond b (stopped p (trial (moved l y (r .alpha) (t .nu) (length l)) (t .states)) r) (fought t (ray p (t .states) y)))
         pick true =
             stopped-passing p (trial (moved l y (r .alpha) (t .nu) (length l)) (t .states)) r
             (record { marks = h .marks; holds = moved-holds p (t .states) l y (r .alpha) (t .nu) s (h .holds) }) k
         pick false = fought-passing p t (ray p (t .states) y) h (ray-gathered p (t .states) y)
 
-headed-passing : (p : Problem) (t : Trial) (l : List ℕ) (z r y : List Float) → Tries p t → Insides p (t .states) l → Passing p (headedBy p t l z r y)
+headed-passing : {base : List Float} (p : Problem) (t : Trial) (l : List ℕ) (z r y : List Float) → Tries p base t → Insides p (t .states) l → Passing p base (headedBy p t l z r y)
 unfolding headedBy
-headed-passing p t l z r y h s = pick (inconsistent (p .w) (rows p) (p .scale) l r (length l)) (toTarget (p .scale) l z (t .nu) y (length l))
+headed-passing {base} p t l z r y h s = pick (inconsistent (p .w) (rows p) (p .scale) l r (length l)) (toTarget (p .scale) l z (t .nu) y (length l))
   where
-    pick : (b : Bool) (x : List Float) → Passing p (cond b (went p t l y ∞) (went p t l x 1ᶠ))
+    pick : (b : Bool) (x : List Float) → Passing p base (cond b (went p t l y ∞) (went p t l x 1ᶠ))
     pick true x = went-passing p t l y ∞ h s
     pick false x = went-passing p t l x 1ᶠ h s
 
-step-passing : (p : Problem) (t : Trial) (l : List ℕ) → Tries p t → Insides p (t .states) l → Passing p (step p t l)
+step-passing : {base : List Float} (p : Problem) (t : Trial) (l : List ℕ) → Tries p base t → Insides p (t .states) l → Passing p base (step p t l)
 unfolding step toward towardBy aimed headed
 step-passing p t [] h s = release-passing p t h
 step-passing p t (a ∷ l) h s = headed-passing p t (a ∷ l) _ _ _ h s
 
-move-passing : (p : Problem) (k : ℕ) (x : Pass) → Passing p x → Passing p (move p k x)
+move-passing : (p : Problem) (base : List Float) (k : ℕ) (x : Pass) → Passing p base x → Passing p base (move p k x)
 unfolding move
-move-passing p k (moving t) h = step-passing p t (stuck (t .states) (rows p)) h (stuck-insides p (t .states))
-move-passing p k (found t) h = h
-move-passing p k (failed t) h = h
-move-passing p k (fighting l t) h = h
+move-passing p base k (moving t) h = step-passing p t (stuck (t .states) (rows p)) h (stuck-insides p (t .states))
+move-passing p base k (found t) h = h
+move-passing p base k (failed t) h = h
+move-passing p base k (fighting l t) h = h
 
-pub exact-passing : (p : Problem) (st : List ℕ) (nu : List Float) → Marks p st → Boxed p nu → Passing p (exactPass p st nu)
+pub exact-passing : (p : Problem) (st : List ℕ) (nu : List Float) → Marks p st → rows p ≤ length nu → Passing p nu (exactPass p st nu)
 unfolding exactPass passFrom moves
 exact-passing p st nu m b =
     let t = shown p nu st (rows p) in
-    turns-keep (move p) (moving (trial (held p t nu (rows p)) t)) (λ i. Passing p) (limit t (rows p))
-    (record { marks = shown-marks p nu st m; holds = held-holds p t nu b }) λ i x c h. move-passing p i x h
+    turns-keep (move p) (moving (trial (held p t nu (rows p)) t)) (λ i. Passing p nu) (limit t (rows p))
+    (record { marks = shown-marks p nu st m; holds = held-holds p t nu b }) λ i x c h. move-passing p nu i x h

@@ -6,14 +6,14 @@ use mathlib.Core.List.{List, [], _∷_}
 use native.Mathlib.Omega.{arith}
 use native.Mathlib.Nat.{mul-pos, zero-mul, zero-lt-suc, not-suc-le-zero, le-of-suc-le-suc}
 use lib.IntN.{ℤ}
-use lib.Dec.{ltb, eqb}
+use lib.Dec.{ltb}
 use lib.ListN.{length, getD}
 use lib.Ieee.{Float, nan, inf, fin, binary64, up, down, ofBits, neg, lt, le, eq, ne, level}
 use lib.Ieee.Fits.{up-pos, down-pos, sub-fits}
 use borrow.Author.Tests.{lt-ltb, le-ltb, ltb-false}
 use Rattle.loops.specs.Loops.{turns}
-use Rattle.loops.proofs.Gather.{Each, each-at, From, Gathered}
-use Rattle.floats.specs.Ops.{_⊕_, _⊖_, _⊗_, _⊘_, at, 0ᶠ, Fits}
+use Rattle.loops.proofs.Gather.{Each, From, Gathered}
+use Rattle.floats.specs.Ops.{_⊕_, _⊖_, _⊗_, _⊘_, at, 0ᶠ}
 use Rattle.floats.specs.Helpers.{abs, clamp, isNaN}
 use Rattle.floats.proofs.Maximum.{not-zero}
 use Rattle.floats.proofs.Meaning.{unsigned, abs-is}
@@ -98,9 +98,9 @@ idle-not-above d h = go (eq d d) refl
 
 -- ---- a row's sum and natural residual
 
-fewer-left : (a b : ℕ) → a ≤ b → fewer a b ≡ a
+fewer-first : (a b : ℕ) → a ≤ b → fewer a b ≡ a
 unfolding fewer
-fewer-left a b h = go (ltb a b) refl
+fewer-first a b h = go (ltb a b) refl
   where
     go : (t : Bool) → ltb a b ≡ t → cond t a b ≡ a
     go true e = refl
@@ -126,7 +126,7 @@ module _ (p : Problem) (few : rows p ≤ 32) (square : length (p .w) ≡ rows p 
   sum-is : (nu : List Float) → rows p ≤ length nu → sumTo p nu i (rows p) ≡ rowSum p nu i
   sum-is nu long =
       let e : fewer (length (row p i)) (length nu) ≡ rows p
-      = rw (row-length (p .w) (rows p) i few square here) (fewer-left (rows p) (length nu) long) in
+      = rw (row-length (p .w) (rows p) i few square here) (fewer-first (rows p) (length nu) long) in
       rw e (sum-to nu (rows p) (native.Mathlib.Nat.le-refl (rows p)))
 
   pub own-is : (nu : List Float) → rows p ≤ length nu → ownResidual p nu i ≡ D.ownResidual p nu i

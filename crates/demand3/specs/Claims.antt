@@ -8,8 +8,8 @@ use lib.Dec.{leb, ltb}
 use lib.ListN.{length, getD, take}
 use lib.Ieee.{Float, nan, inf, fin, lt, le, eq, ne}
 use Rattle.floats.specs.Ops.{_⊕_, _⊖_, _⊗_, _⊘_, at, Fits, 0ᶠ, 1e6, 1e-9, ∞, −∞}
-use Rattle.sweep.specs.Rows.{Problem, rows}
-use Rattle.boxed.specs.Solves.{Outcome, refused, solved, infeasible, Result}
+use Rattle.sweep.specs.Rows.{Problem, rows, swept, begun, marked}
+use Rattle.boxed.specs.Solves.{Run, going, ended, run, begin, SWEEP_CAP, Outcome, refused, solved, infeasible, Result}
 use Rattle.boxed.specs.declared.BoxReport.{BoxReport}
 use Rattle.boxed.specs.declared.Cause.{Cause}
 use Rattle.boxed.specs.declared.Cause.the-variants as cause
@@ -52,7 +52,7 @@ distance v u d lo hi s = magnitude (v ⊖ within (v ⊖ u ⊘ d) lo hi) ⊘ s
 abbrev pub ownResidual : Problem → List Float → ℕ → Float
 ownResidual p nu i = distance (at nu i) (sumTo p nu i (rows p)) (cell p i i) (at (p .lo) i) (at (p .hi) i) (at (p .scale) i)
 
--- Idle: the diagonal is NaN or at most 0
+-- a row acts unless it is Idle, its diagonal NaN or at most 0
 abbrev pub acting : Problem → ℕ → Bool
 acting p i = lt 0ᶠ (cell p i i)
 
@@ -60,7 +60,7 @@ acting p i = lt 0ᶠ (cell p i i)
 abbrev pub NaNOrInBox : Problem → List Float → ℕ → Type 0
 NaNOrInBox p nu i = ne (at nu i) (at nu i) || (le (at (p .lo) i) (at nu i) && le (at nu i) (at (p .hi) i)) ≡ true
 
--- the sweeps that an exact pass follows, and how many of them are not above k, or below k
+-- the sweeps with an exact pass, and how many of them are not above k, or below k
 abbrev pub passSweeps : List ℕ
 passSweeps = 1 ∷ 2 ∷ 4 ∷ 8 ∷ 16 ∷ 32 ∷ 64 ∷ 128 ∷ 200 ∷ []
 
@@ -78,6 +78,26 @@ notAbove k = membersNotAbove k passSweeps
 unfoldable pub below : ℕ → ℕ
 below k = membersBelow k passSweeps
 
+-- ---- the sweeps of a solve, by the names of its definition
+
+-- the solve after k sweeps, and whether it still goes on
+abbrev pub afterSweeps : Call → ℕ → Run
+afterSweeps c k = run SWEEP_CAP (c .problem) (c .watch) (begin (c .problem) (c .nu) (c .states)) k
+
+abbrev pub goesOn : Run → Bool
+goesOn (going s) = true
+goesOn (ended k e s) = false
+
+-- The multipliers that k sweeps leave of nu, no exact pass between. A sweep reads of the states only which rows are Idle, and no pass changes that.
+unfoldable pub sweptAlone : Problem → List ℕ → List Float → ℕ → List Float
+sweptAlone p st nu zero = nu
+sweptAlone p st nu (suc k) = swept p st (sweptAlone p st nu k) (rows p)
+
+-- from the clamp before the first sweep on
+abbrev pub bySweeps : Call → ℕ → List Float
+bySweeps c k =
+    sweptAlone (c .problem) (marked (c .problem) (c .states) (rows (c .problem))) (begun (c .problem) (c .nu) (rows (c .problem))) k
+
 -- ---- an accepted solve
 
 -- a row on a bound: the multiplier equals it as a number, and its own residual is not above 1e-9, as no NaN is
@@ -86,20 +106,27 @@ pub record OnBound (p : Problem) (nu : List Float) (i : ℕ) (bound : Float) : T
   pub own : lt 1e-9 (ownResidual p nu i) ≡ false
 
 -- what holds of every answer; `grew` is whether growth ended the solve
-pub record Sound (p : Problem) (a : Result) (grew : Bool) (r : BoxReport) : Type 0 where
+pub record Sound (c : Call) (a : Result) (grew : Bool) (r : BoxReport) : Type 0 where
+  -- the report carries one for each sweep that the solve made: it was going on after every smaller number of them,
+  pub madeSweeps : (k : ℕ) → k < r .sweeps → goesOn (afterSweeps c k) ≡ true
+  -- and it ended in the last, or at 200 (where all rows are Idle it made none)
+  pub lastSweep : 0 < r .sweeps → goesOn (afterSweeps c (r .sweeps)) && ltb (r .sweeps) 200 ≡ false
   -- at most 200 sweeps
   pub fewSweeps : r .sweeps ≤ 200
-  -- exactly as many passes as 1, 2, 4 .. 128, 200 has members not above its sweeps (below, where growth ended it)
+  -- exactly as many passes as 1, 2, 4 .. 128, 200 has members not above its sweeps (below, where growth ended it); the definition counts one where it makes one (`passed`)
   pub passes : r .«exact_passes» ≡ cond grew (below (r .sweeps)) (notAbove (r .sweeps))
-  -- Multipliers left by sweeps are NaN or in their boxes. Where the answer is not exact they are all of them: only the pass that finds an exact answer writes its multipliers.
-  pub leftBySweeps : r .exact ≡ false → (i : ℕ) → i < rows p → NaNOrInBox p (a .nu) i
-  -- In an exact answer that pass has written every row that acts, and an Idle row is left as the clamp before the first sweep put it.
-  pub leftIdle : (i : ℕ) → i < rows p → acting p i ≡ false → NaNOrInBox p (a .nu) i
+  -- Left by sweeps are, in an answer that is not exact, all multipliers: only the pass that finds an exact answer writes the multipliers of an answer.
+  pub leftBySweeps : r .exact ≡ false → a .nu ≡ bySweeps c (r .sweeps)
+  -- In an exact answer they are those of the Idle rows: that pass has written every row that acts, and no other.
+  pub idleLeft : (i : ℕ) → i < rows (c .problem) → acting (c .problem) i ≡ false → at (a .nu) i ≡ at (bySweeps c (r .sweeps)) i
+  -- Multipliers left by sweeps are NaN or in their boxes.
+  pub inBoxes : r .exact ≡ false → (i : ℕ) → i < rows (c .problem) → NaNOrInBox (c .problem) (a .nu) i
+  pub idleInBoxes : (i : ℕ) → i < rows (c .problem) → acting (c .problem) i ≡ false → NaNOrInBox (c .problem) (a .nu) i
   -- converged but not exact means residual at most 1e-9
   pub converged : r .converged ≡ true → r .exact ≡ false → le (r .residual) 1e-9 ≡ true
   -- in an exact answer a row on a bound equals it, its own residual not above 1e-9: at state 1 lo, at state 2 hi
-  pub atLo : r .exact ≡ true → (i : ℕ) → i < rows p → getD (a .states) i 0 ≡ 1 → OnBound p (a .nu) i (at (p .lo) i)
-  pub atHi : r .exact ≡ true → (i : ℕ) → i < rows p → getD (a .states) i 0 ≡ 2 → OnBound p (a .nu) i (at (p .hi) i)
+  pub atLo : r .exact ≡ true → (i : ℕ) → i < rows (c .problem) → getD (a .states) i 0 ≡ 1 → OnBound (c .problem) (a .nu) i (at (c .problem .lo) i)
+  pub atHi : r .exact ≡ true → (i : ℕ) → i < rows (c .problem) → getD (a .states) i 0 ≡ 2 → OnBound (c .problem) (a .nu) i (at (c .problem .hi) i)
 
 -- past a million scales where growth is the cause, else acting with no lower or no upper limit
 abbrev pub PastAMillionScales : Problem → List Float → ℕ → Type 0
@@ -141,8 +168,8 @@ pub record Refusal (c : Call) (a : Result) (k : ℕ) : Type 0 where
 
 abbrev pub ClaimsOf : Call → Result → Outcome → Type 0
 ClaimsOf c a (refused k) = Refusal c a k
-ClaimsOf c a (solved r) = (number c ≡ 0) × Sound (c .problem) a false r
-ClaimsOf c a (infeasible s l r) = (number c ≡ 0) × Sound (c .problem) a (grewBy s) r × Listed (c .problem) a s l
+ClaimsOf c a (solved r) = (number c ≡ 0) × Sound c a false r
+ClaimsOf c a (infeasible s l r) = (number c ≡ 0) × Sound c a (grewBy s) r × Listed (c .problem) a s l
 
 abbrev pub Claims : Call → Result → Type 0
 Claims c a = ClaimsOf c a (a .outcome)
