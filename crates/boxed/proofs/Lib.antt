@@ -1,3 +1,4 @@
 pub mod Tables
 pub mod Testing
 pub mod Attempts
+pub mod Turning

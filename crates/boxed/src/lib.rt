@@ -118,7 +118,7 @@ fn unless(cause: Cause, k: u32, count: usize, passes: u32) -> Progress
 
 // Growth at sweep k: the rows past a million scales are listed.
 fn grow(scale: &[f64], n: usize, nu: &[f64], rows: &mut [usize], k: u32, passes: u32) -> Progress
-    ensures { λ r. ⌜ ((st : List ℕ) → progress.Ran (def.unlessGrown (now (scale .entry)) n k (def.stand (now (nu .entry)) st passes)) (now (rows .entry)) r (now (nu .entry)) st (now (rows .exit))) ⌝ }
+    ensures { λ r. ⌜ ((st : List ℕ) → progress.Ran (def.unlessGrown (now (scale .entry)) n k (def.stand (now (nu .entry)) st passes)) (now (rows .entry)) r (now (nu .entry)) st (now (rows .exit))) × (r .passes ≡ passes) ⌝ }
 {
     unless(Cause::Growth, k, sweep::grown(nu, scale, n, rows), passes)
 }
@@ -141,7 +141,7 @@ fn test(
     passes: u32,
 ) -> Progress
     requires { ⌜ (length (now «u_free») ≤ 32) × (length (now y) ≡ length (now «u_free»)) ⌝ }
-    ensures { λ r. ⌜ progress.Ran (def.tested (box.problem (now (w .entry)) (now («u_free» .entry)) (now (lo .entry)) (now (hi .entry)) (now (scale .entry))) (def.watch (now (motion .entry)) tolerance) k (now (before .entry)) (def.going (def.stand (now (nu .entry)) (now (states .entry)) passes))) (now (rows .entry)) r (now (nu .entry)) (now (states .entry)) (now (rows .exit)) ⌝ }
+    ensures { λ r. ⌜ progress.Ran (def.tested (box.problem (now (w .entry)) (now («u_free» .entry)) (now (lo .entry)) (now (hi .entry)) (now (scale .entry))) (def.watch (now (motion .entry)) tolerance) k (now (before .entry)) (def.going (def.stand (now (nu .entry)) (now (states .entry)) passes))) (now (rows .entry)) r (now (nu .entry)) (now (states .entry)) (now (rows .exit)) × (r .passes ≡ passes) ⌝ }
 {
     if sweep::motion_of(motion, nu, before) <= tolerance {
         if sweep::residual(w, u_free, lo, hi, scale, states, nu) <= sweep::EXACT_RESIDUAL {
@@ -273,4 +273,123 @@ fn check(
         standing: Standing::Going,
         passes,
     }
+}
+
+// ---- one turn of the sweep loop
+
+// After a sweep without growth: the exact pass, where it is due, then the tests.
+fn after(
+    cap: u32,
+    w: &[f64],
+    u_free: &[f64],
+    lo: &[f64],
+    hi: &[f64],
+    scale: &[f64],
+    motion: &[f64],
+    tolerance: f64,
+    before: &[f64],
+    states: &mut [u8],
+    nu: &mut [f64],
+    trial: &mut [f64],
+    y: &mut [f64],
+    m: &mut [f64],
+    rows: &mut [usize],
+    work: &mut [f64],
+    k: u32,
+    passes: u32,
+) -> Progress
+    requires { ⌜ progress.Passable (length (now «u_free»)) (now nu) (now trial) (now m) (now work) passes × (length (now y) ≡ length (now «u_free»)) ⌝ }
+    ensures { λ r. ⌜ progress.Ran (def.tested (box.problem (now (w .entry)) (now («u_free» .entry)) (now (lo .entry)) (now (hi .entry)) (now (scale .entry))) (def.watch (now (motion .entry)) tolerance) k (now (before .entry)) (def.checked cap (box.problem (now (w .entry)) (now («u_free» .entry)) (now (lo .entry)) (now (hi .entry)) (now (scale .entry))) k (def.going (def.stand (now (nu .entry)) (now (states .entry)) passes)))) (now (rows .entry)) r (now (nu .exit)) (now (states .exit)) (now (rows .exit)) × (r .passes ≤ passes + 1) × (drop 1056 (now (work .exit)) ≡ drop 1056 (now (work .entry))) ⌝ }
+{
+    let c = check(
+        cap,
+        w,
+        u_free,
+        lo,
+        hi,
+        scale,
+        states,
+        nu,
+        trial,
+        m,
+        rows,
+        work,
+        k,
+        passes,
+    );
+    let s = c.standing;
+    let q = c.passes;
+    if is_going(s) {
+        return test(
+            w,
+            u_free,
+            lo,
+            hi,
+            scale,
+            motion,
+            tolerance,
+            before,
+            states,
+            nu,
+            y,
+            rows,
+            k,
+            q,
+        );
+    }
+    c
+}
+
+// Sweep k + 1, with its tests.
+fn turn(
+    cap: u32,
+    w: &[f64],
+    u_free: &[f64],
+    lo: &[f64],
+    hi: &[f64],
+    scale: &[f64],
+    motion: &[f64],
+    tolerance: f64,
+    states: &mut [u8],
+    nu: &mut [f64],
+    before: &mut [f64],
+    trial: &mut [f64],
+    y: &mut [f64],
+    m: &mut [f64],
+    rows: &mut [usize],
+    work: &mut [f64],
+    k: u32,
+    passes: u32,
+) -> Progress
+    requires { ⌜ progress.Passable (length (now «u_free»)) (now nu) (now trial) (now m) (now work) passes × (length (now y) ≡ length (now «u_free»)) × (length (now before) ≡ length (now nu)) × (k < 0xffff_ffff) ⌝ }
+    ensures { λ r. ⌜ progress.Ran (def.turn cap (box.problem (now (w .entry)) (now («u_free» .entry)) (now (lo .entry)) (now (hi .entry)) (now (scale .entry))) (def.watch (now (motion .entry)) tolerance) k (def.going (def.stand (now (nu .entry)) (now (states .entry)) passes))) (now (rows .entry)) r (now (nu .exit)) (now (states .exit)) (now (rows .exit)) × (r .passes ≤ passes + 1) × (drop 1056 (now (work .exit)) ≡ drop 1056 (now (work .entry))) ⌝ }
+{
+    cells::copy(nu, before);
+    sweep::sweep(w, u_free, lo, hi, states, nu);
+    let j = k + 1;
+    let g = grow(scale, u_free.len(), nu, rows, j, passes);
+    let s = g.standing;
+    if is_going(s) {
+        return after(
+            cap,
+            w,
+            u_free,
+            lo,
+            hi,
+            scale,
+            motion,
+            tolerance,
+            before,
+            states,
+            nu,
+            trial,
+            y,
+            m,
+            rows,
+            work,
+            j,
+            passes,
+        );
+    }
+    g
 }

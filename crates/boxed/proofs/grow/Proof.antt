@@ -22,7 +22,7 @@ same-length c = search needs
 
 -- src/lib.rt:117:1
 returns : tie.Need-returns
-returns c = λ st. grow-is _ _ _ _ st _ _ _ _ _ (c .before .before .before .grown .ensures) (c .unless .ensures)
+returns c = ((λ st. grow-is _ _ _ _ st _ _ _ _ _ (c .before .before .before .grown .ensures) (c .unless .ensures)), rw (c .unless .ensures))
 
 pub grow-spec : {M : Type 1} → statement M
 grow-spec = tie.close (tie.spec grown-requires unless-requires same-length returns)

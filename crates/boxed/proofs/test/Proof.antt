@@ -1,3 +1,4 @@
+use mathlib.Core.Path.{refl}
 use Rattle.boxed.proofs.Testing.{test-going, test-still, test-ray}
 use native.Mathlib.Omega.{arith}
 use borrow.Author.Needs.{needs}
@@ -21,7 +22,7 @@ residual-requires c κs = search needs
 
 -- src/lib.rt:130:13
 returns : tie.Need-returns
-returns c = test-still _ _ _ _ _ _ _ _ _ (rw (c .before .before .before .motion-of .ensures) at (c .before .before .if1 .taken)) (rw (c .before .residual .ensures) at (c .if2 .taken))
+returns c = (test-still _ _ _ _ _ _ _ _ _ (rw (c .before .before .before .motion-of .ensures) at (c .before .before .if1 .taken)) (rw (c .before .residual .ensures) at (c .if2 .taken)), refl)
 
 -- src/lib.rt:135:9
 way-requires : tie.Need-way-requires
@@ -45,11 +46,11 @@ same-length-2 c = search needs
 
 -- src/lib.rt:136:9
 returns-2 : tie.Need-returns-2
-returns-2 c = test-ray _ _ _ _ _ _ _ _ _ (c .before .before .before .before .before .before .before .before .before .before .before .before .before .before .before .before .before .before .before .before .before .before .before .before .before .args .y .now) _ _ _ _ (rw (c .before .before .before .before .before .before .before .before .before .before .before .before .before .motion-of .ensures) at (c .before .before .before .before .before .before .before .before .before .before .before .before .if1 .taken)) (rw (c .before .before .before .before .before .before .before .before .before .before .before .residual .ensures) at (c .before .before .before .before .before .before .before .before .before .before .if2 .left)) (c .before .before .before .before .before .before .before .before .before .before .before .before .before .before .before .before .before .before .before .before .before .before .before .before .before .pre .0) (c .before .before .before .before .before .before .before .before .before .before .before .before .before .before .before .before .before .before .before .before .before .before .before .before .before .pre .1) (c .before .before .before .before .before .before .before .before .way .ensures) (c .before .before .before .ray .ensures) (c .unless .ensures)
+returns-2 c = (test-ray _ _ _ _ _ _ _ _ _ (c .before .before .before .before .before .before .before .before .before .before .before .before .before .before .before .before .before .before .before .before .before .before .before .before .before .args .y .now) _ _ _ _ (rw (c .before .before .before .before .before .before .before .before .before .before .before .before .before .motion-of .ensures) at (c .before .before .before .before .before .before .before .before .before .before .before .before .if1 .taken)) (rw (c .before .before .before .before .before .before .before .before .before .before .before .residual .ensures) at (c .before .before .before .before .before .before .before .before .before .before .if2 .left)) (c .before .before .before .before .before .before .before .before .before .before .before .before .before .before .before .before .before .before .before .before .before .before .before .before .before .pre .0) (c .before .before .before .before .before .before .before .before .before .before .before .before .before .before .before .before .before .before .before .before .before .before .before .before .before .pre .1) (c .before .before .before .before .before .before .before .before .way .ensures) (c .before .before .before .ray .ensures) (c .unless .ensures), rw (c .unless .ensures))
 
 -- src/lib.rt:124:1
 returns-3 : tie.Need-returns-3
-returns-3 c = test-going _ _ _ _ _ _ _ _ _ (rw (c .before .motion-of .ensures) at (c .if1 .left))
+returns-3 c = (test-going _ _ _ _ _ _ _ _ _ (rw (c .before .motion-of .ensures) at (c .if1 .left)), refl)
 
 pub test-spec : {M : Type 1} → statement M
 test-spec =
