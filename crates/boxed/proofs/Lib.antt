@@ -2,3 +2,4 @@ pub mod Tables
 pub mod Testing
 pub mod Attempts
 pub mod Turning
+pub mod Running

@@ -8,7 +8,7 @@ ghost use Rattle.exact_pass.specs.Passes as pass;
 ghost use Rattle.boxed.specs.Solves as def;
 ghost use Rattle.boxed.specs.Progresses as progress;
 
-// Refusals 5 to 10: refusal::refusal(..) is proved (src/refusal.rt, by the lead); solve calls it.
+// Refusals 5 to 10 of a solve.
 mod refusal;
 
 // The most sweeps one solve runs.
@@ -392,4 +392,91 @@ fn turn(
         );
     }
     g
+}
+
+// At most as many sweeps as the cap says, from no pass tried.
+fn run(
+    cap: u32,
+    w: &[f64],
+    u_free: &[f64],
+    lo: &[f64],
+    hi: &[f64],
+    scale: &[f64],
+    motion: &[f64],
+    tolerance: f64,
+    states: &mut [u8],
+    nu: &mut [f64],
+    before: &mut [f64],
+    trial: &mut [f64],
+    y: &mut [f64],
+    m: &mut [f64],
+    rows: &mut [usize],
+    work: &mut [f64],
+) -> Progress
+    requires { ⌜ progress.Passable (length (now «u_free»)) (now nu) (now trial) (now m) (now work) 0 × (length (now y) ≡ length (now «u_free»)) × (length (now before) ≡ length (now nu)) ⌝ }
+    ensures { λ r. ⌜ progress.Ran (def.run cap (box.problem (now (w .entry)) (now («u_free» .entry)) (now (lo .entry)) (now (hi .entry)) (now (scale .entry))) (def.watch (now (motion .entry)) tolerance) (def.stand (now (nu .entry)) (now (states .entry)) 0) cap) (now (rows .entry)) r (now (nu .exit)) (now (states .exit)) (now (rows .exit)) × (drop 1056 (now (work .exit)) ≡ drop 1056 (now (work .entry))) ⌝ }
+{
+    let mut passes: u32 = 0;
+    let mut k: u32 = 0;
+    while k < cap {
+        let g = turn(
+            cap,
+            w,
+            u_free,
+            lo,
+            hi,
+            scale,
+            motion,
+            tolerance,
+            states,
+            nu,
+            before,
+            trial,
+            y,
+            m,
+            rows,
+            work,
+            k,
+            passes,
+        );
+        let s = g.standing;
+        if !is_going(s) {
+            return g;
+        }
+        passes = g.passes;
+        k += 1;
+    }
+    Progress {
+        standing: Standing::Going,
+        passes,
+    }
+}
+
+// ---- the report
+
+// The report of a solve that ended at sweep k.
+fn report(
+    w: &[f64],
+    u_free: &[f64],
+    lo: &[f64],
+    hi: &[f64],
+    scale: &[f64],
+    states: &[u8],
+    nu: &[f64],
+    passes: u32,
+    k: u32,
+    converged: bool,
+    exact: bool,
+    idle: u32,
+) -> BoxReport
+    ensures { λ r. ⌜ r ≡ def.reportOf (box.problem (now (w .entry)) (now («u_free» .entry)) (now (lo .entry)) (now (hi .entry)) (now (scale .entry))) idle k converged exact (def.stand (now (nu .entry)) (now (states .entry)) passes) ⌝ }
+{
+    BoxReport {
+        sweeps: k,
+        exact_passes: passes,
+        converged,
+        exact,
+        residual: sweep::residual(w, u_free, lo, hi, scale, states, nu),
+        idle,
+    }
 }
