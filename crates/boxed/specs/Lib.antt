@@ -1,1 +1,2 @@
 pub mod Solves
+pub mod Progresses

@@ -72,6 +72,9 @@ pub record Watch : Type 0 where
   pub motion : List Float
   pub tolerance : Float
 
+abbrev pub watch : List Float → Float → Watch
+watch motion tolerance = record { motion = motion; tolerance = tolerance }
+
 -- whether no coordinate moved by more than the tolerance
 unfoldable pub stands : Watch → List Float → List Float → Bool
 stands m nu before = le (motionOf (m .motion) nu before) (m .tolerance)
@@ -85,13 +88,13 @@ tested p m k before (going s) =
     (going s)
 
 -- growth, of the multipliers that the sweep left, Idle rows included
-unfoldable pub unlessGrown : Problem → ℕ → Stand → Run
-unlessGrown p k s = unless cause.Growth k s (grown (s .nu) (p .scale) (rows p))
+unfoldable pub unlessGrown : List Float → ℕ → ℕ → Stand → Run
+unlessGrown scale n k s = unless cause.Growth k s (grown (s .nu) scale n)
 
 unfoldable pub turn : ℕ → Problem → Watch → ℕ → Run → Run
 turn cap p m k (ended j e s) = ended j e s
 turn cap p m k (going s) =
-    tested p m (suc k) (s .nu) (checked cap p (suc k) (unlessGrown p (suc k) (stand (swept p (s .states) (s .nu) (rows p)) (s .states) (s .passes))))
+    tested p m (suc k) (s .nu) (checked cap p (suc k) (unlessGrown (p .scale) (rows p) (suc k) (stand (swept p (s .states) (s .nu) (rows p)) (s .states) (s .passes))))
 
 -- after k sweeps at most
 unfoldable pub run : ℕ → Problem → Watch → Stand → ℕ → Run

@@ -1,0 +1,5 @@
+pub mod Tables
+pub mod Testing
+pub mod Attempts
+pub mod Turning
+pub mod Running

@@ -1,0 +1,21 @@
+use Rattle.boxed.specs.Solves as def
+use borrow.Author.Needs.{needs}
+use Rattle.boxed.proofs.refusal.good_scale.Statement.{statement}
+use Rattle.boxed.proofs.refusal.good_scale.Tie as tie
+use Rattle.boxed.proofs.refusal.good_scale.Reads as reads
+use Rattle.boxed.proofs.refusal.good_scale.Lts as lts
+use Rattle.floats.proofs.is_finite.Reads as is-finite-reads
+
+is-finite-requires : tie.Need-is-finite-requires
+is-finite-requires c κs = search needs
+
+returns : tie.Need-returns
+unfolding def.goodScale
+returns c = rw (← c .before .is-finite .ensures, c .if1 .taken)
+
+returns-2 : tie.Need-returns-2
+unfolding def.goodScale
+returns-2 c = rw (← c .before .is-finite .ensures, c .if1 .left)
+
+pub good-scale-spec : {M : Type 1} → statement M
+good-scale-spec = tie.close (tie.spec is-finite-requires returns returns-2)

@@ -1,0 +1,55 @@
+use Rattle.boxed.specs.Solves as def
+use Rattle.loops.specs.Loops.{every}
+use native.Mathlib.Numerals.{add-one}
+use mathlib.Core.Path.{_≡_, refl}
+use Prim.Native.Nat.{_≤_, _-_}
+use borrow.Author.Needs.{needs}
+use Rattle.boxed.proofs.refusal.good_scales.Statement.{statement}
+use Rattle.boxed.proofs.refusal.good_scales.Tie as tie
+use Rattle.boxed.proofs.refusal.good_scales.Reads as reads
+use Rattle.boxed.proofs.refusal.good_scales.Lts as lts
+use Rattle.boxed.proofs.refusal.good_scale.Reads as good-scale-reads
+use Rattle.cells.proofs.at.Reads as at-reads
+
+abbrev Inv-loop : tie.InvT-loop
+Inv-loop scale n good₀ i₀ good i = (i ≤ n) × (good ≡ every (def.goodScaleAt scale) i)
+
+abbrev μ-loop : tie.MeasureT-loop
+μ-loop scale n good₀ i₀ good i = n - i
+
+loop-holds : tie.Need-loop-holds Inv-loop μ-loop
+unfolding every
+loop-holds c = (search needs, refl)
+
+at-requires : tie.Need-at-requires Inv-loop μ-loop
+at-requires c κs = search needs
+
+good-scale-requires : tie.Need-good-scale-requires Inv-loop μ-loop
+good-scale-requires c κs = search needs
+
+add-i : tie.Need-add-i Inv-loop μ-loop
+add-i c = search needs
+
+loop-less : tie.Need-loop-less Inv-loop μ-loop
+loop-less c = search needs
+
+loop-again : tie.Need-loop-again Inv-loop μ-loop
+unfolding every
+loop-again c = (search needs, rw (add-one, ← c .before .before .before .loop .inv .1, ← c .before .at .ensures, ← c .good-scale .ensures))
+
+returns : tie.Need-returns Inv-loop μ-loop
+returns c = let e = native.Mathlib.Nat.le-antisymm (c .before .loop .inv .0) (c .loop-test .left) in rw (← e) (c .before .loop .inv .1)
+
+pub good-scales-spec : {M : Type 1} → statement M
+good-scales-spec =
+    tie.close
+    (tie.spec
+    Inv-loop
+    μ-loop
+    loop-holds
+    at-requires
+    good-scale-requires
+    add-i
+    loop-less
+    loop-again
+    returns)

@@ -1,0 +1,16 @@
+use Rattle.loops.proofs.Index.{product}
+use native.Mathlib.Omega.{arith}
+use borrow.Author.Needs.{needs}
+use Rattle.boxed.proofs.refusal.not_square.Statement.{statement}
+use Rattle.boxed.proofs.refusal.not_square.Tie as tie
+use Rattle.boxed.proofs.refusal.not_square.Reads as reads
+use Rattle.boxed.proofs.refusal.not_square.Lts as lts
+
+mul-result : tie.Need-mul-result
+mul-result c = omega (arith, product (c .args .n) (c .args .n) (c .pre) (c .pre))
+
+returns : tie.Need-returns
+returns c = search needs
+
+pub not-square-spec : {M : Type 1} → statement M
+not-square-spec = tie.close (tie.spec mul-result returns)
