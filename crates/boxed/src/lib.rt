@@ -2,7 +2,7 @@
 ghost use mathlib.Core.Path.{_≡_};
 ghost use mathlib.Core.List.{List};
 ghost use Prim.Native.Nat.{ℕ, _+_, _*_, _≤_, _<_};
-ghost use lib.ListN.{length, drop};
+ghost use lib.ListN.{length, drop, take};
 ghost use Rattle.sweep.specs.Rows as box;
 ghost use Rattle.exact_pass.specs.Passes as pass;
 ghost use Rattle.boxed.specs.Solves as def;
@@ -479,4 +479,25 @@ fn report(
         residual: sweep::residual(w, u_free, lo, hi, scale, states, nu),
         idle,
     }
+}
+
+// ---- the start, and the rows handed back
+
+// The multipliers and states before the first sweep; how many rows are Idle.
+fn start(w: &[f64], n: usize, lo: &[f64], hi: &[f64], states: &mut [u8], nu: &mut [f64]) -> usize
+    ensures { λ r. ⌜ (r ≡ length (box.idleTo (now (w .entry)) n n)) × (now (nu .exit) ≡ box.begunTo (now (w .entry)) n (now (lo .entry)) (now (hi .entry)) (now (nu .entry)) n) × (now (states .exit) ≡ box.markedTo (now (w .entry)) n (now (states .entry)) n) ⌝ }
+{
+    sweep::begin(w, n, lo, hi, nu);
+    sweep::mark(w, n, states);
+    sweep::idle(w, n)
+}
+
+// The rows that fight: the filled front of the row list, of which an infeasible answer tells the length.
+pub fn listed(rows: &[usize], count: usize) -> &[usize]
+    ensures { λ r. ⌜ now r ≡ take count (now (rows .entry)) ⌝ }
+{
+    if count < rows.len() {
+        return &rows[..count];
+    }
+    rows
 }
