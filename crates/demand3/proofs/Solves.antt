@@ -81,7 +81,7 @@ first-false : (c : Bool) (k : ℕ) (l : List (Bool × ℕ)) → first ((c, suc k
 first-false true k l h = absurd (omega arith)
 first-false false k l h = (refl, h)
 
-or-false : (a b : Bool) → a || b ≡ false → (a ≡ false) × (b ≡ false)
+pub or-false : (a b : Bool) → a || b ≡ false → (a ≡ false) × (b ≡ false)
 or-false true b h = absurd (true≢false h)
 or-false false b h = (refl, h)
 
