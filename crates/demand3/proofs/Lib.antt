@@ -1,3 +1,4 @@
+pub mod Numbers
 pub mod Words
 pub mod Boxes
 pub mod Rays

@@ -2,20 +2,21 @@
 -- sweeps each are the most of which that is so.
 use Prim.Native.Nat.{ℕ, suc, _+_, _*_, _≤_, _<_, zero-le}
 use mathlib.Core.Path.{_≡_, refl, sym, _∙_, ap}
-use mathlib.Core.Bool.{Bool, true, false, cond}
+use mathlib.Core.Bool.{Bool, true, false, cond, _||_}
 use mathlib.Core.List.{List, [], _∷_, map, List·Permᴰ, List·Permᴰ·nil, List·Permᴰ·cons, List·Permᴰ·swap, List·Permᴰ·trans}
 use native.Mathlib.Omega.{arith}
-use lib.Dec.{eqb}
+use lib.Dec.{ltb, eqb}
+use lib.Arith.{lt-of-le-ne}
 use lib.ListN.{length}
-use borrow.Author.Tests.{le-ltb, ne-eqb, eqb-true}
-use Rattle.report.specs.Joins.{NOTHING, both, and, AllSummable}
+use borrow.Author.Tests.{le-ltb, ltb-false, ne-eqb, eqb-true, eqb-false}
+use Rattle.report.specs.Joins.{NOTHING, both, most, joined, and, AllSummable}
 use Rattle.report.specs.declared.SolveReport.{SolveReport}
 use Rattle.report.proofs.Joins.{Held, both-held, both-comm, both-assoc, and-joins}
 use Rattle.boxed.specs.Solves.{Outcome, refused, solved, infeasible, reply, solveReply, SWEEP_CAP}
 use Rattle.boxed.specs.declared.BoxReport.{BoxReport}
 use Rattle.tally.specs.Tally.{Call, number, alone, turned, kept, joinedTo, full, numberOn, answerOn, Tallied, with, tallied, before, all}
 use Rattle.demand3.specs.Demand.{reportIn, reported, sumOf}
-use Rattle.demand3.proofs.Solves.{Modest, Reported}
+use Rattle.demand3.proofs.Solves.{Modest, Reported, or-false}
 
 -- ---- the tally with every report added, whatever the counts come to
 
@@ -163,3 +164,34 @@ module _ (modest : (c : Call) → Reported Modest (alone c .outcome)) where
       ∙ ap (λ (x : Call). plus (plus t (alone x .outcome)) (alone a .outcome)) g
       ∙ ap (λ (x : Call). plus (plus t (alone a′ .outcome)) (alone x .outcome)) e)
   total-perm (List·Permᴰ·trans d g) t p = total-perm d t p ∙ total-perm g t p
+
+-- ---- any tally that is not full takes one solve more: 11 leaves no sum for 13 to refuse
+
+-- the counts are those of a u32, as in every tally that a call is given
+pub record Counts (t : SolveReport) : Type 0 where
+  pub increments : t .increments ≤ most
+  pub iterations : t .iterations ≤ most
+  pub rejected : t .rejected ≤ most
+  pub anchors : t .anchors ≤ most
+
+pub never-refused : (t : SolveReport) (r : BoxReport) → Counts t → full t ≡ false → Modest r → and t (turned r) ≡ joined (both t (turned r))
+unfolding full
+never-refused t r u h m =
+    let a = or-false (eqb (t .increments) 4294967295 || ltb 4294967095 (t .sweeps)) (ltb 4294967286 (t .«exact_passes»)) h in
+    let b = or-false (eqb (t .increments) 4294967295) (ltb 4294967095 (t .sweeps)) (a .0) in
+    and-joins t (turned r)
+    (room-for (lt-of-le-ne (u .increments) (eqb-false (t .increments) 4294967295 (b .0))) (ltb-false 4294967095 (t .sweeps) (b .1)) (ltb-false 4294967286 (t .«exact_passes») (a .1)))
+  where
+    room-for : t .increments < 4294967295 → t .sweeps ≤ 4294967095 → t .«exact_passes» ≤ 4294967286 → AllSummable t (turned r)
+    room-for i s p =
+        unfold turned in
+        record {
+          increments = omega arith;
+          others = record {
+            iterations = omega (arith, u .iterations);
+            rejected = omega (arith, u .rejected);
+            anchors = omega (arith, u .anchors);
+            sweeps = omega (arith, m .few);
+            «exact_passes» = omega (arith, m .fewer);
+          };
+        }

@@ -30,7 +30,7 @@ use Rattle.boxed.specs.declared.BoxReport.{BoxReport}
 use Rattle.boxed.specs.declared.Cause.{Cause}
 use Rattle.boxed.specs.declared.Cause.the-variants as cause
 use Rattle.tally.specs.Tally.{Call, number, alone}
-use Rattle.demand3.specs.Claims.{sweptAlone, Upright, NaNOrInBox, acting, notAbove, below, afterSweeps, goesOn, bySweeps, OnBound, Sound, Reason, Listed, Claims}
+use Rattle.demand3.specs.Claims.{sweptAlone, Upright, NaNOrInBox, acting, notAbove, below, afterSweeps, goesOn, passesMade, passesIn, bySweeps, OnBound, Sound, Reason, Listed, Claims}
 use Rattle.demand3.proofs.Words.{lt-abs, acts-above, idle-not-above, diagonal, own-is, rising-at, gathered-few}
 use Rattle.demand3.proofs.Boxes.{Boxed, Inside, begun-boxed}
 use Rattle.demand3.proofs.Rays.{Fights}
@@ -81,7 +81,7 @@ first-false : (c : Bool) (k : ℕ) (l : List (Bool × ℕ)) → first ((c, suc k
 first-false true k l h = absurd (omega arith)
 first-false false k l h = (refl, h)
 
-or-false : (a b : Bool) → a || b ≡ false → (a ≡ false) × (b ≡ false)
+pub or-false : (a b : Bool) → a || b ≡ false → (a ≡ false) × (b ≡ false)
 or-false true b h = absurd (true≢false h)
 or-false false b h = (refl, h)
 
@@ -161,18 +161,19 @@ module _ (c : Call) (zeroth : number c ≡ 0) (fair : Upright (c .problem)) (ok 
   idle-is : (i : ℕ) → i < rows p → acting p i ≡ false → idleRow p i ≡ true
   idle-is i b h = idle-not-above (W p i i) (rw (diagonal p (ok .few) (ok .square) i b) h)
 
-  -- it goes on until sweep k, which is its last
-  abbrev Sweeps : ℕ → Type 0
-  Sweeps k = ((i : ℕ) → i < k → goesOn (afterSweeps c i) ≡ true) × (goesOn (afterSweeps c k) && ltb k 200 ≡ false)
+  -- it goes on until sweep k, which is its last, and has counted the passes that it made
+  abbrev Sweeps : ℕ → Stand → Type 0
+  Sweeps k s = ((i : ℕ) → i < k → goesOn (afterSweeps c i) ≡ true) × (goesOn (afterSweeps c k) && ltb k 200 ≡ false) × (s .passes ≡ passesIn c k)
 
   -- not exact: every multiplier is left by sweeps
-  plain-sound : (a : Result) (idle k : ℕ) (v g : Bool) (s : Stand) → a .nu ≡ s .nu → Sweeps k → k ≤ 200 → Boxed p (s .nu) → s .nu ≡ bySweeps c k → s .passes ≡ cond g (below k) (notAbove k)
+  plain-sound : (a : Result) (idle k : ℕ) (v g : Bool) (s : Stand) → a .nu ≡ s .nu → Sweeps k s → k ≤ 200 → Boxed p (s .nu) → s .nu ≡ bySweeps c k → s .passes ≡ cond g (below k) (notAbove k)
       → (v ≡ true → le (residual p (s .states) (s .nu) (rows p)) 1e-9 ≡ true) → Sound c a g (reportOf p idle k v false s)
   unfolding reportOf
   plain-sound a idle k v g s e n h b w q r =
       record {
         madeSweeps = n .0;
         lastSweep = λ z. n .1;
+        madePasses = n .2;
         fewSweeps = h;
         passes = q;
         leftBySweeps = λ z. e ∙ w;
@@ -212,7 +213,7 @@ module _ (c : Call) (zeroth : number c ≡ 0) (fair : Upright (c .problem)) (ok 
               (nil-hi (at (p .lo) j) (at (p .hi) j) u (W p j j) (fair .lows j b) (fair .highs j b) (fair .ordered j b) (acts-is-above (W p j j) here) (not-lt-positive u (wrong-hi u k)))));
         }
 
-  exact-sound : (a : Result) (idle k : ℕ) (s : Stand) → a .nu ≡ s .nu → a .states ≡ s .states → Sweeps k → k ≤ 200 → Exact p (marked p (c .states) (rows p)) (begun p (c .nu) (rows p)) k s → Sound c a false (reportOf p idle k true true s)
+  exact-sound : (a : Result) (idle k : ℕ) (s : Stand) → a .nu ≡ s .nu → a .states ≡ s .states → Sweeps k s → k ≤ 200 → Exact p (marked p (c .states) (rows p)) (begun p (c .nu) (rows p)) k s → Sound c a false (reportOf p idle k true true s)
   unfolding reportOf
   exact-sound a idle k s e i n h x =
       let rest : (j : ℕ) → j < rows p → acting p j ≡ false → at (s .nu) j ≡ at (bySweeps c k) j
@@ -220,6 +221,7 @@ module _ (c : Call) (zeroth : number c ≡ 0) (fair : Upright (c .problem)) (ok 
       record {
         madeSweeps = n .0;
         lastSweep = λ z. n .1;
+        madePasses = n .2;
         fewSweeps = h;
         passes = x .passes;
         leftBySweeps = λ z. absurd (true≢false z);
@@ -262,11 +264,11 @@ module _ (c : Call) (zeroth : number c ≡ 0) (fair : Upright (c .problem)) (ok 
   fought-reasons : (nu : List Float) (st : List ℕ) (r : List ℕ) → Marks p st → Gathered (Fights p st) (rows p) r → (k : ℕ) → k < length r → Reason p nu cause.Pass (getD r k 0)
   fought-reasons nu st r m g k b = fought-reason nu st (getD r k 0) m (each-at (λ j. j < rows p) r (g .below) k b) (each-at (Fights p st) r (g .passing) k b)
 
-  went-on : ((i : ℕ) → i ≤ 200 → goesOn (afterSweeps c i) ≡ true) → Sweeps 200
-  went-on h = ((λ i b. h i (omega arith)), and-false (goesOn (afterSweeps c 200)))
+  went-on : (s : Stand) → ((i : ℕ) → i ≤ 200 → goesOn (afterSweeps c i) ≡ true) × (s .passes ≡ passesIn c 200) → Sweeps 200 s
+  went-on s h = ((λ i b. h .0 i (omega arith)), and-false (goesOn (afterSweeps c 200)), h .1)
 
-  ended-in : (j : ℕ) → ((i : ℕ) → i < j → goesOn (afterSweeps c i) ≡ true) × (goesOn (afterSweeps c j) ≡ false) → Sweeps j
-  ended-in j h = (h .0, ap (λ (b : Bool). b && ltb j 200) (h .1))
+  ended-in : (j : ℕ) (s : Stand) → ((i : ℕ) → i < j → goesOn (afterSweeps c i) ≡ true) × (goesOn (afterSweeps c j) ≡ false) × (s .passes ≡ passesIn c j) → Sweeps j s
+  ended-in j s h = (h .0, ap (λ (b : Bool). b && ltb j 200) (h .1), h .2)
 
   abbrev Whole : Run → Type 0
   Whole x = Runs p (marked p (c .states) (rows p)) (begun p (c .nu) (rows p)) 200 200 x
@@ -277,16 +279,16 @@ module _ (c : Call) (zeroth : number c ≡ 0) (fair : Upright (c .problem)) (ok 
   result-claims : (idle : ℕ) (x : Run) → MadeSo x → Whole x → Claims c (result SWEEP_CAP p idle (c .listed) x)
   unfolding result unfound
   result-claims idle (going s) n h =
-      (zeroth, plain-sound (result SWEEP_CAP p idle (c .listed) (going s)) idle 200 false false s refl (went-on n) (le-refl 200) (h .boxed) (h .alone) (h .passes) (λ z. absurd (true≢false (sym z))))
+      (zeroth, plain-sound (result SWEEP_CAP p idle (c .listed) (going s)) idle 200 false false s refl (went-on s n) (le-refl 200) (h .boxed) (h .alone) (h .passes) (λ z. absurd (true≢false (sym z))))
   result-claims idle (ended j still s) n h =
       let g = h .2 .standing in
-      (zeroth, plain-sound (result SWEEP_CAP p idle (c .listed) (ended j still s)) idle j true false s refl (ended-in j n) (h .1) (g .boxed) (g .alone) (g .passes) (λ z. h .2 .small))
-  result-claims idle (ended j exact s) n h = (zeroth, exact-sound (result SWEEP_CAP p idle (c .listed) (ended j exact s)) idle j s refl refl (ended-in j n) (h .1) (h .2))
+      (zeroth, plain-sound (result SWEEP_CAP p idle (c .listed) (ended j still s)) idle j true false s refl (ended-in j s n) (h .1) (g .boxed) (g .alone) (g .passes) (λ z. h .2 .small))
+  result-claims idle (ended j exact s) n h = (zeroth, exact-sound (result SWEEP_CAP p idle (c .listed) (ended j exact s)) idle j s refl refl (ended-in j s n) (h .1) (h .2))
   result-claims idle (ended j (fight cause.Growth r) s) n h =
       let a = result SWEEP_CAP p idle (c .listed) (ended j (fight cause.Growth r) s) in
       let g = h .2 in (
         zeroth,
-        plain-sound a idle j false true s refl (ended-in j n) (h .1) (g .boxed) (g .alone) (ended-below (s .passes) j (h .0) (h .1) (g .passes)) (λ z. absurd (true≢false (sym z))),
+        plain-sound a idle j false true s refl (ended-in j s n) (h .1) (g .boxed) (g .alone) (ended-below (s .passes) j (h .0) (h .1) (g .passes)) (λ z. absurd (true≢false (sym z))),
         listed-rows a cause.Growth r refl (g .some) (g .these)
             (λ k b. grew-reason (s .nu) (getD r k 0) (each-at (λ i. past (at (s .nu) i) (at (p .scale) i) ≡ true) r (g .these .passing) k b)),
       )
@@ -295,7 +297,7 @@ module _ (c : Call) (zeroth : number c ≡ 0) (fair : Upright (c .problem)) (ok 
       let g = h .2 .standing in
       let f = h .2 .fought in (
         zeroth,
-        plain-sound a idle j false false s refl (ended-in j n) (h .1) (g .boxed) (g .alone) (g .passes) (λ z. absurd (true≢false (sym z))),
+        plain-sound a idle j false false s refl (ended-in j s n) (h .1) (g .boxed) (g .alone) (g .passes) (λ z. absurd (true≢false (sym z))),
         listed-rows a cause.Pass r refl (f .some) (f .these) (fought-reasons (s .nu) (s .states) r (g .marks) (f .these)),
       )
   result-claims idle (ended j (fight cause.Sweep r) s) n h =
@@ -303,7 +305,7 @@ module _ (c : Call) (zeroth : number c ≡ 0) (fair : Upright (c .problem)) (ok 
       let g = h .2 .standing in
       let f = h .2 .fought in (
         zeroth,
-        plain-sound a idle j false false s refl (ended-in j n) (h .1) (g .boxed) (g .alone) (g .passes) (λ z. absurd (true≢false (sym z))),
+        plain-sound a idle j false false s refl (ended-in j s n) (h .1) (g .boxed) (g .alone) (g .passes) (λ z. absurd (true≢false (sym z))),
         listed-rows a cause.Sweep r refl (f .some) (f .these) (fought-reasons (s .nu) (s .states) r (g .marks) (f .these)),
       )
 
@@ -331,7 +333,7 @@ solve-modest p m nu st l ok = go (length (idleRows p (rows p))) (begin p nu st) 
 -- all rows Idle: no row is on a bound, and every multiplier is as the clamp put it
 still-claims : (c : Call) → number c ≡ 0 → Upright (c .problem) → (ok : Accepted (c .problem) (c .nu) (c .states) (c .listed)) → (idle : ℕ)
     → Claims c (record { outcome = solved (nothing idle); nu = begin (c .problem) (c .nu) (c .states) .nu; states = begin (c .problem) (c .nu) (c .states) .states; listed = c .listed })
-unfolding begin inBox sweptAlone
+unfolding begin inBox sweptAlone passesMade
 still-claims c z fair ok idle =
     let s = start-stands (c .problem) (c .nu) (c .states) (c .listed) ok in
     let m = marked-at (c .problem) (c .states) (ok .states) in (
@@ -339,6 +341,7 @@ still-claims c z fair ok idle =
       record {
         madeSweeps = λ k h. absurd (not-suc-le-zero h);
         lastSweep = λ h. absurd (not-suc-le-zero h);
+        madePasses = refl;
         fewSweeps = zero-le;
         passes = sym due-zero;
         leftBySweeps = λ y. absurd (true≢false y);
@@ -367,7 +370,7 @@ solve-claims c z fair ok = go (length (idleRows (c .problem) (rows (c .problem))
         let st = marked p (c .states) (rows p) in
         let nu = begun p (c .nu) (rows p) in
         let s = begin p (c .nu) (c .states) in
-        result-claims c z fair ok idle (run SWEEP_CAP p (c .watch) s 200) (made p (c .watch) s 200)
+        result-claims c z fair ok idle (run SWEEP_CAP p (c .watch) s 200) (made p (c .watch) s (unfold begin in refl) 200)
         (run-runs p (c .watch) st nu s (marked-marks p (c .states) (ok .states)) (start-stands p (c .nu) (c .states) (c .listed) ok))
 
 -- ---- a call

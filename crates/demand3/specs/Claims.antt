@@ -8,8 +8,8 @@ use lib.Dec.{leb, ltb}
 use lib.ListN.{length, getD, take}
 use lib.Ieee.{Float, nan, inf, fin, lt, le, eq, ne}
 use Rattle.floats.specs.Ops.{_⊕_, _⊖_, _⊗_, _⊘_, at, Fits, 0ᶠ, 1e6, 1e-9, ∞, −∞}
-use Rattle.sweep.specs.Rows.{Problem, rows, swept, begun, marked}
-use Rattle.boxed.specs.Solves.{Run, going, ended, run, begin, SWEEP_CAP, Outcome, refused, solved, infeasible, Result}
+use Rattle.sweep.specs.Rows.{Problem, rows, swept, grown, begun, marked}
+use Rattle.boxed.specs.Solves.{Stand, Run, going, ended, Watch, checkpoint, run, begin, SWEEP_CAP, Outcome, refused, solved, infeasible, Result}
 use Rattle.boxed.specs.declared.BoxReport.{BoxReport}
 use Rattle.boxed.specs.declared.Cause.{Cause}
 use Rattle.boxed.specs.declared.Cause.the-variants as cause
@@ -88,6 +88,23 @@ abbrev pub goesOn : Run → Bool
 goesOn (going s) = true
 goesOn (ended k e s) = false
 
+-- whether sweep k + 1 makes an exact pass, the solve after k sweeps being x: it is a sweep with a pass, and growth does not end it
+abbrev pub none : List ℕ → Bool
+none [] = true
+none (a ∷ l) = false
+
+abbrev pub makesPass : Problem → ℕ → Run → Bool
+makesPass p k (going s) = checkpoint SWEEP_CAP (suc k) && none (grown (swept p (s .states) (s .nu) (rows p)) (p .scale) (rows p))
+makesPass p k (ended j e s) = false
+
+-- the exact passes that the first k sweeps from s make
+unfoldable pub passesMade : Problem → Watch → Stand → ℕ → ℕ
+passesMade p m s zero = 0
+passesMade p m s (suc k) = passesMade p m s k + cond (makesPass p k (run SWEEP_CAP p m s k)) 1 0
+
+abbrev pub passesIn : Call → ℕ → ℕ
+passesIn c k = passesMade (c .problem) (c .watch) (begin (c .problem) (c .nu) (c .states)) k
+
 -- The multipliers that k sweeps leave of nu, no exact pass between. A sweep reads of the states only which rows are Idle, and no pass changes that.
 unfoldable pub sweptAlone : Problem → List ℕ → List Float → ℕ → List Float
 sweptAlone p st nu zero = nu
@@ -111,9 +128,11 @@ pub record Sound (c : Call) (a : Result) (grew : Bool) (r : BoxReport) : Type 0 
   pub madeSweeps : (k : ℕ) → k < r .sweeps → goesOn (afterSweeps c k) ≡ true
   -- and it ended in the last, or at 200 (where all rows are Idle it made none)
   pub lastSweep : 0 < r .sweeps → goesOn (afterSweeps c (r .sweeps)) && ltb (r .sweeps) 200 ≡ false
+  -- and one for each exact pass
+  pub madePasses : r .«exact_passes» ≡ passesIn c (r .sweeps)
   -- at most 200 sweeps
   pub fewSweeps : r .sweeps ≤ 200
-  -- exactly as many passes as 1, 2, 4 .. 128, 200 has members not above its sweeps (below, where growth ended it); the definition counts one where it makes one (`passed`)
+  -- exactly as many passes as 1, 2, 4 .. 128, 200 has members not above its sweeps (below, where growth ended it)
   pub passes : r .«exact_passes» ≡ cond grew (below (r .sweeps)) (notAbove (r .sweeps))
   -- Left by sweeps are, in an answer that is not exact, all multipliers: only the pass that finds an exact answer writes the multipliers of an answer.
   pub leftBySweeps : r .exact ≡ false → a .nu ≡ bySweeps c (r .sweeps)
