@@ -10,75 +10,57 @@ use Rattle.boxed.proofs.check.Reads as check-reads
 use Rattle.boxed.proofs.is_going.Reads as is-going-reads
 use Rattle.boxed.proofs.test.Reads as test-reads
 
--- src/lib.rt:285:9
 check-requires : tie.Need-check-requires
 check-requires c κs = search needs
 
--- src/lib.rt:288:8
 is-going-requires : tie.Need-is-going-requires
 is-going-requires c κs = search needs
 
--- src/lib.rt:289:9
 test-requires : tie.Need-test-requires
 test-requires c κs = (c .before .before .before .before .before .before .before .before .before .before .before .before .before .before .before .before .before .before .before .before .before .before .before .before .before .before .before .before .before .before .before .before .before .before .before .before .before .before .before .pre .0 .few, omega (arith, c .before .before .before .before .before .before .before .before .before .before .before .before .before .before .before .before .before .before .before .before .before .before .before .before .before .before .before .before .before .before .before .before .before .before .before .before .before .before .before .pre .1))
 
--- src/lib.rt:289:9
 same-length : tie.Need-same-length
 same-length c = search needs
 
--- src/lib.rt:289:9
 same-length-2 : tie.Need-same-length-2
 same-length-2 c = search needs
 
--- src/lib.rt:289:9
 same-length-3 : tie.Need-same-length-3
 same-length-3 c = search needs
 
--- src/lib.rt:289:9
 same-length-4 : tie.Need-same-length-4
 same-length-4 c = search needs
 
--- src/lib.rt:289:9
 same-length-5 : tie.Need-same-length-5
 same-length-5 c = search needs
 
--- src/lib.rt:289:9
 same-length-6 : tie.Need-same-length-6
 same-length-6 c = search needs
 
--- src/lib.rt:289:9
 same-length-7 : tie.Need-same-length-7
 same-length-7 c = search needs
 
--- src/lib.rt:289:9
 returns : tie.Need-returns
 returns c = (after-going _ _ _ _ _ _ _ _ _ _ _ _ _ _ (c .before .before .before .before .before .before .before .before .before .before .before .before .before .before .before .before .before .before .before .before .before .before .before .check .ensures .0) (sym (c .before .before .before .before .before .before .before .before .before .before .is-going .ensures) ∙ c .before .before .before .before .before .before .before .before .before .if1 .taken) (c .before .before .before .before .test .ensures .0), omega (arith, c .before .before .before .before .test .ensures .1, c .before .before .before .before .before .before .before .before .before .before .before .before .before .before .before .before .before .before .before .before .before .before .before .check .ensures .1), c .before .before .before .before .before .before .before .before .before .before .before .before .before .before .before .before .before .before .before .before .before .before .before .check .ensures .2)
 
--- src/lib.rt:281:1
 same-length-8 : tie.Need-same-length-8
 same-length-8 c = search needs
 
--- src/lib.rt:281:1
 same-length-9 : tie.Need-same-length-9
 same-length-9 c = search needs
 
--- src/lib.rt:281:1
 same-length-10 : tie.Need-same-length-10
 same-length-10 c = search needs
 
--- src/lib.rt:281:1
 same-length-11 : tie.Need-same-length-11
 same-length-11 c = search needs
 
--- src/lib.rt:281:1
 same-length-12 : tie.Need-same-length-12
 same-length-12 c = search needs
 
--- src/lib.rt:281:1
 same-length-13 : tie.Need-same-length-13
 same-length-13 c = search needs
 
--- src/lib.rt:281:1
 returns-2 : tie.Need-returns-2
 returns-2 c = (after-ended _ _ _ _ _ _ _ _ _ _ (c .before .before .before .before .before .before .before .before .before .before .before .before .before .before .check .ensures .0) (sym (c .before .is-going .ensures) ∙ c .if1 .left), c .before .before .before .before .before .before .before .before .before .before .before .before .before .before .check .ensures .1, c .before .before .before .before .before .before .before .before .before .before .before .before .before .before .check .ensures .2)
 

@@ -9,47 +9,36 @@ use Rattle.boxed.proofs.settle.Reads as settle-reads
 use Rattle.cells.proofs.copy.Reads as copy-reads
 use Rattle.exact_pass.proofs.exact_pass.Reads as exact-pass-reads
 
--- src/lib.rt:213:5
 copy-requires : tie.Need-copy-requires
 copy-requires c κs = search needs
 
--- src/lib.rt:214:9
 exact-pass-requires : tie.Need-exact-pass-requires
 exact-pass-requires c κs = search needs
 
--- src/lib.rt:215:29
 add-settle : tie.Need-add-settle
 add-settle c = search needs
 
--- src/lib.rt:215:5
 settle-requires : tie.Need-settle-requires
 settle-requires c κs = search needs
 
--- src/lib.rt:209:1
 same-length : tie.Need-same-length
 same-length c = search needs
 
--- src/lib.rt:209:1
 same-length-2 : tie.Need-same-length-2
 same-length-2 c = search needs
 
--- src/lib.rt:209:1
 same-length-3 : tie.Need-same-length-3
 same-length-3 c = search needs
 
--- src/lib.rt:209:1
 same-length-4 : tie.Need-same-length-4
 same-length-4 c = search needs
 
--- src/lib.rt:209:1
 same-length-5 : tie.Need-same-length-5
 same-length-5 c = search needs
 
--- src/lib.rt:209:1
 same-length-6 : tie.Need-same-length-6
 same-length-6 c = search needs
 
--- src/lib.rt:209:1
 returns : tie.Need-returns
 returns c = (attempt-is _ _ _ _ _ (c .before .before .before .before .before .before .before .before .before .before .before .before .before .before .before .before .before .before .before .before .before .before .before .before .before .before .before .before .before .before .before .before .before .before .before .before .before .args .trial .now) _ _ _ _ (c .before .before .before .before .before .before .before .before .before .before .before .before .before .before .before .exact-pass .result) _ _ _ _ _ (c .before .before .before .before .before .before .before .before .before .before .before .before .before .before .before .before .before .before .before .before .before .before .before .before .before .before .before .before .before .before .before .before .before .before .before .before .before .pre .copied) (c .before .before .before .before .before .before .before .before .before .before .before .before .before .before .before .before .before .before .before .before .before .before .before .before .before .before .before .before .before .before .before .before .before .before .before .before .before .pre .few) (c .before .before .before .before .before .before .before .before .before .before .before .before .before .before .before .before .before .before .before .before .before .before .before .before .before .before .before .before .before .before .before .before .before .before .before .before .before .pre .matrix) (c .before .before .before .before .before .before .before .before .before .before .before .before .before .before .before .before .before .before .before .before .before .before .before .before .before .before .before .before .before .before .before .before .before .before .before .before .before .pre .room) (c .before .before .before .before .before .before .before .before .before .before .before .before .before .before .before .before .before .before .before .before .before .before .before .copy .ensures) (omega arith) (c .before .before .before .before .before .before .before .before .before .before .before .before .before .before .before .exact-pass .ensures .0) (c .before .before .settle .ensures .0) (c .before .before .settle .ensures .1), settled-count _ _ _ _ (c .before .before .settle .ensures .0), c .before .before .before .before .before .before .before .before .before .before .before .before .before .before .before .exact-pass .ensures .1)
 

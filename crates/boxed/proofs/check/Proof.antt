@@ -9,43 +9,33 @@ use Rattle.boxed.proofs.check.Lts as lts
 use Rattle.boxed.proofs.attempt.Reads as attempt-reads
 use Rattle.boxed.proofs.checkpoint.Reads as checkpoint-reads
 
--- src/lib.rt:223:8
 checkpoint-requires : tie.Need-checkpoint-requires
 checkpoint-requires c κs = search needs
 
--- src/lib.rt:224:9
 attempt-requires : tie.Need-attempt-requires
 attempt-requires c κs = search needs
 
--- src/lib.rt:224:9
 same-length : tie.Need-same-length
 same-length c = search needs
 
--- src/lib.rt:224:9
 same-length-2 : tie.Need-same-length-2
 same-length-2 c = search needs
 
--- src/lib.rt:224:9
 same-length-3 : tie.Need-same-length-3
 same-length-3 c = search needs
 
--- src/lib.rt:224:9
 same-length-4 : tie.Need-same-length-4
 same-length-4 c = search needs
 
--- src/lib.rt:224:9
 same-length-5 : tie.Need-same-length-5
 same-length-5 c = search needs
 
--- src/lib.rt:224:9
 same-length-6 : tie.Need-same-length-6
 same-length-6 c = search needs
 
--- src/lib.rt:224:9
 returns : tie.Need-returns
 returns c = (check-tried _ _ _ _ _ _ _ _ _ _ _ (sym (c .before .before .before .before .before .before .before .before .before .before .before .before .before .before .before .before .before .before .before .before .checkpoint .ensures) ∙ c .before .before .before .before .before .before .before .before .before .before .before .before .before .before .before .before .before .before .before .if1 .taken) (c .before .before .before .before .before .before .before .before .before .before .before .before .attempt .ensures .0), c .before .before .before .before .before .before .before .before .before .before .before .before .attempt .ensures .1, c .before .before .before .before .before .before .before .before .before .before .before .before .attempt .ensures .2)
 
--- src/lib.rt:219:1
 returns-2 : tie.Need-returns-2
 returns-2 c = (check-not _ _ _ _ _ _ _ (sym (c .before .checkpoint .ensures) ∙ c .if1 .left), omega arith, refl)
 

@@ -8,15 +8,12 @@ use Rattle.boxed.proofs.checkpoint.Reads as reads
 use Rattle.boxed.proofs.checkpoint.Lts as lts
 use Rattle.boxed.proofs.in_table.Reads as in-table-reads
 
--- src/lib.rt:92:8
 in-table-requires : tie.Need-in-table-requires
 in-table-requires c κs = search needs
 
--- src/lib.rt:93:9
 returns : tie.Need-returns
 returns c = checkpoint-hit _ _ (sym (c .before .in-table .ensures) ∙ c .if1 .taken)
 
--- src/lib.rt:89:1
 returns-2 : tie.Need-returns-2
 returns-2 c = checkpoint-cap _ _ (sym (c .before .in-table .ensures) ∙ c .if1 .left)
 

@@ -8,19 +8,15 @@ use Rattle.boxed.proofs.grow.Lts as lts
 use Rattle.boxed.proofs.unless.Reads as unless-reads
 use Rattle.sweep.proofs.grown.Reads as grown-reads
 
--- src/lib.rt:120:30
 grown-requires : tie.Need-grown-requires
 grown-requires c κs = search needs
 
--- src/lib.rt:120:5
 unless-requires : tie.Need-unless-requires
 unless-requires c κs = search needs
 
--- src/lib.rt:117:1
 same-length : tie.Need-same-length
 same-length c = search needs
 
--- src/lib.rt:117:1
 returns : tie.Need-returns
 returns c = ((λ st. grow-is _ _ _ _ st _ _ _ _ _ (c .before .before .before .grown .ensures) (c .unless .ensures)), rw (c .unless .ensures))
 

@@ -16,35 +16,27 @@ Inv-loop k i₀ i = (i ≤ 8) × (def.member k (drop i def.table) ≡ def.member
 abbrev μ-loop : tie.MeasureT-loop
 μ-loop k i₀ i = 8 - i
 
--- src/lib.rt:79:5
 loop-holds : tie.Need-loop-holds Inv-loop μ-loop
 loop-holds c = (search needs, refl)
 
--- src/lib.rt:80:17
 mul-if1 : tie.Need-mul-if1 Inv-loop μ-loop
 mul-if1 c = search needs
 
--- src/lib.rt:80:17
 array-read-if1 : tie.Need-array-read-if1 Inv-loop μ-loop
 array-read-if1 c = search needs
 
--- src/lib.rt:81:13
 returns : tie.Need-returns Inv-loop μ-loop
 returns c = member-hit _ def.table (c .before .before .loop .i) (c .before .loop-test .taken) (c .if1 .taken) (c .before .before .loop .inv .1)
 
--- src/lib.rt:83:9
 add-i : tie.Need-add-i Inv-loop μ-loop
 add-i c = search needs
 
--- src/lib.rt:79:5
 loop-less : tie.Need-loop-less Inv-loop μ-loop
 loop-less c = search needs
 
--- src/lib.rt:79:5
 loop-again : tie.Need-loop-again Inv-loop μ-loop
 loop-again c = (search needs, member-skip _ def.table (c .before .before .loop .i) (c .before .loop-test .taken) (c .if1 .left) (c .before .before .loop .inv .1))
 
--- src/lib.rt:75:1
 returns-2 : tie.Need-returns-2 Inv-loop μ-loop
 returns-2 c = member-end _ def.table (c .before .loop .i) (c .loop-test .left) (c .before .loop .inv .1)
 

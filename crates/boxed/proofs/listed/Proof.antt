@@ -7,15 +7,12 @@ use Rattle.boxed.proofs.listed.Tie as tie
 use Rattle.boxed.proofs.listed.Reads as reads
 use Rattle.boxed.proofs.listed.Lts as lts
 
--- src/lib.rt:500:9
 slice-aggregate-result : tie.Need-slice-aggregate-result
 slice-aggregate-result c = sym (length-take-le _ _ (omega arith))
 
--- src/lib.rt:500:9
 returns : tie.Need-returns
 returns c = refl
 
--- src/lib.rt:496:1
 returns-2 : tie.Need-returns-2
 returns-2 c = sym (take-all _ _ (c .if1 .left))
 

@@ -7,11 +7,9 @@ use Rattle.boxed.proofs.report.Reads as reads
 use Rattle.boxed.proofs.report.Lts as lts
 use Rattle.sweep.proofs.residual.Reads as residual-reads
 
--- src/lib.rt:466:19
 residual-requires : tie.Need-residual-requires
 residual-requires c κs = search needs
 
--- src/lib.rt:458:1
 returns : tie.Need-returns
 unfolding def.reportOf
 returns c = rw (c .residual .ensures)

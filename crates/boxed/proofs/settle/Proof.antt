@@ -10,28 +10,22 @@ use Rattle.boxed.proofs.is_found.Reads as is-found-reads
 use Rattle.boxed.proofs.unfound.Reads as unfound-reads
 use Rattle.cells.proofs.copy.Reads as copy-reads
 
--- src/lib.rt:195:8
 is-found-requires : tie.Need-is-found-requires
 is-found-requires c κs = search needs
 
--- src/lib.rt:196:9
 copy-requires : tie.Need-copy-requires
 copy-requires c κs = search needs
 
--- src/lib.rt:197:9
 same-length : tie.Need-same-length
 same-length c = search needs
 
--- src/lib.rt:197:9
 returns : tie.Need-returns
 unfolding progress.settledOf progress.settledNu
 returns c = (rw (sym (c .before .before .before .before .before .is-found .ensures) ∙ c .before .before .before .before .if1 .taken), rw (c .before .before .copy .ensures, sym (c .before .before .before .before .before .is-found .ensures) ∙ c .before .before .before .before .if1 .taken))
 
--- src/lib.rt:203:19
 unfound-requires : tie.Need-unfound-requires
 unfound-requires c κs = search needs
 
--- src/lib.rt:192:1
 returns-2 : tie.Need-returns-2
 unfolding progress.settledOf progress.settledNu
 returns-2 c = (rw (c .unfound .ensures, sym (c .before .before .is-found .ensures) ∙ c .before .if1 .left), rw (sym (c .before .before .is-found .ensures) ∙ c .before .if1 .left))

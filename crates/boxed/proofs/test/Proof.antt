@@ -12,43 +12,33 @@ use Rattle.sweep.proofs.motion_of.Reads as motion-of-reads
 use Rattle.sweep.proofs.residual.Reads as residual-reads
 use Rattle.sweep.proofs.way.Reads as way-reads
 
--- src/lib.rt:128:8
 motion-of-requires : tie.Need-motion-of-requires
 motion-of-requires c κs = search needs
 
--- src/lib.rt:129:12
 residual-requires : tie.Need-residual-requires
 residual-requires c κs = search needs
 
--- src/lib.rt:130:13
 returns : tie.Need-returns
 returns c = (test-still _ _ _ _ _ _ _ _ _ (rw (c .before .before .before .motion-of .ensures) at (c .before .before .if1 .taken)) (rw (c .before .residual .ensures) at (c .if2 .taken)), refl)
 
--- src/lib.rt:135:9
 way-requires : tie.Need-way-requires
 way-requires c κs = search needs
 
--- src/lib.rt:136:40
 ray-requires : tie.Need-ray-requires
 ray-requires c κs = search needs
 
--- src/lib.rt:136:9
 unless-requires : tie.Need-unless-requires
 unless-requires c κs = search needs
 
--- src/lib.rt:136:9
 same-length : tie.Need-same-length
 same-length c = search needs
 
--- src/lib.rt:136:9
 same-length-2 : tie.Need-same-length-2
 same-length-2 c = search needs
 
--- src/lib.rt:136:9
 returns-2 : tie.Need-returns-2
 returns-2 c = (test-ray _ _ _ _ _ _ _ _ _ (c .before .before .before .before .before .before .before .before .before .before .before .before .before .before .before .before .before .before .before .before .before .before .before .before .before .args .y .now) _ _ _ _ (rw (c .before .before .before .before .before .before .before .before .before .before .before .before .before .motion-of .ensures) at (c .before .before .before .before .before .before .before .before .before .before .before .before .if1 .taken)) (rw (c .before .before .before .before .before .before .before .before .before .before .before .residual .ensures) at (c .before .before .before .before .before .before .before .before .before .before .if2 .left)) (c .before .before .before .before .before .before .before .before .before .before .before .before .before .before .before .before .before .before .before .before .before .before .before .before .before .pre .0) (c .before .before .before .before .before .before .before .before .before .before .before .before .before .before .before .before .before .before .before .before .before .before .before .before .before .pre .1) (c .before .before .before .before .before .before .before .before .way .ensures) (c .before .before .before .ray .ensures) (c .unless .ensures), rw (c .unless .ensures))
 
--- src/lib.rt:124:1
 returns-3 : tie.Need-returns-3
 returns-3 c = (test-going _ _ _ _ _ _ _ _ _ (rw (c .before .motion-of .ensures) at (c .if1 .left)), refl)
 

@@ -6,43 +6,33 @@ use Rattle.boxed.proofs.unfound.Tie as tie
 use Rattle.boxed.proofs.unfound.Reads as reads
 use Rattle.boxed.proofs.unfound.Lts as lts
 
--- src/lib.rt:183:38
 enum-told : tie.Need-enum-told
 enum-told c = search needs
 
--- src/lib.rt:184:37
 enum-told-2 : tie.Need-enum-told-2
 enum-told-2 c = search needs
 
--- src/lib.rt:185:38
 enum-told-3 : tie.Need-enum-told-3
 enum-told-3 c = search needs
 
--- src/lib.rt:186:39
 enum-known-e : tie.Need-enum-known-e
 enum-known-e c = search needs
 
--- src/lib.rt:187:42
 enum-told-4 : tie.Need-enum-told-4
 enum-told-4 c = search needs
 
--- src/lib.rt:179:1
 returns : tie.Need-returns
 returns c = search needs
 
--- src/lib.rt:179:1
 returns-2 : tie.Need-returns-2
 returns-2 c = search needs
 
--- src/lib.rt:179:1
 returns-3 : tie.Need-returns-3
 returns-3 c = search needs
 
--- src/lib.rt:179:1
 returns-4 : tie.Need-returns-4
 returns-4 c = rw (c .before .e .given .1)
 
--- src/lib.rt:179:1
 returns-5 : tie.Need-returns-5
 returns-5 c = search needs
 

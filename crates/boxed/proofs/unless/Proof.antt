@@ -6,11 +6,9 @@ use Rattle.boxed.proofs.unless.Tie as tie
 use Rattle.boxed.proofs.unless.Reads as reads
 use Rattle.boxed.proofs.unless.Lts as lts
 
--- src/lib.rt:105:9
 returns : tie.Need-returns
 returns c = rw (eq-eqb _ _ (c .if1 .taken))
 
--- src/lib.rt:101:1
 returns-2 : tie.Need-returns-2
 returns-2 c = rw (ne-eqb _ _ (c .if1 .left))
 

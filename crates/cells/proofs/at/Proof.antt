@@ -6,19 +6,15 @@ use Rattle.cells.proofs.at.Tie as tie
 use Rattle.cells.proofs.at.Reads as reads
 use Rattle.cells.proofs.at.Lts as lts
 
--- src/lib.rt:11:16
 mul-result : tie.Need-mul-result
 mul-result c = search needs
 
--- src/lib.rt:11:16
 shared-slice-read-result : tie.Need-shared-slice-read-result
 shared-slice-read-result c = search needs
 
--- src/lib.rt:11:9
 returns : tie.Need-returns
 returns c = search needs
 
--- src/lib.rt:7:1
 returns-2 : tie.Need-returns-2
 returns-2 c = search (at-past, needs)
 

@@ -17,35 +17,27 @@ Inv-loop v₀ i₀ v i = (i ≤ length v₀) × (length v ≡ length v₀) × (v
 abbrev μ-loop : tie.MeasureT-loop
 μ-loop v₀ i₀ v i = length v₀ - i
 
--- src/lib.rt:86:5
 loop-holds : tie.Need-loop-holds Inv-loop μ-loop
 loop-holds c = search (fill-start, needs)
 
--- src/lib.rt:87:9
 mul-v : tie.Need-mul-v Inv-loop μ-loop
 mul-v c = search needs
 
--- src/lib.rt:87:9
 slice-write-v : tie.Need-slice-write-v Inv-loop μ-loop
 slice-write-v c = search needs
 
--- src/lib.rt:88:9
 add-i : tie.Need-add-i Inv-loop μ-loop
 add-i c = search needs
 
--- src/lib.rt:86:5
 loop-less : tie.Need-loop-less Inv-loop μ-loop
 loop-less c = search needs
 
--- src/lib.rt:86:5
 loop-again : tie.Need-loop-again Inv-loop μ-loop
 loop-again c = (search needs, search needs, fill-again (c .before .loop .i) 0ᶠ _ (c .before .loop .v) (c .before .loop .inv .2) (c .before .loop .inv .1) (omega arith))
 
--- src/lib.rt:82:1
 same-length : tie.Need-same-length Inv-loop μ-loop
 same-length c = search needs
 
--- src/lib.rt:82:1
 returns : tie.Need-returns Inv-loop μ-loop
 returns c = fill-done (c .before .loop .i) 0ᶠ _ (c .before .loop .v) (c .before .loop .inv .2) (c .before .loop .inv .1) (omega arith) (omega arith)
 

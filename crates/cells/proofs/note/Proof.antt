@@ -7,20 +7,16 @@ use Rattle.cells.proofs.note.Reads as reads
 use Rattle.cells.proofs.note.Lts as lts
 use Rattle.cells.proofs.put_number.Reads as put-number-reads
 
--- src/lib.rt:306:9
 put-number-requires : tie.Need-put-number-requires
 put-number-requires c κs = search needs
 
--- src/lib.rt:302:1
 same-length : tie.Need-same-length
 same-length c = search needs
 
--- src/lib.rt:302:1
 returns : tie.Need-returns
 unfolding loop.noted
 returns c = rw (c .before .before .put-number .ensures, c .before .before .before .before .if1 .taken)
 
--- src/lib.rt:302:1
 returns-2 : tie.Need-returns-2
 unfolding loop.noted
 returns-2 c = rw (c .if1 .left)

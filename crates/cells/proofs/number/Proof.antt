@@ -6,19 +6,15 @@ use Rattle.cells.proofs.number.Tie as tie
 use Rattle.cells.proofs.number.Reads as reads
 use Rattle.cells.proofs.number.Lts as lts
 
--- src/lib.rt:47:16
 mul-result : tie.Need-mul-result
 mul-result c = search needs
 
--- src/lib.rt:47:16
 shared-slice-read-result : tie.Need-shared-slice-read-result
 shared-slice-read-result c = search needs
 
--- src/lib.rt:47:9
 returns : tie.Need-returns
 returns c = search needs
 
--- src/lib.rt:43:1
 returns-2 : tie.Need-returns-2
 returns-2 c = search (number-past, needs)
 

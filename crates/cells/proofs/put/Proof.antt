@@ -6,23 +6,18 @@ use Rattle.cells.proofs.put.Tie as tie
 use Rattle.cells.proofs.put.Reads as reads
 use Rattle.cells.proofs.put.Lts as lts
 
--- src/lib.rt:20:9
 mul-v : tie.Need-mul-v
 mul-v c = search needs
 
--- src/lib.rt:20:9
 slice-write-v : tie.Need-slice-write-v
 slice-write-v c = search needs
 
--- src/lib.rt:16:1
 same-length : tie.Need-same-length
 same-length c = search needs
 
--- src/lib.rt:16:1
 returns : tie.Need-returns
 returns c = search needs
 
--- src/lib.rt:16:1
 returns-2 : tie.Need-returns-2
 returns-2 c = search (set-past, needs)
 

@@ -6,23 +6,18 @@ use Rattle.cells.proofs.put_number.Tie as tie
 use Rattle.cells.proofs.put_number.Reads as reads
 use Rattle.cells.proofs.put_number.Lts as lts
 
--- src/lib.rt:56:9
 mul-l : tie.Need-mul-l
 mul-l c = search needs
 
--- src/lib.rt:56:9
 slice-write-l : tie.Need-slice-write-l
 slice-write-l c = search needs
 
--- src/lib.rt:52:1
 same-length : tie.Need-same-length
 same-length c = search needs
 
--- src/lib.rt:52:1
 returns : tie.Need-returns
 returns c = search needs
 
--- src/lib.rt:52:1
 returns-2 : tie.Need-returns-2
 returns-2 c = search (set-past, needs)
 

@@ -6,19 +6,15 @@ use Rattle.cells.proofs.put_state.Tie as tie
 use Rattle.cells.proofs.put_state.Reads as reads
 use Rattle.cells.proofs.put_state.Lts as lts
 
--- src/lib.rt:38:9
 slice-write-st : tie.Need-slice-write-st
 slice-write-st c = search needs
 
--- src/lib.rt:34:1
 same-length : tie.Need-same-length
 same-length c = search needs
 
--- src/lib.rt:34:1
 returns : tie.Need-returns
 returns c = search needs
 
--- src/lib.rt:34:1
 returns-2 : tie.Need-returns-2
 returns-2 c = search (set-past, needs)
 

@@ -6,15 +6,12 @@ use Rattle.cells.proofs.state.Tie as tie
 use Rattle.cells.proofs.state.Reads as reads
 use Rattle.cells.proofs.state.Lts as lts
 
--- src/lib.rt:29:16
 shared-slice-read-result : tie.Need-shared-slice-read-result
 shared-slice-read-result c = search needs
 
--- src/lib.rt:29:9
 returns : tie.Need-returns
 returns c = search needs
 
--- src/lib.rt:25:1
 returns-2 : tie.Need-returns-2
 returns-2 c = search (number-past, needs)
 

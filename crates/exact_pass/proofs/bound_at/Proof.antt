@@ -7,19 +7,15 @@ use Rattle.exact_pass.proofs.bound_at.Reads as reads
 use Rattle.exact_pass.proofs.bound_at.Lts as lts
 use Rattle.cells.proofs.at.Reads as at-reads
 
--- src/lib.rt:36:9
 at-requires : tie.Need-at-requires
 at-requires c κs = search needs
 
--- src/lib.rt:36:9
 returns : tie.Need-returns
 returns c = rw (c .at .ensures, eq-eqb _ _ (c .before .if1 .taken))
 
--- src/lib.rt:38:5
 at-requires-2 : tie.Need-at-requires-2
 at-requires-2 c κs = search needs
 
--- src/lib.rt:32:1
 returns-2 : tie.Need-returns-2
 returns-2 c = rw (c .at2 .ensures, ne-eqb _ _ (c .before .if1 .left))
 

@@ -10,47 +10,36 @@ use Rattle.exact_pass.proofs.exact_pass.Reads as reads
 use Rattle.exact_pass.proofs.exact_pass.Lts as lts
 use Rattle.exact_pass.proofs.pass.Reads as pass-reads
 
--- src/lib.rt:437:9
 returns : tie.Need-returns
 returns c = (rw (number-many _ _ _ (c .if1 .taken)) (refl, refl, refl, refl), refl)
 
--- src/lib.rt:439:18
 mul-if2 : tie.Need-mul-if2
 mul-if2 c = omega (arith, product (length (c .before .before .before .before .before .before .before .before .before .before .before .args .u-free .now)) (length (c .before .before .before .before .before .before .before .before .before .before .before .args .u-free .now)) (omega arith) (omega arith))
 
--- src/lib.rt:440:9
 returns-2 : tie.Need-returns-2
 returns-2 c = (rw (number-matrix _ _ _ (c .before .if1 .left) (c .if2 .taken)) (refl, refl, refl, refl), refl)
 
--- src/lib.rt:443:9
 returns-3 : tie.Need-returns-3
 returns-3 c = (rw (number-room _ _ _ (c .before .before .if1 .left) (c .before .if2 .left) (c .if3 .taken)) (refl, refl, refl, refl), refl)
 
--- src/lib.rt:445:5
 pass-requires : tie.Need-pass-requires
 pass-requires c κs = search needs
 
--- src/lib.rt:421:1
 same-length : tie.Need-same-length
 same-length c = search needs
 
--- src/lib.rt:421:1
 same-length-2 : tie.Need-same-length-2
 same-length-2 c = search needs
 
--- src/lib.rt:421:1
 same-length-3 : tie.Need-same-length-3
 same-length-3 c = search needs
 
--- src/lib.rt:421:1
 same-length-4 : tie.Need-same-length-4
 same-length-4 c = search needs
 
--- src/lib.rt:421:1
 same-length-5 : tie.Need-same-length-5
 same-length-5 c = search needs
 
--- src/lib.rt:421:1
 returns-4 : tie.Need-returns-4
 returns-4 c = (rw (number-none _ _ _ (c .before .before .before .before .before .before .before .before .before .before .before .before .before .before .before .before .before .before .if1 .left) (c .before .before .before .before .before .before .before .before .before .before .before .before .before .before .before .before .before .if2 .left) (c .before .before .before .before .before .before .before .before .before .before .before .before .before .before .before .before .if3 .left)) (c .before .before .before .before .before .before .before .before .before .before .pass .ensures .0), c .before .before .before .before .before .before .before .before .before .before .pass .ensures .1)
 

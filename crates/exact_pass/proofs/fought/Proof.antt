@@ -6,11 +6,9 @@ use Rattle.exact_pass.proofs.fought.Tie as tie
 use Rattle.exact_pass.proofs.fought.Reads as reads
 use Rattle.exact_pass.proofs.fought.Lts as lts
 
--- src/lib.rt:59:9
 returns : tie.Need-returns
 returns c = rw (eq-eqb _ _ (c .if1 .taken))
 
--- src/lib.rt:55:1
 returns-2 : tie.Need-returns-2
 returns-2 c = rw (ne-eqb _ _ (c .if1 .left))
 

@@ -9,59 +9,45 @@ use Rattle.exact_pass.proofs.went.Reads as went-reads
 use Rattle.moves.proofs.inconsistent.Reads as inconsistent-reads
 use Rattle.moves.proofs.to_target.Reads as to-target-reads
 
--- src/lib.rt:83:8
 inconsistent-requires : tie.Need-inconsistent-requires
 inconsistent-requires c κs = search needs
 
--- src/lib.rt:84:9
 went-requires : tie.Need-went-requires
 went-requires c κs = search needs
 
--- src/lib.rt:84:9
 same-length : tie.Need-same-length
 same-length c = search needs
 
--- src/lib.rt:84:9
 same-length-2 : tie.Need-same-length-2
 same-length-2 c = search needs
 
--- src/lib.rt:84:9
 same-length-3 : tie.Need-same-length-3
 same-length-3 c = search needs
 
--- src/lib.rt:84:9
 same-length-4 : tie.Need-same-length-4
 same-length-4 c = search needs
 
--- src/lib.rt:84:9
 returns : tie.Need-returns
 returns c = headed-along _ _ _ _ _ _ _ _ _ _ _ _ _ (c .before .before .before .before .before .before .before .before .before .before .before .before .inconsistent .ensures) (c .before .before .before .before .before .before .before .before .before .before .before .if1 .taken) (c .before .before .before .before .before .before .went .ensures)
 
--- src/lib.rt:86:5
 to-target-requires : tie.Need-to-target-requires
 to-target-requires c κs = search needs
 
--- src/lib.rt:87:5
 went-requires-2 : tie.Need-went-requires-2
 went-requires-2 c κs = search needs
 
--- src/lib.rt:79:1
 same-length-5 : tie.Need-same-length-5
 same-length-5 c = search needs
 
--- src/lib.rt:79:1
 same-length-6 : tie.Need-same-length-6
 same-length-6 c = search needs
 
--- src/lib.rt:79:1
 same-length-7 : tie.Need-same-length-7
 same-length-7 c = search needs
 
--- src/lib.rt:79:1
 same-length-8 : tie.Need-same-length-8
 same-length-8 c = search needs
 
--- src/lib.rt:79:1
 returns-2 : tie.Need-returns-2
 returns-2 c = headed-target _ _ _ _ _ _ _ _ _ _ _ _ _ _ (c .before .before .before .before .before .before .before .before .before .before .before .before .before .before .before .before .before .inconsistent .ensures) (c .before .before .before .before .before .before .before .before .before .before .before .before .before .before .before .before .if1 .left) (c .before .before .before .before .before .before .before .before .before .before .before .before .before .to-target .ensures) (c .before .before .before .before .before .before .went2 .ensures)
 

@@ -10,59 +10,45 @@ use Rattle.exact_pass.proofs.pass.Lts as lts
 use Rattle.exact_pass.proofs.pass_from.Reads as pass-from-reads
 use Rattle.sweep.proofs.show.Reads as show-reads
 
--- src/lib.rt:395:5
 show-requires : tie.Need-show-requires
 show-requires c κs = search needs
 
--- src/lib.rt:409:9
 slice-aggregate-pass-from : tie.Need-slice-aggregate-pass-from
 slice-aggregate-pass-from c = search needs
 
--- src/lib.rt:411:9
 slice-aggregate-pass-from-2 : tie.Need-slice-aggregate-pass-from-2
 slice-aggregate-pass-from-2 c = search needs
 
--- src/lib.rt:412:9
 slice-aggregate-pass-from-3 : tie.Need-slice-aggregate-pass-from-3
 slice-aggregate-pass-from-3 c = search needs
 
--- src/lib.rt:413:9
 slice-aggregate-pass-from-4 : tie.Need-slice-aggregate-pass-from-4
 slice-aggregate-pass-from-4 c = search needs
 
--- src/lib.rt:414:9
 array-borrow-prefix-y : tie.Need-array-borrow-prefix-y
 array-borrow-prefix-y c = search needs
 
--- src/lib.rt:414:9
 slice-aggregate-pass-from-5 : tie.Need-slice-aggregate-pass-from-5
 slice-aggregate-pass-from-5 c = sym (length-take-le _ _ (c .before .before .before .before .before .before .before .before .before .before .before .before .before .before .before .before .before .before .before .before .before .before .before .pre .0))
 
--- src/lib.rt:401:5
 pass-from-requires : tie.Need-pass-from-requires
 pass-from-requires c κs = record { few = c .before .before .before .before .before .before .before .before .before .before .before .before .before .before .before .before .before .before .before .before .before .before .before .before .before .pre .0; inside = c .before .before .before .before .before .before .before .before .before .before .before .before .before .before .before .before .before .before .before .before .before .before .before .before .before .pre .0; matrix = c .before .before .before .before .before .before .before .before .before .before .before .before .before .before .before .before .before .before .before .before .before .before .before .before .before .pre .1; side = c .before .before .before .before .before .before .before .before .before .before .before .before .before .before .before .before .before .before .before .before .before .before .before .before .before .pre .0; copied = c .before .before .before .before .before .before .before .before .before .before .before .before .before .before .before .before .before .before .before .before .before .before .before .before .before .pre .0; solution = c .before .before .before .before .before .before .before .before .before .before .before .before .before .before .before .before .before .before .before .before .before .before .before .before .before .pre .0; way = length-take-le _ _ (c .before .before .before .before .before .before .before .before .before .before .before .before .before .before .before .before .before .before .before .before .before .before .before .before .before .pre .0); room = c .before .before .before .before .before .before .before .before .before .before .before .before .before .before .before .before .before .before .before .before .before .before .before .before .before .pre .2 }
 
--- src/lib.rt:379:1
 same-length : tie.Need-same-length
 same-length c = search needs
 
--- src/lib.rt:379:1
 same-length-2 : tie.Need-same-length-2
 same-length-2 c = search needs
 
--- src/lib.rt:379:1
 same-length-3 : tie.Need-same-length-3
 same-length-3 c = search needs
 
--- src/lib.rt:379:1
 same-length-4 : tie.Need-same-length-4
 same-length-4 c = search needs
 
--- src/lib.rt:379:1
 same-length-5 : tie.Need-same-length-5
 same-length-5 c = search needs
 
--- src/lib.rt:379:1
 returns : tie.Need-returns
 returns c = (shown-is _ _ _ _ _ _ _ _ _ (c .before .before .before .before .before .before .before .before .before .before .before .before .before .before .before .before .before .before .before .before .before .before .before .before .before .before .before .before .show .ensures) (c .before .before .before .before .before .before .before .before .before .before .before .before .before .before .before .pass-from .ensures .0), c .before .before .before .before .before .before .before .before .before .before .before .before .before .before .before .pass-from .ensures .1)
 

@@ -12,67 +12,51 @@ use Rattle.exact_pass.proofs.run.Reads as run-reads
 use Rattle.moves.proofs.acting.Reads as acting-reads
 use Rattle.moves.proofs.hold.Reads as hold-reads
 
--- src/lib.rt:234:20
 acting-requires : tie.Need-acting-requires
 acting-requires c κs = search needs
 
--- src/lib.rt:234:16
 mul-most : tie.Need-mul-most
 mul-most c = omega (arith, c .acting .ensures, those-le (box.acts (c .before .before .before .before .before .before .before .before .before .before .before .before .before .before .before .before .before .args .states .now)) (length (c .before .before .before .before .before .before .before .before .before .before .before .before .before .before .before .before .before .args .u-free .now)), c .before .before .before .before .before .before .before .before .before .before .before .before .before .before .before .before .before .pre .few)
 
--- src/lib.rt:234:16
 add-most : tie.Need-add-most
 add-most c = omega (arith, c .acting .ensures, those-le (box.acts (c .before .before .before .before .before .before .before .before .before .before .before .before .before .before .before .before .before .args .states .now)) (length (c .before .before .before .before .before .before .before .before .before .before .before .before .before .before .before .before .before .args .u-free .now)), c .before .before .before .before .before .before .before .before .before .before .before .before .before .before .before .before .before .pre .few)
 
--- src/lib.rt:235:5
 hold-requires : tie.Need-hold-requires
 hold-requires c κs = search needs
 
--- src/lib.rt:236:5
 run-requires : tie.Need-run-requires
 run-requires c κs = search needs
 
--- src/lib.rt:229:1
 same-length : tie.Need-same-length
 same-length c = search needs
 
--- src/lib.rt:229:1
 same-length-2 : tie.Need-same-length-2
 same-length-2 c = search needs
 
--- src/lib.rt:229:1
 same-length-3 : tie.Need-same-length-3
 same-length-3 c = search needs
 
--- src/lib.rt:229:1
 same-length-4 : tie.Need-same-length-4
 same-length-4 c = search needs
 
--- src/lib.rt:229:1
 same-length-5 : tie.Need-same-length-5
 same-length-5 c = search needs
 
--- src/lib.rt:229:1
 same-length-6 : tie.Need-same-length-6
 same-length-6 c = search needs
 
--- src/lib.rt:229:1
 same-length-7 : tie.Need-same-length-7
 same-length-7 c = search needs
 
--- src/lib.rt:229:1
 same-length-8 : tie.Need-same-length-8
 same-length-8 c = search needs
 
--- src/lib.rt:229:1
 same-length-9 : tie.Need-same-length-9
 same-length-9 c = search needs
 
--- src/lib.rt:229:1
 same-length-10 : tie.Need-same-length-10
 same-length-10 c = search needs
 
--- src/lib.rt:229:1
 returns : tie.Need-returns
 returns c = (pass-is _ _ _ _ _ _ _ _ _ _ (c .before .before .before .before .before .before .before .before .before .before .before .before .before .before .before .before .before .before .before .before .before .before .before .before .before .before .before .before .before .before .before .before .before .before .before .before .acting .ensures) (c .before .before .before .before .before .before .before .before .before .before .before .before .before .before .before .before .before .before .before .before .before .before .before .before .before .before .before .before .before .before .before .before .before .hold .ensures) (c .before .before .before .before .before .before .before .before .before .before .before .before .before .before .before .before .before .before .before .before .run .ensures .0), c .before .before .before .before .before .before .before .before .before .before .before .before .before .before .before .before .before .before .before .before .run .ensures .1)
 

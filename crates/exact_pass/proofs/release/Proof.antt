@@ -8,27 +8,21 @@ use Rattle.exact_pass.proofs.release.Lts as lts
 use Rattle.cells.proofs.put_state.Reads as put-state-reads
 use Rattle.moves.proofs.pushed.Reads as pushed-reads
 
--- src/lib.rt:23:9
 pushed-requires : tie.Need-pushed-requires
 pushed-requires c κs = search needs
 
--- src/lib.rt:26:9
 same-length : tie.Need-same-length
 same-length c = search needs
 
--- src/lib.rt:26:9
 returns : tie.Need-returns
 returns c = release-found _ _ _ _ (c .before .pushed .ensures) (c .if1 .taken)
 
--- src/lib.rt:28:5
 put-state-requires : tie.Need-put-state-requires
 put-state-requires c κs = search needs
 
--- src/lib.rt:20:1
 same-length-2 : tie.Need-same-length-2
 same-length-2 c = search needs
 
--- src/lib.rt:20:1
 returns-2 : tie.Need-returns-2
 returns-2 c = release-moving _ _ _ _ _ (c .before .before .before .before .before .pushed .ensures) (c .before .before .before .before .if1 .left) (c .before .before .put-state .ensures)
 

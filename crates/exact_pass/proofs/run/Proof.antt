@@ -21,115 +21,87 @@ Inv-loop w u-free lo hi scale states₀ nu₀ list₀ m₀ rhs₀ b₀ z₀ y₀
 abbrev μ-loop : tie.MeasureT-loop
 μ-loop w u-free lo hi scale states₀ nu₀ list₀ m₀ rhs₀ b₀ z₀ y₀ rows₀ work₀ most j₀ states nu list m rhs b z y rows work j = most - j
 
--- src/lib.rt:219:5
 loop-holds : tie.Need-loop-holds Inv-loop μ-loop
 loop-holds c = (search needs, search needs, run-start _ _, search needs, search needs)
 
--- src/lib.rt:220:13
 step-requires : tie.Need-step-requires Inv-loop μ-loop
 step-requires c κs = kept-roomy (c .before .before .before .before .before .before .before .before .before .before .before .before .before .before .before .before .before .before .before .before .before .before .before .before .before .before .before .pre) (c .before .before .before .before .before .before .before .before .before .before .before .loop .inv .1)
 
--- src/lib.rt:221:13
 is-moving-requires : tie.Need-is-moving-requires Inv-loop μ-loop
 is-moving-requires c κs = search needs
 
--- src/lib.rt:222:13
 same-length : tie.Need-same-length Inv-loop μ-loop
 same-length c = search needs
 
--- src/lib.rt:222:13
 same-length-2 : tie.Need-same-length-2 Inv-loop μ-loop
 same-length-2 c = search needs
 
--- src/lib.rt:222:13
 same-length-3 : tie.Need-same-length-3 Inv-loop μ-loop
 same-length-3 c = search needs
 
--- src/lib.rt:222:13
 same-length-4 : tie.Need-same-length-4 Inv-loop μ-loop
 same-length-4 c = search needs
 
--- src/lib.rt:222:13
 same-length-5 : tie.Need-same-length-5 Inv-loop μ-loop
 same-length-5 c = search needs
 
--- src/lib.rt:222:13
 same-length-6 : tie.Need-same-length-6 Inv-loop μ-loop
 same-length-6 c = search needs
 
--- src/lib.rt:222:13
 same-length-7 : tie.Need-same-length-7 Inv-loop μ-loop
 same-length-7 c = search needs
 
--- src/lib.rt:222:13
 same-length-8 : tie.Need-same-length-8 Inv-loop μ-loop
 same-length-8 c = search needs
 
--- src/lib.rt:222:13
 same-length-9 : tie.Need-same-length-9 Inv-loop μ-loop
 same-length-9 c = search needs
 
--- src/lib.rt:222:13
 same-length-10 : tie.Need-same-length-10 Inv-loop μ-loop
 same-length-10 c = search needs
 
--- src/lib.rt:222:13
 returns : tie.Need-returns Inv-loop μ-loop
 returns c = (rw (c .before .before .before .before .before .before .before .before .before .before .before .before .before .before .before .before .before .before .before .before .before .before .before .before .before .before .before .before .before .before .before .before .before .before .loop .inv .3) at (run-stop _ _ (c .before .before .before .before .before .before .before .before .before .before .before .before .before .before .before .before .before .before .before .before .before .before .before .before .before .before .before .before .before .before .before .before .before .before .loop .j) _ (c .before .before .before .before .before .before .before .before .before .before .before .before .before .before .before .before .before .before .before .before .before .before .before .before .before .before .before .before .before .before .before .before .before .before .loop .nu) (c .before .before .before .before .before .before .before .before .before .before .before .before .before .before .before .before .before .before .before .before .before .before .before .before .before .before .before .before .before .before .before .before .before .before .loop .states) (c .before .before .before .before .before .before .before .before .before .before .before .before .before .before .before .before .before .before .before .before .before .before .step .result) _ _ _ _ (c .before .before .before .before .before .before .before .before .before .before .before .before .before .before .before .before .before .before .before .before .before .before .before .before .before .before .before .before .before .before .before .before .before .before .loop .inv .2) (c .before .before .before .before .before .before .before .before .before .before .before .before .before .before .before .before .before .before .before .before .before .before .step .ensures .0) (sym (c .before .is-moving .ensures) ∙ not-true _ (c .if1 .taken)) (c .before .before .before .before .before .before .before .before .before .before .before .before .before .before .before .before .before .before .before .before .before .before .before .before .before .before .before .before .before .before .before .before .before .loop-test .taken)), c .before .before .before .before .before .before .before .before .before .before .before .before .before .before .before .before .before .before .before .before .before .before .step .ensures .1 ∙ c .before .before .before .before .before .before .before .before .before .before .before .before .before .before .before .before .before .before .before .before .before .before .before .before .before .before .before .before .before .before .before .before .before .before .loop .inv .4)
 
--- src/lib.rt:224:9
 add-j : tie.Need-add-j Inv-loop μ-loop
 add-j c = omega (arith, c .before .before .before .before .before .before .before .before .before .before .before .before .before .before .before .before .before .before .before .before .before .before .before .before .before .before .before .before .before .before .before .before .before .loop-test .taken, c .before .before .before .before .before .before .before .before .before .before .before .before .before .before .before .before .before .before .before .before .before .before .before .before .before .before .before .before .before .before .before .before .before .before .before .before .before .before .before .before .before .before .before .before .before .before .before .before .before .before .fits .most)
 
--- src/lib.rt:219:5
 loop-less : tie.Need-loop-less Inv-loop μ-loop
 loop-less c = search needs
 
--- src/lib.rt:219:5
 loop-again : tie.Need-loop-again Inv-loop μ-loop
 loop-again c = let g = run-again _ _ (c .before .before .before .before .before .before .before .before .before .before .before .before .before .before .before .before .before .before .before .before .before .before .before .before .before .before .before .before .before .before .before .before .before .before .loop .j) (c .before .before .before .before .before .before .before .before .before .before .before .before .before .before .before .before .before .before .before .before .before .before .before .before .before .before .before .before .before .before .before .before .before .before .loop .nu) (c .before .before .before .before .before .before .before .before .before .before .before .before .before .before .before .before .before .before .before .before .before .before .before .before .before .before .before .before .before .before .before .before .before .before .loop .states) (c .before .before .before .before .before .before .before .before .before .before .before .before .before .before .before .before .before .before .before .before .before .before .step .result) _ _ _ _ (c .before .before .before .before .before .before .before .before .before .before .before .before .before .before .before .before .before .before .before .before .before .before .before .before .before .before .before .before .before .before .before .before .before .before .loop .inv .2) (c .before .before .before .before .before .before .before .before .before .before .before .before .before .before .before .before .before .before .before .before .before .before .step .ensures .0) (sym (c .before .is-moving .ensures) ∙ not-false _ (c .if1 .left)) in (omega (arith, c .before .before .before .before .before .before .before .before .before .before .before .before .before .before .before .before .before .before .before .before .before .before .before .before .before .before .before .before .before .before .before .before .before .loop-test .taken), search needs, g .0, g .1 ∙ c .before .before .before .before .before .before .before .before .before .before .before .before .before .before .before .before .before .before .before .before .before .before .before .before .before .before .before .before .before .before .before .before .before .before .loop .inv .3, c .before .before .before .before .before .before .before .before .before .before .before .before .before .before .before .before .before .before .before .before .before .before .step .ensures .1 ∙ c .before .before .before .before .before .before .before .before .before .before .before .before .before .before .before .before .before .before .before .before .before .before .before .before .before .before .before .before .before .before .before .before .before .before .loop .inv .4)
 
--- src/lib.rt:214:1
 same-length-11 : tie.Need-same-length-11 Inv-loop μ-loop
 same-length-11 c = search needs
 
--- src/lib.rt:214:1
 same-length-12 : tie.Need-same-length-12 Inv-loop μ-loop
 same-length-12 c = search needs
 
--- src/lib.rt:214:1
 same-length-13 : tie.Need-same-length-13 Inv-loop μ-loop
 same-length-13 c = search needs
 
--- src/lib.rt:214:1
 same-length-14 : tie.Need-same-length-14 Inv-loop μ-loop
 same-length-14 c = search needs
 
--- src/lib.rt:214:1
 same-length-15 : tie.Need-same-length-15 Inv-loop μ-loop
 same-length-15 c = search needs
 
--- src/lib.rt:214:1
 same-length-16 : tie.Need-same-length-16 Inv-loop μ-loop
 same-length-16 c = search needs
 
--- src/lib.rt:214:1
 same-length-17 : tie.Need-same-length-17 Inv-loop μ-loop
 same-length-17 c = search needs
 
--- src/lib.rt:214:1
 same-length-18 : tie.Need-same-length-18 Inv-loop μ-loop
 same-length-18 c = search needs
 
--- src/lib.rt:214:1
 same-length-19 : tie.Need-same-length-19 Inv-loop μ-loop
 same-length-19 c = search needs
 
--- src/lib.rt:214:1
 same-length-20 : tie.Need-same-length-20 Inv-loop μ-loop
 same-length-20 c = search needs
 
--- src/lib.rt:214:1
 returns-2 : tie.Need-returns-2 Inv-loop μ-loop
 returns-2 c = (run-done _ _ (c .before .loop .j) _ (c .before .loop .nu) (c .before .loop .states) _ _ (c .before .loop .inv .2) (c .before .loop .inv .3) (c .before .loop .inv .0) (c .loop-test .left), c .before .loop .inv .4)
 

@@ -10,43 +10,33 @@ use Rattle.cells.proofs.put_state.Reads as put-state-reads
 use Rattle.exact_pass.proofs.bound_at.Reads as bound-at-reads
 use Rattle.exact_pass.proofs.release.Reads as release-reads
 
--- src/lib.rt:48:9
 release-requires : tie.Need-release-requires
 release-requires c κs = search needs
 
--- src/lib.rt:48:9
 same-length : tie.Need-same-length
 same-length c = search needs
 
--- src/lib.rt:48:9
 same-length-2 : tie.Need-same-length-2
 same-length-2 c = search needs
 
--- src/lib.rt:48:9
 returns : tie.Need-returns
 returns c = λ l. stopped-none _ _ _ _ _ _ _ l (c .before .before .before .before .before .if1 .taken) (c .before .before .release .ensures l)
 
--- src/lib.rt:50:23
 bound-at-requires : tie.Need-bound-at-requires
 bound-at-requires c κs = search needs
 
--- src/lib.rt:50:5
 put-requires : tie.Need-put-requires
 put-requires c κs = search needs
 
--- src/lib.rt:51:5
 put-state-requires : tie.Need-put-state-requires
 put-state-requires c κs = search needs
 
--- src/lib.rt:42:1
 same-length-3 : tie.Need-same-length-3
 same-length-3 c = search needs
 
--- src/lib.rt:42:1
 same-length-4 : tie.Need-same-length-4
 same-length-4 c = search needs
 
--- src/lib.rt:42:1
 returns-2 : tie.Need-returns-2
 returns-2 c = λ l. stopped-at _ _ _ _ _ _ _ l (c .before .before .before .before .before .before .before .before .before .if1 .left) (c .before .before .before .before .before .before .before .bound-at .ensures) (c .before .before .before .before .before .before .put .ensures) (c .before .before .put-state .ensures)
 

@@ -13,55 +13,42 @@ use Rattle.moves.proofs.advance.Reads as advance-reads
 use Rattle.moves.proofs.room.Reads as room-reads
 use Rattle.ray.proofs.ray.Reads as ray-reads
 
--- src/lib.rt:69:9
 room-requires : tie.Need-room-requires
 room-requires c κs = search needs
 
--- src/lib.rt:71:8
 is-finite-requires : tie.Need-is-finite-requires
 is-finite-requires c κs = search needs
 
--- src/lib.rt:72:9
 advance-requires : tie.Need-advance-requires
 advance-requires c κs = search needs
 
--- src/lib.rt:73:9
 stopped-requires : tie.Need-stopped-requires
 stopped-requires c κs = search needs
 
--- src/lib.rt:73:9
 same-length : tie.Need-same-length
 same-length c = search needs
 
--- src/lib.rt:73:9
 same-length-2 : tie.Need-same-length-2
 same-length-2 c = search needs
 
--- src/lib.rt:73:9
 returns : tie.Need-returns
 returns c = went-bound _ _ _ _ _ _ _ (c .before .before .before .before .before .before .before .before .before .before .before .before .before .room .ensures) _ _ _ _ _ (sym (c .before .before .before .before .before .before .before .before .before .before .before .before .is-finite .ensures) ∙ c .before .before .before .before .before .before .before .before .before .before .before .if1 .taken) (c .before .before .before .before .before .before .before .before .before .advance .ensures) (c .before .before .before .before .stopped .ensures _)
 
--- src/lib.rt:75:12
 ray-requires : tie.Need-ray-requires
 ray-requires c κs = search needs
 
--- src/lib.rt:75:5
 fought-requires : tie.Need-fought-requires
 fought-requires c κs = search needs
 
--- src/lib.rt:65:1
 same-length-3 : tie.Need-same-length-3
 same-length-3 c = search needs
 
--- src/lib.rt:65:1
 same-length-4 : tie.Need-same-length-4
 same-length-4 c = search needs
 
--- src/lib.rt:65:1
 same-length-5 : tie.Need-same-length-5
 same-length-5 c = search needs
 
--- src/lib.rt:65:1
 returns-2 : tie.Need-returns-2
 returns-2 c = went-free _ _ _ _ _ _ _ (c .before .before .before .before .before .before .before .before .room .ensures) _ _ _ _ (c .before .before .before .before .before .before .before .before .before .before .before .before .before .before .before .before .before .before .before .before .pre) (sym (c .before .before .before .before .before .before .before .is-finite .ensures) ∙ c .before .before .before .before .before .before .if1 .left) (c .before .before .before .ray .ensures) (c .fought .ensures)
 

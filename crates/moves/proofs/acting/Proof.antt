@@ -19,31 +19,24 @@ Inv-loop states n k₀ i₀ k i = (i ≤ n) × (k ≡ length (those (box.acts st
 abbrev μ-loop : tie.MeasureT-loop
 μ-loop states n k₀ i₀ k i = n - i
 
--- src/lib.rt:82:5
 loop-holds : tie.Need-loop-holds Inv-loop μ-loop
 loop-holds c = (search needs, count-start _)
 
--- src/lib.rt:83:19
 acts-requires : tie.Need-acts-requires Inv-loop μ-loop
 acts-requires c κs = search needs
 
--- src/lib.rt:83:9
 count-requires : tie.Need-count-requires Inv-loop μ-loop
 count-requires c κs = omega (arith, those-le (box.acts (c .before .before .before .before .args .states .now)) (c .before .before .loop .i))
 
--- src/lib.rt:84:9
 add-i : tie.Need-add-i Inv-loop μ-loop
 add-i c = search needs
 
--- src/lib.rt:82:5
 loop-less : tie.Need-loop-less Inv-loop μ-loop
 loop-less c = search needs
 
--- src/lib.rt:82:5
 loop-again : tie.Need-loop-again Inv-loop μ-loop
 loop-again c = (search needs, count-again _ (c .before .before .before .loop .i) (c .before .before .before .loop .k) (c .count .result) (c .before .before .before .loop .inv .1) (rw (c .before .acts .ensures) at (c .count .ensures)))
 
--- src/lib.rt:77:1
 returns : tie.Need-returns Inv-loop μ-loop
 returns c = let e : c .before .loop .i ≡ c .before .before .before .args .n = omega arith in rw (← e) (c .before .loop .inv .1)
 

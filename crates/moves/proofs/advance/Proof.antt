@@ -17,31 +17,24 @@ Inv-loop l y alpha nu₀ k i₀ nu i = (i ≤ k) × (k ≡ length l) × (length 
 abbrev μ-loop : tie.MeasureT-loop
 μ-loop l y alpha nu₀ k i₀ nu i = k - i
 
--- src/lib.rt:357:5
 loop-holds : tie.Need-loop-holds Inv-loop μ-loop
 loop-holds c = search (moved-start, needs)
 
--- src/lib.rt:358:9
 advance-row-requires : tie.Need-advance-row-requires Inv-loop μ-loop
 advance-row-requires c κs = search needs
 
--- src/lib.rt:359:9
 add-i : tie.Need-add-i Inv-loop μ-loop
 add-i c = search needs
 
--- src/lib.rt:357:5
 loop-less : tie.Need-loop-less Inv-loop μ-loop
 loop-less c = search needs
 
--- src/lib.rt:357:5
 loop-again : tie.Need-loop-again Inv-loop μ-loop
 loop-again c = search (moved-again, needs)
 
--- src/lib.rt:352:1
 same-length : tie.Need-same-length Inv-loop μ-loop
 same-length c = search needs
 
--- src/lib.rt:352:1
 returns : tie.Need-returns Inv-loop μ-loop
 returns c = search (moved-done, needs)
 

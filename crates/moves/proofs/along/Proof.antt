@@ -17,31 +17,24 @@ Inv-loop l r y₀ k i₀ y i = (i ≤ k) × (k ≡ length l) × (length y ≡ le
 abbrev μ-loop : tie.MeasureT-loop
 μ-loop l r y₀ k i₀ y i = k - i
 
--- src/lib.rt:264:5
 loop-holds : tie.Need-loop-holds Inv-loop μ-loop
 loop-holds c = search (along-start, needs)
 
--- src/lib.rt:265:9
 along-row-requires : tie.Need-along-row-requires Inv-loop μ-loop
 along-row-requires c κs = search needs
 
--- src/lib.rt:266:9
 add-i : tie.Need-add-i Inv-loop μ-loop
 add-i c = search needs
 
--- src/lib.rt:264:5
 loop-less : tie.Need-loop-less Inv-loop μ-loop
 loop-less c = search needs
 
--- src/lib.rt:264:5
 loop-again : tie.Need-loop-again Inv-loop μ-loop
 loop-again c = search (along-again, needs)
 
--- src/lib.rt:259:1
 same-length : tie.Need-same-length Inv-loop μ-loop
 same-length c = search needs
 
--- src/lib.rt:259:1
 returns : tie.Need-returns Inv-loop μ-loop
 returns c = search (along-done, needs)
 

@@ -9,23 +9,18 @@ use Rattle.cells.proofs.at.Reads as at-reads
 use Rattle.cells.proofs.number.Reads as number-reads
 use Rattle.cells.proofs.put.Reads as put-reads
 
--- src/lib.rt:255:19
 number-requires : tie.Need-number-requires
 number-requires c κs = search needs
 
--- src/lib.rt:255:41
 at-requires : tie.Need-at-requires
 at-requires c κs = search needs
 
--- src/lib.rt:255:5
 put-requires : tie.Need-put-requires
 put-requires c κs = search needs
 
--- src/lib.rt:252:1
 same-length : tie.Need-same-length
 same-length c = search needs
 
--- src/lib.rt:252:1
 returns : tie.Need-returns
 unfolding def.alongRow
 returns c = rw (c .before .before .put .ensures, c .before .before .before .at .ensures, c .before .before .before .before .number .ensures)

@@ -7,16 +7,13 @@ use Rattle.moves.proofs.count.Tie as tie
 use Rattle.moves.proofs.count.Reads as reads
 use Rattle.moves.proofs.count.Lts as lts
 
--- src/lib.rt:56:16
 add-result : tie.Need-add-result
 add-result c = search needs
 
--- src/lib.rt:56:9
 returns : tie.Need-returns
 unfolding loop.counted
 returns c = rw (c .if1 .taken, add-one)
 
--- src/lib.rt:51:1
 returns-2 : tie.Need-returns-2
 unfolding loop.counted
 returns-2 c = rw (c .if1 .left)

@@ -8,21 +8,17 @@ use Rattle.moves.proofs.harder.Reads as reads
 use Rattle.moves.proofs.harder.Lts as lts
 use Rattle.moves.proofs.wrong.Reads as wrong-reads
 
--- src/lib.rt:381:8
 wrong-requires : tie.Need-wrong-requires
 wrong-requires c κs = search needs
 
--- src/lib.rt:383:13
 returns : tie.Need-returns
 unfolding def.harder
 returns c = rw (sym (c .before .before .before .wrong .ensures) ∙ c .before .before .if1 .taken, c .if2 .taken)
 
--- src/lib.rt:385:9
 returns-2 : tie.Need-returns-2
 unfolding def.harder
 returns-2 c = rw (sym (c .before .before .before .wrong .ensures) ∙ c .before .before .if1 .taken, c .if2 .left)
 
--- src/lib.rt:378:1
 returns-3 : tie.Need-returns-3
 unfolding def.harder
 returns-3 c = rw (sym (c .before .wrong .ensures) ∙ c .if1 .left)

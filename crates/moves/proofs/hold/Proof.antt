@@ -17,31 +17,24 @@ Inv-loop lo hi states nu₀ n i₀ nu i = (i ≤ n) × (length nu ≡ length nu�
 abbrev μ-loop : tie.MeasureT-loop
 μ-loop lo hi states nu₀ n i₀ nu i = n - i
 
--- src/lib.rt:44:5
 loop-holds : tie.Need-loop-holds Inv-loop μ-loop
 loop-holds c = search (heldTo-start, needs)
 
--- src/lib.rt:45:9
 hold-row-requires : tie.Need-hold-row-requires Inv-loop μ-loop
 hold-row-requires c κs = search needs
 
--- src/lib.rt:46:9
 add-i : tie.Need-add-i Inv-loop μ-loop
 add-i c = search needs
 
--- src/lib.rt:44:5
 loop-less : tie.Need-loop-less Inv-loop μ-loop
 loop-less c = search needs
 
--- src/lib.rt:44:5
 loop-again : tie.Need-loop-again Inv-loop μ-loop
 loop-again c = search (heldTo-again, needs)
 
--- src/lib.rt:40:1
 same-length : tie.Need-same-length Inv-loop μ-loop
 same-length c = search needs
 
--- src/lib.rt:40:1
 returns : tie.Need-returns Inv-loop μ-loop
 returns c = search (heldTo-done, needs)
 

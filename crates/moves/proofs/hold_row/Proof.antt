@@ -11,45 +11,35 @@ use Rattle.cells.proofs.at.Reads as at-reads
 use Rattle.cells.proofs.put.Reads as put-reads
 use Rattle.cells.proofs.state.Reads as state-reads
 
--- src/lib.rt:29:9
 state-requires : tie.Need-state-requires
 state-requires c κs = search needs
 
--- src/lib.rt:31:27
 at-requires : tie.Need-at-requires
 at-requires c κs = search needs
 
--- src/lib.rt:31:9
 put-requires : tie.Need-put-requires
 put-requires c κs = search needs
 
--- src/lib.rt:32:9
 same-length : tie.Need-same-length
 same-length c = search needs
 
--- src/lib.rt:32:9
 returns : tie.Need-returns
 unfolding def.heldRow
 returns c = rw (c .before .before .put .ensures, c .before .before .before .at .ensures, eq-eqb _ _ (sym (c .before .before .before .before .before .before .state .ensures) ∙ c .before .before .before .before .before .if1 .taken))
 
--- src/lib.rt:35:27
 at-requires-2 : tie.Need-at-requires-2
 at-requires-2 c κs = search needs
 
--- src/lib.rt:35:9
 put-requires-2 : tie.Need-put-requires-2
 put-requires-2 c κs = search needs
 
--- src/lib.rt:26:1
 same-length-2 : tie.Need-same-length-2
 same-length-2 c = search needs
 
--- src/lib.rt:26:1
 returns-2 : tie.Need-returns-2
 unfolding def.heldRow
 returns-2 c = rw (c .before .before .put2 .ensures, c .before .before .before .at2 .ensures, ne-eqb _ 1 (λ q. c .before .before .before .before .before .before .if1 .left (c .before .before .before .before .before .before .before .state .ensures ∙ q)), eq-eqb _ 2 (sym (c .before .before .before .before .before .before .before .state .ensures) ∙ c .before .before .before .before .before .if2 .taken))
 
--- src/lib.rt:26:1
 returns-3 : tie.Need-returns-3
 unfolding def.heldRow
 returns-3 c = rw (ne-eqb _ 1 (λ q. c .before .if1 .left (c .before .before .state .ensures ∙ q)), ne-eqb _ 2 (λ q. c .if2 .left (c .before .before .state .ensures ∙ q)))

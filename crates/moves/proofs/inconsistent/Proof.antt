@@ -17,27 +17,21 @@ Inv-loop w n scale l r k b₀ i₀ b i = (i ≤ k) × (k ≡ length l) × (b ≡
 abbrev μ-loop : tie.MeasureT-loop
 μ-loop w n scale l r k b₀ i₀ b i = k - i
 
--- src/lib.rt:243:5
 loop-holds : tie.Need-loop-holds Inv-loop μ-loop
 loop-holds c = search (inconsistent-start, needs)
 
--- src/lib.rt:244:9
 inconsistent-row-requires : tie.Need-inconsistent-row-requires Inv-loop μ-loop
 inconsistent-row-requires c κs = search needs
 
--- src/lib.rt:245:9
 add-i : tie.Need-add-i Inv-loop μ-loop
 add-i c = search needs
 
--- src/lib.rt:243:5
 loop-less : tie.Need-loop-less Inv-loop μ-loop
 loop-less c = search needs
 
--- src/lib.rt:243:5
 loop-again : tie.Need-loop-again Inv-loop μ-loop
 loop-again c = search (inconsistent-again, needs)
 
--- src/lib.rt:237:1
 returns : tie.Need-returns Inv-loop μ-loop
 returns c = search (inconsistent-done, needs)
 

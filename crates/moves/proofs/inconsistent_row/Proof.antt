@@ -10,36 +10,28 @@ use Rattle.cells.proofs.number.Reads as number-reads
 use Rattle.moves.proofs.too_much.Reads as too-much-reads
 use Rattle.sweep.proofs.row_of.Reads as row-of-reads
 
--- src/lib.rt:230:9
 returns : tie.Need-returns
 unfolding def.inconsistentRow
 returns c = rw (c .if1 .taken)
 
--- src/lib.rt:232:9
 number-requires : tie.Need-number-requires
 number-requires c κs = search needs
 
--- src/lib.rt:233:14
 at-requires : tie.Need-at-requires
 at-requires c κs = search needs
 
--- src/lib.rt:233:41
 row-of-requires : tie.Need-row-of-requires
 row-of-requires c κs = search needs
 
--- src/lib.rt:233:31
 at-requires-2 : tie.Need-at-requires-2
 at-requires-2 c κs = search needs
 
--- src/lib.rt:233:69
 at-requires-3 : tie.Need-at-requires-3
 at-requires-3 c κs = search needs
 
--- src/lib.rt:233:5
 too-much-requires : tie.Need-too-much-requires
 too-much-requires c κs = search needs
 
--- src/lib.rt:226:1
 returns-2 : tie.Need-returns-2
 unfolding def.inconsistentRow
 returns-2 c = rw (c .too-much .ensures, c .before .before .before .before .at .ensures, c .before .before .at2 .ensures, c .before .at3 .ensures, c .before .before .before .row-of .ensures, c .before .before .before .before .before .number .ensures, c .before .before .before .before .before .before .if1 .left)

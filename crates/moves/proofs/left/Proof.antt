@@ -18,39 +18,30 @@ Inv-loop w n scale l rhs z out₀ k i₀ out i = (i ≤ k) × (k ≡ length out�
 abbrev μ-loop : tie.MeasureT-loop
 μ-loop w n scale l rhs z out₀ k i₀ out i = k - i
 
--- src/lib.rt:214:5
 loop-holds : tie.Need-loop-holds Inv-loop μ-loop
 loop-holds c = search (left-start, needs)
 
--- src/lib.rt:215:18
 left-at-requires : tie.Need-left-at-requires Inv-loop μ-loop
 left-at-requires c κs = search needs
 
--- src/lib.rt:215:9
 mul-out : tie.Need-mul-out Inv-loop μ-loop
 mul-out c = search needs
 
--- src/lib.rt:215:9
 slice-write-out : tie.Need-slice-write-out Inv-loop μ-loop
 slice-write-out c = search needs
 
--- src/lib.rt:216:9
 add-i : tie.Need-add-i Inv-loop μ-loop
 add-i c = search needs
 
--- src/lib.rt:214:5
 loop-less : tie.Need-loop-less Inv-loop μ-loop
 loop-less c = search needs
 
--- src/lib.rt:214:5
 loop-again : tie.Need-loop-again Inv-loop μ-loop
 loop-again c = search (left-again, needs)
 
--- src/lib.rt:209:1
 same-length : tie.Need-same-length Inv-loop μ-loop
 same-length c = search needs
 
--- src/lib.rt:209:1
 returns : tie.Need-returns Inv-loop μ-loop
 returns c = left-done _ _ _ _ _ _ _ (c .before .loop .i) (c .before .loop .out) (c .before .loop .inv .3) (c .before .loop .inv .2) (omega arith) (omega arith)
 

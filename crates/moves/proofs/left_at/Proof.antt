@@ -9,23 +9,18 @@ use Rattle.cells.proofs.number.Reads as number-reads
 use Rattle.moves.proofs.left_to.Reads as left-to-reads
 use Rattle.sweep.proofs.row_of.Reads as row-of-reads
 
--- src/lib.rt:205:33
 number-requires : tie.Need-number-requires
 number-requires c κs = search needs
 
--- src/lib.rt:205:13
 row-of-requires : tie.Need-row-of-requires
 row-of-requires c κs = search needs
 
--- src/lib.rt:205:68
 at-requires : tie.Need-at-requires
 at-requires c κs = search needs
 
--- src/lib.rt:205:5
 left-to-requires : tie.Need-left-to-requires
 left-to-requires c κs = search needs
 
--- src/lib.rt:202:1
 returns : tie.Need-returns
 returns c = rw (c .left-to .ensures, c .before .at .ensures, c .before .before .row-of .ensures, c .before .before .before .number .ensures)
 

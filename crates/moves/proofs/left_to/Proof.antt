@@ -18,31 +18,24 @@ Inv-loop row scale l z b k s₀ j₀ s j = (j ≤ k) × (k ≡ length l) × (s �
 abbrev μ-loop : tie.MeasureT-loop
 μ-loop row scale l z b k s₀ j₀ s j = k - j
 
--- src/lib.rt:195:5
 loop-holds : tie.Need-loop-holds Inv-loop μ-loop
 loop-holds c = search (leftTo-start, needs)
 
--- src/lib.rt:196:17
 weighed-requires : tie.Need-weighed-requires Inv-loop μ-loop
 weighed-requires c κs = search needs
 
--- src/lib.rt:196:45
 at-requires : tie.Need-at-requires Inv-loop μ-loop
 at-requires c κs = search needs
 
--- src/lib.rt:197:9
 add-j : tie.Need-add-j Inv-loop μ-loop
 add-j c = search needs
 
--- src/lib.rt:195:5
 loop-less : tie.Need-loop-less Inv-loop μ-loop
 loop-less c = search needs
 
--- src/lib.rt:195:5
 loop-again : tie.Need-loop-again Inv-loop μ-loop
 loop-again c = (search needs, c .before .before .before .loop .inv .1, leftTo-again _ _ _ _ _ (c .before .before .before .loop .j) (c .before .before .before .loop .s) _ (c .before .before .before .loop .inv .2) (rw (c .before .weighed .ensures, c .at .ensures)))
 
--- src/lib.rt:189:1
 returns : tie.Need-returns Inv-loop μ-loop
 returns c = search (leftTo-done, needs)
 

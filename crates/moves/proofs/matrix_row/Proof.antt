@@ -8,23 +8,18 @@ use Rattle.cells.proofs.number.Reads as number-reads
 use Rattle.moves.proofs.weigh.Reads as weigh-reads
 use Rattle.sweep.proofs.row_of.Reads as row-of-reads
 
--- src/lib.rt:156:31
 number-requires : tie.Need-number-requires
 number-requires c κs = search needs
 
--- src/lib.rt:156:11
 row-of-requires : tie.Need-row-of-requires
 row-of-requires c κs = search needs
 
--- src/lib.rt:156:5
 weigh-requires : tie.Need-weigh-requires
 weigh-requires c κs = search needs
 
--- src/lib.rt:152:1
 same-length : tie.Need-same-length
 same-length c = search needs
 
--- src/lib.rt:152:1
 returns : tie.Need-returns
 returns c = rw (c .before .before .weigh .ensures, c .before .before .before .before .row-of .ensures, c .before .before .before .before .before .number .ensures, c .before .before .before .before .before .before .before .before .before .before .pre)
 

@@ -20,55 +20,42 @@ Inv-loop w n scale l m₀ k i₀ m i = (i ≤ k) × (k ≡ length l) × (length 
 abbrev μ-loop : tie.MeasureT-loop
 μ-loop w n scale l m₀ k i₀ m i = k - i
 
--- src/lib.rt:165:5
 loop-holds : tie.Need-loop-holds Inv-loop μ-loop
 loop-holds c = (search needs, search needs, search needs, matrix-start _ _ _ _ _)
 
--- src/lib.rt:166:17
 mul-a : tie.Need-mul-a Inv-loop μ-loop
 mul-a c = omega (arith, product (c .before .loop .i) (length (c .before .before .before .before .before .before .args .l .now)) (omega arith) (omega arith))
 
--- src/lib.rt:167:17
 add-e : tie.Need-add-e Inv-loop μ-loop
 add-e c = omega (arith, product (c .before .loop .i) (length (c .before .before .before .before .before .before .args .l .now)) (omega arith) (omega arith))
 
--- src/lib.rt:168:39
 mul-matrix-row : tie.Need-mul-matrix-row Inv-loop μ-loop
 mul-matrix-row c = omega (arith, product (c .before .loop .i) (length (c .before .before .before .before .before .before .args .l .now)) (omega arith) (omega arith))
 
--- src/lib.rt:168:39
 sub-matrix-row : tie.Need-sub-matrix-row Inv-loop μ-loop
 sub-matrix-row c = search needs
 
--- src/lib.rt:168:39
 part-matrix-row-start : tie.Need-part-matrix-row-start Inv-loop μ-loop
 part-matrix-row-start c = search needs
 
--- src/lib.rt:168:39
 part-matrix-row-end : tie.Need-part-matrix-row-end Inv-loop μ-loop
 part-matrix-row-end c = omega (arith, mul-le-mul-right (length (c .before .before .before .before .before .before .args .l .now)) (c .loop-test .taken), suc-mul (c .before .loop .i) (length (c .before .before .before .before .before .before .args .l .now)))
 
--- src/lib.rt:168:9
 matrix-row-requires : tie.Need-matrix-row-requires Inv-loop μ-loop
 matrix-row-requires c κs = search needs
 
--- src/lib.rt:169:9
 add-i : tie.Need-add-i Inv-loop μ-loop
 add-i c = search needs
 
--- src/lib.rt:165:5
 loop-less : tie.Need-loop-less Inv-loop μ-loop
 loop-less c = search needs
 
--- src/lib.rt:165:5
 loop-again : tie.Need-loop-again Inv-loop μ-loop
 loop-again c = (search needs, search needs, search needs, matrix-again _ _ _ _ _ (c .before .before .before .before .before .loop .i) (c .before .before .before .before .before .loop .m) _ (c .before .before .before .before .before .loop .inv .3) (c .before .before .matrix-row .ensures))
 
--- src/lib.rt:159:1
 same-length : tie.Need-same-length Inv-loop μ-loop
 same-length c = search needs
 
--- src/lib.rt:159:1
 returns : tie.Need-returns Inv-loop μ-loop
 returns c = matrix-done _ _ _ _ _ (c .before .loop .i) _ (c .before .before .before .before .before .before .pre .1) (omega arith) (omega arith) (c .before .loop .inv .3)
 

@@ -7,25 +7,20 @@ use Rattle.moves.proofs.narrow.Reads as reads
 use Rattle.moves.proofs.narrow.Lts as lts
 use Rattle.moves.proofs.narrowed.Reads as narrowed-reads
 
--- src/lib.rt:310:9
 narrowed-requires : tie.Need-narrowed-requires
 narrowed-requires c κs = search needs
 
--- src/lib.rt:310:9
 returns : tie.Need-returns
 unfolding def.narrow
 returns c = rw (c .narrowed .ensures, c .before .if1 .taken)
 
--- src/lib.rt:313:9
 narrowed-requires-2 : tie.Need-narrowed-requires-2
 narrowed-requires-2 c κs = search needs
 
--- src/lib.rt:313:9
 returns-2 : tie.Need-returns-2
 unfolding def.narrow
 returns-2 c = rw (c .narrowed2 .ensures, c .before .before .if1 .left, c .before .if2 .taken)
 
--- src/lib.rt:306:1
 returns-3 : tie.Need-returns-3
 unfolding def.narrow
 returns-3 c = rw (c .before .if1 .left, c .if2 .left)

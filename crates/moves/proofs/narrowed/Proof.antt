@@ -7,16 +7,13 @@ use Rattle.moves.proofs.narrowed.Reads as reads
 use Rattle.moves.proofs.narrowed.Lts as lts
 use Rattle.floats.proofs.larger.Reads as larger-reads
 
--- src/lib.rt:297:20
 larger-requires : tie.Need-larger-requires
 larger-requires c κs = search needs
 
--- src/lib.rt:296:9
 returns : tie.Need-returns
 unfolding def.narrowed
 returns c = rw (c .larger .ensures, c .before .if1 .taken)
 
--- src/lib.rt:292:1
 returns-2 : tie.Need-returns-2
 unfolding def.narrowed
 returns-2 c = rw (c .if1 .left)

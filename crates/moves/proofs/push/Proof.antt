@@ -10,25 +10,20 @@ use Rattle.moves.proofs.push.Lts as lts
 use Rattle.cells.proofs.state.Reads as state-reads
 use Rattle.moves.proofs.push_row.Reads as push-row-reads
 
--- src/lib.rt:403:9
 state-requires : tie.Need-state-requires
 state-requires c κs = search needs
 
--- src/lib.rt:405:9
 returns : tie.Need-returns
 unfolding def.pushedRow
 returns c = free-row _ _ _ _ _ (sym (c .before .state .ensures) ∙ c .if1 .taken)
 
--- src/lib.rt:408:9
 returns-2 : tie.Need-returns-2
 unfolding def.pushedRow
 returns-2 c = idle-row _ _ _ _ _ (sym (c .before .before .state .ensures) ∙ c .if2 .taken)
 
--- src/lib.rt:410:5
 push-row-requires : tie.Need-push-row-requires
 push-row-requires c κs = search needs
 
--- src/lib.rt:400:1
 returns-3 : tie.Need-returns-3
 returns-3 c = c .push-row .ensures
 

@@ -12,51 +12,39 @@ use Rattle.sweep.proofs.natural_residual.Reads as natural-residual-reads
 use Rattle.sweep.proofs.row_of.Reads as row-of-reads
 use Rattle.sweep.proofs.row_sum.Reads as row-sum-reads
 
--- src/lib.rt:393:9
 row-of-requires : tie.Need-row-of-requires
 row-of-requires c κs = search needs
 
--- src/lib.rt:394:33
 at-requires : tie.Need-at-requires
 at-requires c κs = search needs
 
--- src/lib.rt:394:9
 row-sum-requires : tie.Need-row-sum-requires
 row-sum-requires c κs = search needs
 
--- src/lib.rt:395:37
 at-requires-2 : tie.Need-at-requires-2
 at-requires-2 c κs = search needs
 
--- src/lib.rt:395:58
 at-requires-3 : tie.Need-at-requires-3
 at-requires-3 c κs = search needs
 
--- src/lib.rt:395:77
 at-requires-4 : tie.Need-at-requires-4
 at-requires-4 c κs = search needs
 
--- src/lib.rt:395:95
 at-requires-5 : tie.Need-at-requires-5
 at-requires-5 c κs = search needs
 
--- src/lib.rt:395:113
 at-requires-6 : tie.Need-at-requires-6
 at-requires-6 c κs = search needs
 
--- src/lib.rt:395:9
 natural-residual-requires : tie.Need-natural-residual-requires
 natural-residual-requires c κs = search needs
 
--- src/lib.rt:396:15
 state-requires : tie.Need-state-requires
 state-requires c κs = search needs
 
--- src/lib.rt:396:5
 harder-requires : tie.Need-harder-requires
 harder-requires c κs = search needs
 
--- src/lib.rt:390:1
 returns : tie.Need-returns
 unfolding def.pushedRow
 returns c = rw (c .harder .ensures, c .before .before .natural-residual .ensures, c .before .before .before .before .before .before .before .at2 .ensures, c .before .before .before .before .before .before .at3 .ensures, c .before .before .before .before .before .at4 .ensures, c .before .before .before .before .at5 .ensures, c .before .before .before .at6 .ensures, c .before .before .before .before .before .before .before .before .row-sum .ensures, c .before .before .before .before .before .before .before .before .before .at .ensures, c .before .before .before .before .before .before .before .before .before .before .row-of .ensures, c .before .state .ensures)

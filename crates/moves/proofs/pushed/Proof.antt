@@ -18,27 +18,21 @@ Inv-loop w u-free lo hi scale states nu n best₀ i₀ best i = (i ≤ n) × (n 
 abbrev μ-loop : tie.MeasureT-loop
 μ-loop w u-free lo hi scale states nu n best₀ i₀ best i = n - i
 
--- src/lib.rt:423:5
 loop-holds : tie.Need-loop-holds Inv-loop μ-loop
 loop-holds c = (search needs, search needs, pushed-start _ _ _)
 
--- src/lib.rt:424:9
 push-requires : tie.Need-push-requires Inv-loop μ-loop
 push-requires c κs = search needs
 
--- src/lib.rt:425:9
 add-i : tie.Need-add-i Inv-loop μ-loop
 add-i c = search needs
 
--- src/lib.rt:423:5
 loop-less : tie.Need-loop-less Inv-loop μ-loop
 loop-less c = search needs
 
--- src/lib.rt:423:5
 loop-again : tie.Need-loop-again Inv-loop μ-loop
 loop-again c = search (pushed-again, needs)
 
--- src/lib.rt:414:1
 returns : tie.Need-returns Inv-loop μ-loop
 returns c = search (pushed-done, needs)
 

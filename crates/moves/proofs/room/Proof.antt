@@ -17,27 +17,21 @@ Inv-loop lo hi l nu y alpha k r₀ i₀ r i = (i ≤ k) × (k ≡ length l) × (
 abbrev μ-loop : tie.MeasureT-loop
 μ-loop lo hi l nu y alpha k r₀ i₀ r i = k - i
 
--- src/lib.rt:336:5
 loop-holds : tie.Need-loop-holds Inv-loop μ-loop
 loop-holds c = search (roomTo-start, needs)
 
--- src/lib.rt:337:9
 room-row-requires : tie.Need-room-row-requires Inv-loop μ-loop
 room-row-requires c κs = search needs
 
--- src/lib.rt:338:9
 add-i : tie.Need-add-i Inv-loop μ-loop
 add-i c = search needs
 
--- src/lib.rt:336:5
 loop-less : tie.Need-loop-less Inv-loop μ-loop
 loop-less c = search needs
 
--- src/lib.rt:336:5
 loop-again : tie.Need-loop-again Inv-loop μ-loop
 loop-again c = search (roomTo-again, needs)
 
--- src/lib.rt:326:1
 returns : tie.Need-returns Inv-loop μ-loop
 returns c = search (roomTo-done, needs)
 

@@ -9,31 +9,24 @@ use Rattle.cells.proofs.at.Reads as at-reads
 use Rattle.cells.proofs.number.Reads as number-reads
 use Rattle.moves.proofs.narrow.Reads as narrow-reads
 
--- src/lib.rt:321:9
 number-requires : tie.Need-number-requires
 number-requires c κs = search needs
 
--- src/lib.rt:322:15
 at-requires : tie.Need-at-requires
 at-requires c κs = search needs
 
--- src/lib.rt:322:33
 at-requires-2 : tie.Need-at-requires-2
 at-requires-2 c κs = search needs
 
--- src/lib.rt:322:50
 at-requires-3 : tie.Need-at-requires-3
 at-requires-3 c κs = search needs
 
--- src/lib.rt:322:68
 at-requires-4 : tie.Need-at-requires-4
 at-requires-4 c κs = search needs
 
--- src/lib.rt:322:5
 narrow-requires : tie.Need-narrow-requires
 narrow-requires c κs = search needs
 
--- src/lib.rt:318:1
 returns : tie.Need-returns
 unfolding def.roomRow
 returns c = rw (c .narrow .ensures, c .before .before .before .before .at .ensures, c .before .before .before .at2 .ensures, c .before .before .at3 .ensures, c .before .at4 .ensures, c .before .before .before .before .before .number .ensures)

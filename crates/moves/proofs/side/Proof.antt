@@ -18,39 +18,30 @@ Inv-loop w u-free states nu l rhs₀ k i₀ rhs i = (i ≤ k) × (k ≡ length r
 abbrev μ-loop : tie.MeasureT-loop
 μ-loop w u-free states nu l rhs₀ k i₀ rhs i = k - i
 
--- src/lib.rt:128:5
 loop-holds : tie.Need-loop-holds Inv-loop μ-loop
 loop-holds c = search (side-start, needs)
 
--- src/lib.rt:129:18
 side-at-requires : tie.Need-side-at-requires Inv-loop μ-loop
 side-at-requires c κs = search needs
 
--- src/lib.rt:129:9
 mul-rhs : tie.Need-mul-rhs Inv-loop μ-loop
 mul-rhs c = search needs
 
--- src/lib.rt:129:9
 slice-write-rhs : tie.Need-slice-write-rhs Inv-loop μ-loop
 slice-write-rhs c = search needs
 
--- src/lib.rt:130:9
 add-i : tie.Need-add-i Inv-loop μ-loop
 add-i c = search needs
 
--- src/lib.rt:128:5
 loop-less : tie.Need-loop-less Inv-loop μ-loop
 loop-less c = search needs
 
--- src/lib.rt:128:5
 loop-again : tie.Need-loop-again Inv-loop μ-loop
 loop-again c = search (side-again, needs)
 
--- src/lib.rt:123:1
 same-length : tie.Need-same-length Inv-loop μ-loop
 same-length c = search needs
 
--- src/lib.rt:123:1
 returns : tie.Need-returns Inv-loop μ-loop
 returns c = side-done _ _ _ _ _ _ (c .before .loop .i) (c .before .loop .rhs) (c .before .loop .inv .3) (c .before .loop .inv .2) (omega arith) (omega arith)
 

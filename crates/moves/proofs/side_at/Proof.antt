@@ -9,23 +9,18 @@ use Rattle.cells.proofs.number.Reads as number-reads
 use Rattle.moves.proofs.wanted.Reads as wanted-reads
 use Rattle.sweep.proofs.row_of.Reads as row-of-reads
 
--- src/lib.rt:118:9
 number-requires : tie.Need-number-requires
 number-requires c κs = search needs
 
--- src/lib.rt:119:12
 row-of-requires : tie.Need-row-of-requires
 row-of-requires c κs = search needs
 
--- src/lib.rt:119:59
 at-requires : tie.Need-at-requires
 at-requires c κs = search needs
 
--- src/lib.rt:119:5
 wanted-requires : tie.Need-wanted-requires
 wanted-requires c κs = search needs
 
--- src/lib.rt:115:1
 returns : tie.Need-returns
 returns c = rw (c .wanted .ensures, c .before .at .ensures, c .before .before .row-of .ensures, c .before .before .before .number .ensures)
 

@@ -19,39 +19,30 @@ Inv-loop states n list₀ k₀ i₀ list k i = (i ≤ n) × (length list ≡ len
 abbrev μ-loop : tie.MeasureT-loop
 μ-loop states n list₀ k₀ i₀ list k i = n - i
 
--- src/lib.rt:67:5
 loop-holds : tie.Need-loop-holds Inv-loop μ-loop
 loop-holds c = search (gather-start, needs)
 
--- src/lib.rt:68:17
 state-requires : tie.Need-state-requires Inv-loop μ-loop
 state-requires c κs = search needs
 
--- src/lib.rt:69:9
 note-requires : tie.Need-note-requires Inv-loop μ-loop
 note-requires c κs = search needs
 
--- src/lib.rt:70:9
 count-requires : tie.Need-count-requires Inv-loop μ-loop
 count-requires c κs = omega (arith, gather-le _ _ (c .before .before .before .before .before .before .loop .i) (c .before .before .before .before .before .before .loop .k) (c .before .before .before .before .before .before .loop .list) (c .before .before .before .before .before .before .loop .inv .2))
 
--- src/lib.rt:71:9
 add-i : tie.Need-add-i Inv-loop μ-loop
 add-i c = search needs
 
--- src/lib.rt:67:5
 loop-less : tie.Need-loop-less Inv-loop μ-loop
 loop-less c = search needs
 
--- src/lib.rt:67:5
 loop-again : tie.Need-loop-again Inv-loop μ-loop
 loop-again c = (search needs, search needs, gather-again _ _ (c .before .before .before .before .before .before .before .loop .i) (c .before .before .before .before .before .before .before .loop .k) (c .before .before .before .before .before .before .before .loop .list) (c .count .result) _ (c .before .before .before .before .before .before .before .loop .inv .2) (rw (c .before .before .before .before .before .state .ensures) at (c .count .ensures)) (rw (c .before .before .before .before .before .state .ensures) at (c .before .before .before .note .ensures)))
 
--- src/lib.rt:62:1
 same-length : tie.Need-same-length Inv-loop μ-loop
 same-length c = search needs
 
--- src/lib.rt:62:1
 returns : tie.Need-returns Inv-loop μ-loop
 returns c = gather-done _ _ (c .before .loop .i) _ (c .before .loop .k) (c .before .loop .list) (c .before .loop .inv .0) (c .loop-test .left) (c .before .loop .inv .2)
 

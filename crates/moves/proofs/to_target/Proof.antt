@@ -17,31 +17,24 @@ Inv-loop scale l z nu y₀ k i₀ y i = (i ≤ k) × (k ≡ length l) × (length
 abbrev μ-loop : tie.MeasureT-loop
 μ-loop scale l z nu y₀ k i₀ y i = k - i
 
--- src/lib.rt:284:5
 loop-holds : tie.Need-loop-holds Inv-loop μ-loop
 loop-holds c = search (toTarget-start, needs)
 
--- src/lib.rt:285:9
 to-target-row-requires : tie.Need-to-target-row-requires Inv-loop μ-loop
 to-target-row-requires c κs = search needs
 
--- src/lib.rt:286:9
 add-i : tie.Need-add-i Inv-loop μ-loop
 add-i c = search needs
 
--- src/lib.rt:284:5
 loop-less : tie.Need-loop-less Inv-loop μ-loop
 loop-less c = search needs
 
--- src/lib.rt:284:5
 loop-again : tie.Need-loop-again Inv-loop μ-loop
 loop-again c = search (toTarget-again, needs)
 
--- src/lib.rt:279:1
 same-length : tie.Need-same-length Inv-loop μ-loop
 same-length c = search needs
 
--- src/lib.rt:279:1
 returns : tie.Need-returns Inv-loop μ-loop
 returns c = search (toTarget-done, needs)
 

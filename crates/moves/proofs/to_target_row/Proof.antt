@@ -9,31 +9,24 @@ use Rattle.cells.proofs.at.Reads as at-reads
 use Rattle.cells.proofs.number.Reads as number-reads
 use Rattle.cells.proofs.put.Reads as put-reads
 
--- src/lib.rt:273:9
 number-requires : tie.Need-number-requires
 number-requires c κs = search needs
 
--- src/lib.rt:274:13
 at-requires : tie.Need-at-requires
 at-requires c κs = search needs
 
--- src/lib.rt:274:35
 at-requires-2 : tie.Need-at-requires-2
 at-requires-2 c κs = search needs
 
--- src/lib.rt:274:53
 at-requires-3 : tie.Need-at-requires-3
 at-requires-3 c κs = search needs
 
--- src/lib.rt:275:5
 put-requires : tie.Need-put-requires
 put-requires c κs = search needs
 
--- src/lib.rt:270:1
 same-length : tie.Need-same-length
 same-length c = search needs
 
--- src/lib.rt:270:1
 returns : tie.Need-returns
 unfolding def.toTargetRow
 returns c = rw (c .before .before .put .ensures, c .before .before .before .before .before .before .at .ensures, c .before .before .before .before .before .at2 .ensures, c .before .before .before .before .at3 .ensures, c .before .before .before .before .before .before .before .number .ensures)

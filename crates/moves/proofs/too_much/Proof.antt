@@ -7,11 +7,9 @@ use Rattle.moves.proofs.too_much.Reads as reads
 use Rattle.moves.proofs.too_much.Lts as lts
 use Rattle.floats.proofs.abs.Reads as abs-reads
 
--- src/lib.rt:223:5
 abs-requires : tie.Need-abs-requires
 abs-requires c κs = search needs
 
--- src/lib.rt:220:1
 returns : tie.Need-returns
 unfolding def.tooMuch
 returns c = rw (c .abs .ensures)

@@ -20,31 +20,24 @@ Inv-loop row states nu u n s₀ j₀ s j = (j ≤ n) × (n ≤ length row) × (n
 abbrev μ-loop : tie.MeasureT-loop
 μ-loop row states nu u n s₀ j₀ s j = n - j
 
--- src/lib.rt:105:9
 fewer-requires : tie.Need-fewer-requires Inv-loop μ-loop
 fewer-requires c κs = search needs
 
--- src/lib.rt:108:5
 loop-holds : tie.Need-loop-holds Inv-loop μ-loop
 loop-holds c = (search needs, rw (c .fewer .ensures) (fewer-left _ _), rw (c .fewer .ensures) (fewer-right _ _), c .fewer .ensures, wantedTo-start _ _ _ _)
 
--- src/lib.rt:109:9
 wanted-cell-requires : tie.Need-wanted-cell-requires Inv-loop μ-loop
 wanted-cell-requires c κs = search needs
 
--- src/lib.rt:110:9
 add-j : tie.Need-add-j Inv-loop μ-loop
 add-j c = search needs
 
--- src/lib.rt:108:5
 loop-less : tie.Need-loop-less Inv-loop μ-loop
 loop-less c = search needs
 
--- src/lib.rt:108:5
 loop-again : tie.Need-loop-again Inv-loop μ-loop
 loop-again c = (search needs, c .before .before .loop .inv .1, c .before .before .loop .inv .2, c .before .before .loop .inv .3, wantedTo-again _ _ _ _ (c .before .before .loop .j) (c .before .before .loop .s) _ (c .before .before .loop .inv .4) (c .wanted-cell .ensures))
 
--- src/lib.rt:102:1
 returns : tie.Need-returns Inv-loop μ-loop
 returns c = rw (← c .before .loop .inv .3) (wantedTo-done _ _ _ _ (c .before .loop .j) _ _ (c .before .loop .inv .0) (c .loop-test .left) (c .before .loop .inv .4))
 

@@ -9,32 +9,25 @@ use Rattle.moves.proofs.wanted_cell.Reads as reads
 use Rattle.moves.proofs.wanted_cell.Lts as lts
 use Rattle.cells.proofs.state.Reads as state-reads
 
--- src/lib.rt:95:8
 state-requires : tie.Need-state-requires
 state-requires c κs = search needs
 
--- src/lib.rt:96:9
 returns : tie.Need-returns
 unfolding def.wantedCell
 returns c = rw (eq-eqb _ _ (sym (c .before .state .ensures) ∙ c .if1 .taken))
 
--- src/lib.rt:98:9
 mul-result : tie.Need-mul-result
 mul-result c = search needs
 
--- src/lib.rt:98:9
 shared-slice-read-result : tie.Need-shared-slice-read-result
 shared-slice-read-result c = search needs
 
--- src/lib.rt:98:18
 mul-result-2 : tie.Need-mul-result-2
 mul-result-2 c = search needs
 
--- src/lib.rt:98:18
 shared-slice-read-result-2 : tie.Need-shared-slice-read-result-2
 shared-slice-read-result-2 c = search needs
 
--- src/lib.rt:91:1
 returns-2 : tie.Need-returns-2
 unfolding def.wantedCell
 returns-2 c = rw (ne-eqb _ _ (λ q. c .before .before .if1 .left (c .before .before .before .state .ensures ∙ q)))

@@ -18,39 +18,30 @@ Inv-loop row scale l out₀ k j₀ out j = (j ≤ k) × (k ≡ length out₀) ×
 abbrev μ-loop : tie.MeasureT-loop
 μ-loop row scale l out₀ k j₀ out j = k - j
 
--- src/lib.rt:146:5
 loop-holds : tie.Need-loop-holds Inv-loop μ-loop
 loop-holds c = search (weigh-start, needs)
 
--- src/lib.rt:147:18
 weighed-requires : tie.Need-weighed-requires Inv-loop μ-loop
 weighed-requires c κs = search needs
 
--- src/lib.rt:147:9
 mul-out : tie.Need-mul-out Inv-loop μ-loop
 mul-out c = search needs
 
--- src/lib.rt:147:9
 slice-write-out : tie.Need-slice-write-out Inv-loop μ-loop
 slice-write-out c = search needs
 
--- src/lib.rt:148:9
 add-j : tie.Need-add-j Inv-loop μ-loop
 add-j c = search needs
 
--- src/lib.rt:146:5
 loop-less : tie.Need-loop-less Inv-loop μ-loop
 loop-less c = search needs
 
--- src/lib.rt:146:5
 loop-again : tie.Need-loop-again Inv-loop μ-loop
 loop-again c = search (weigh-again, needs)
 
--- src/lib.rt:141:1
 same-length : tie.Need-same-length Inv-loop μ-loop
 same-length c = search needs
 
--- src/lib.rt:141:1
 returns : tie.Need-returns Inv-loop μ-loop
 returns c = weigh-done _ _ _ _ (c .before .loop .j) (c .before .loop .out) (c .before .loop .inv .3) (c .before .loop .inv .2) (omega arith) (omega arith)
 

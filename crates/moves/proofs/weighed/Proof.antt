@@ -7,19 +7,15 @@ use Rattle.moves.proofs.weighed.Lts as lts
 use Rattle.cells.proofs.at.Reads as at-reads
 use Rattle.cells.proofs.number.Reads as number-reads
 
--- src/lib.rt:137:9
 number-requires : tie.Need-number-requires
 number-requires c κs = search needs
 
--- src/lib.rt:138:5
 at-requires : tie.Need-at-requires
 at-requires c κs = search needs
 
--- src/lib.rt:138:25
 at-requires-2 : tie.Need-at-requires-2
 at-requires-2 c κs = search needs
 
--- src/lib.rt:134:1
 returns : tie.Need-returns
 returns c = rw (c .before .at .ensures, c .at2 .ensures, c .before .before .number .ensures)
 

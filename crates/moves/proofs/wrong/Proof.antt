@@ -6,15 +6,12 @@ use Rattle.moves.proofs.wrong.Tie as tie
 use Rattle.moves.proofs.wrong.Reads as reads
 use Rattle.moves.proofs.wrong.Lts as lts
 
--- src/lib.rt:370:9
 returns : tie.Need-returns
 returns c = wrong-low _ _ (c .if1 .taken)
 
--- src/lib.rt:373:9
 returns-2 : tie.Need-returns-2
 returns-2 c = wrong-high _ _ (c .if2 .taken)
 
--- src/lib.rt:366:1
 returns-3 : tie.Need-returns-3
 returns-3 c = wrong-not _ _ (c .before .if1 .left) (c .if2 .left)
 

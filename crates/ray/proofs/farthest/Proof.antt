@@ -17,27 +17,21 @@ Inv-loop scale y l k worst₀ i₀ worst i = (i ≤ k) × (k ≡ length l) × (w
 abbrev μ-loop : tie.MeasureT-loop
 μ-loop scale y l k worst₀ i₀ worst i = k - i
 
--- src/lib.rt:197:5
 loop-holds : tie.Need-loop-holds Inv-loop μ-loop
 loop-holds c = search (farthest-start, needs)
 
--- src/lib.rt:198:9
 farther-row-requires : tie.Need-farther-row-requires Inv-loop μ-loop
 farther-row-requires c κs = search needs
 
--- src/lib.rt:199:9
 add-i : tie.Need-add-i Inv-loop μ-loop
 add-i c = search needs
 
--- src/lib.rt:197:5
 loop-less : tie.Need-loop-less Inv-loop μ-loop
 loop-less c = search needs
 
--- src/lib.rt:197:5
 loop-again : tie.Need-loop-again Inv-loop μ-loop
 loop-again c = search (farthest-again, needs)
 
--- src/lib.rt:191:1
 returns : tie.Need-returns Inv-loop μ-loop
 returns c = search (farthest-done, needs)
 

@@ -16,27 +16,21 @@ Inv-loop scale states y n worst₀ a₀ worst a = (a ≤ n) × (worst ≡ def.la
 abbrev μ-loop : tie.MeasureT-loop
 μ-loop scale states y n worst₀ a₀ worst a = n - a
 
--- src/lib.rt:33:5
 loop-holds : tie.Need-loop-holds Inv-loop μ-loop
 loop-holds c = search (largest-start, needs)
 
--- src/lib.rt:34:9
 larger-row-requires : tie.Need-larger-row-requires Inv-loop μ-loop
 larger-row-requires c κs = search needs
 
--- src/lib.rt:35:9
 add-a : tie.Need-add-a Inv-loop μ-loop
 add-a c = search needs
 
--- src/lib.rt:33:5
 loop-less : tie.Need-loop-less Inv-loop μ-loop
 loop-less c = search needs
 
--- src/lib.rt:33:5
 loop-again : tie.Need-loop-again Inv-loop μ-loop
 loop-again c = search (largest-again, needs)
 
--- src/lib.rt:28:1
 returns : tie.Need-returns Inv-loop μ-loop
 returns c = search (largest-done, needs)
 

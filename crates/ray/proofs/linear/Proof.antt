@@ -17,27 +17,21 @@ Inv-loop u-free y l k s₀ i₀ s i = (i ≤ k) × (k ≡ length l) × (s ≡ de
 abbrev μ-loop : tie.MeasureT-loop
 μ-loop u-free y l k s₀ i₀ s i = k - i
 
--- src/lib.rt:137:5
 loop-holds : tie.Need-loop-holds Inv-loop μ-loop
 loop-holds c = search (linear-start, needs)
 
--- src/lib.rt:138:9
 linear-row-requires : tie.Need-linear-row-requires Inv-loop μ-loop
 linear-row-requires c κs = search needs
 
--- src/lib.rt:139:9
 add-i : tie.Need-add-i Inv-loop μ-loop
 add-i c = search needs
 
--- src/lib.rt:137:5
 loop-less : tie.Need-loop-less Inv-loop μ-loop
 loop-less c = search needs
 
--- src/lib.rt:137:5
 loop-again : tie.Need-loop-again Inv-loop μ-loop
 loop-again c = search (linear-again, needs)
 
--- src/lib.rt:131:1
 returns : tie.Need-returns Inv-loop μ-loop
 returns c = search (linear-done, needs)
 

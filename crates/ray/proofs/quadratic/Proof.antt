@@ -17,27 +17,21 @@ Inv-loop w n y l k q₀ i₀ q i = (i ≤ k) × (k ≡ length l) × (q ≡ def.q
 abbrev μ-loop : tie.MeasureT-loop
 μ-loop w n y l k q₀ i₀ q i = k - i
 
--- src/lib.rt:177:5
 loop-holds : tie.Need-loop-holds Inv-loop μ-loop
 loop-holds c = search (quadratic-start, needs)
 
--- src/lib.rt:178:9
 quadratic-row-requires : tie.Need-quadratic-row-requires Inv-loop μ-loop
 quadratic-row-requires c κs = search needs
 
--- src/lib.rt:179:9
 add-i : tie.Need-add-i Inv-loop μ-loop
 add-i c = search needs
 
--- src/lib.rt:177:5
 loop-less : tie.Need-loop-less Inv-loop μ-loop
 loop-less c = search needs
 
--- src/lib.rt:177:5
 loop-again : tie.Need-loop-again Inv-loop μ-loop
 loop-again c = search (quadratic-again, needs)
 
--- src/lib.rt:171:1
 returns : tie.Need-returns Inv-loop μ-loop
 returns c = search (quadratic-done, needs)
 

@@ -17,27 +17,21 @@ Inv-loop row v y l q0 k q₀ j₀ q j = (j ≤ k) × (k ≡ length l) × (q ≡ 
 abbrev μ-loop : tie.MeasureT-loop
 μ-loop row v y l q0 k q₀ j₀ q j = k - j
 
--- src/lib.rt:157:5
 loop-holds : tie.Need-loop-holds Inv-loop μ-loop
 loop-holds c = search (quadraticTo-start, needs)
 
--- src/lib.rt:158:9
 quadratic-cell-requires : tie.Need-quadratic-cell-requires Inv-loop μ-loop
 quadratic-cell-requires c κs = search needs
 
--- src/lib.rt:159:9
 add-j : tie.Need-add-j Inv-loop μ-loop
 add-j c = search needs
 
--- src/lib.rt:157:5
 loop-less : tie.Need-loop-less Inv-loop μ-loop
 loop-less c = search needs
 
--- src/lib.rt:157:5
 loop-again : tie.Need-loop-again Inv-loop μ-loop
 loop-again c = search (quadraticTo-again, needs)
 
--- src/lib.rt:151:1
 returns : tie.Need-returns Inv-loop μ-loop
 returns c = search (quadraticTo-done, needs)
 

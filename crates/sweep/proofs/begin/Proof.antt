@@ -17,31 +17,24 @@ Inv-loop w n lo hi nu₀ i₀ nu i = (i ≤ n) × (length nu ≡ length nu₀) �
 abbrev μ-loop : tie.MeasureT-loop
 μ-loop w n lo hi nu₀ i₀ nu i = n - i
 
--- src/lib.rt:141:5
 loop-holds : tie.Need-loop-holds Inv-loop μ-loop
 loop-holds c = search (begunTo-start, needs)
 
--- src/lib.rt:142:9
 begin-row-requires : tie.Need-begin-row-requires Inv-loop μ-loop
 begin-row-requires c κs = search needs
 
--- src/lib.rt:143:9
 add-i : tie.Need-add-i Inv-loop μ-loop
 add-i c = search needs
 
--- src/lib.rt:141:5
 loop-less : tie.Need-loop-less Inv-loop μ-loop
 loop-less c = search needs
 
--- src/lib.rt:141:5
 loop-again : tie.Need-loop-again Inv-loop μ-loop
 loop-again c = search (begunTo-again, needs)
 
--- src/lib.rt:137:1
 same-length : tie.Need-same-length Inv-loop μ-loop
 same-length c = search needs
 
--- src/lib.rt:137:1
 returns : tie.Need-returns Inv-loop μ-loop
 returns c = search (begunTo-done, needs)
 

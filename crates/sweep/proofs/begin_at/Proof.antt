@@ -7,20 +7,16 @@ use Rattle.sweep.proofs.begin_at.Reads as reads
 use Rattle.sweep.proofs.begin_at.Lts as lts
 use Rattle.floats.proofs.clamp.Reads as clamp-reads
 
--- src/lib.rt:124:9
 clamp-requires : tie.Need-clamp-requires
 clamp-requires c κs = search needs
 
--- src/lib.rt:124:9
 returns : tie.Need-returns
 unfolding def.begunAt
 returns c = rw (c .clamp .ensures, c .before .if1 .taken)
 
--- src/lib.rt:126:5
 clamp-requires-2 : tie.Need-clamp-requires-2
 clamp-requires-2 c κs = search needs
 
--- src/lib.rt:120:1
 returns-2 : tie.Need-returns-2
 unfolding def.begunAt
 returns-2 c = rw (c .clamp2 .ensures, c .before .if1 .left)

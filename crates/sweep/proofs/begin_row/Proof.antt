@@ -10,35 +10,27 @@ use Rattle.cells.proofs.put.Reads as put-reads
 use Rattle.sweep.proofs.begin_at.Reads as begin-at-reads
 use Rattle.sweep.proofs.idle_row.Reads as idle-row-reads
 
--- src/lib.rt:132:22
 idle-row-requires : tie.Need-idle-row-requires
 idle-row-requires c κs = search needs
 
--- src/lib.rt:132:41
 at-requires : tie.Need-at-requires
 at-requires c κs = search needs
 
--- src/lib.rt:132:59
 at-requires-2 : tie.Need-at-requires-2
 at-requires-2 c κs = search needs
 
--- src/lib.rt:132:77
 at-requires-3 : tie.Need-at-requires-3
 at-requires-3 c κs = search needs
 
--- src/lib.rt:132:9
 begin-at-requires : tie.Need-begin-at-requires
 begin-at-requires c κs = search needs
 
--- src/lib.rt:133:5
 put-requires : tie.Need-put-requires
 put-requires c κs = search needs
 
--- src/lib.rt:129:1
 same-length : tie.Need-same-length
 same-length c = search needs
 
--- src/lib.rt:129:1
 returns : tie.Need-returns
 unfolding def.begunRow
 returns c = rw (c .before .before .put .ensures, c .before .before .before .before .begin-at .ensures, c .before .before .before .before .before .before .before .at .ensures, c .before .before .before .before .before .before .at2 .ensures, c .before .before .before .before .before .at3 .ensures, c .before .before .before .before .before .before .before .before .before .idle-row .ensures)

@@ -8,16 +8,13 @@ use Rattle.sweep.proofs.cannot_act.Reads as reads
 use Rattle.sweep.proofs.cannot_act.Lts as lts
 use Rattle.floats.proofs.is_nan.Reads as is-nan-reads
 
--- src/lib.rt:107:8
 is-nan-requires : tie.Need-is-nan-requires
 is-nan-requires c κs = search needs
 
--- src/lib.rt:108:9
 returns : tie.Need-returns
 unfolding def.cannotAct
 returns c = rw (sym (c .before .is-nan .ensures) ∙ c .if1 .taken)
 
--- src/lib.rt:104:1
 returns-2 : tie.Need-returns-2
 unfolding def.cannotAct
 returns-2 c = rw (sym (c .before .is-nan .ensures) ∙ c .if1 .left)

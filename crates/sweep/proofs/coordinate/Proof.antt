@@ -18,55 +18,42 @@ Inv-loop m nu before k n s₀ i₀ s i = (i ≤ n) × (n ≤ length m) × (n ≤
 abbrev μ-loop : tie.MeasureT-loop
 μ-loop m nu before k n s₀ i₀ s i = n - i
 
--- src/lib.rt:331:9
 fewer-requires : tie.Need-fewer-requires Inv-loop μ-loop
 fewer-requires c κs = search needs
 
--- src/lib.rt:332:9
 fewer-requires-2 : tie.Need-fewer-requires-2 Inv-loop μ-loop
 fewer-requires-2 c κs = search needs
 
--- src/lib.rt:335:5
 loop-holds : tie.Need-loop-holds Inv-loop μ-loop
 loop-holds c = (search needs, rw (c .fewer2 .ensures) (fewer-left _ _), rw (c .fewer2 .ensures) (fewer-right _ _), rw (c .before .fewer .ensures) (fewer-left _ _), rw (c .before .fewer .ensures) (fewer-right _ _), rw (← c .before .fewer .ensures) (c .fewer2 .ensures), coordinateTo-start _ _ _)
 
--- src/lib.rt:336:17
 mul-s : tie.Need-mul-s Inv-loop μ-loop
 mul-s c = search needs
 
--- src/lib.rt:336:17
 shared-slice-read-s : tie.Need-shared-slice-read-s Inv-loop μ-loop
 shared-slice-read-s c = search needs
 
--- src/lib.rt:336:25
 mul-s-2 : tie.Need-mul-s-2 Inv-loop μ-loop
 mul-s-2 c = search needs
 
--- src/lib.rt:336:25
 shared-slice-read-s-2 : tie.Need-shared-slice-read-s-2 Inv-loop μ-loop
 shared-slice-read-s-2 c = search needs
 
--- src/lib.rt:336:33
 mul-s-3 : tie.Need-mul-s-3 Inv-loop μ-loop
 mul-s-3 c = search needs
 
--- src/lib.rt:336:33
 shared-slice-read-s-3 : tie.Need-shared-slice-read-s-3 Inv-loop μ-loop
 shared-slice-read-s-3 c = search needs
 
--- src/lib.rt:337:9
 add-i : tie.Need-add-i Inv-loop μ-loop
 add-i c = search needs
 
--- src/lib.rt:335:5
 loop-less : tie.Need-loop-less Inv-loop μ-loop
 loop-less c = search needs
 
--- src/lib.rt:335:5
 loop-again : tie.Need-loop-again Inv-loop μ-loop
 loop-again c = (search needs, c .before .before .before .before .loop .inv .1, c .before .before .before .before .loop .inv .2, c .before .before .before .before .loop .inv .3, c .before .before .before .before .loop .inv .4, c .before .before .before .before .loop .inv .5, coordinateTo-again _ _ _ (c .before .before .before .before .loop .i) (c .before .before .before .before .loop .s) _ (c .before .before .before .before .loop .inv .6) refl)
 
--- src/lib.rt:328:1
 returns : tie.Need-returns Inv-loop μ-loop
 returns c = rw (← c .before .loop .inv .5) (coordinateTo-done _ _ _ (c .before .loop .i) _ _ (c .before .loop .inv .0) (c .loop-test .left) (c .before .loop .inv .6))
 

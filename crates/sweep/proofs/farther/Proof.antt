@@ -11,43 +11,33 @@ use Rattle.floats.proofs.abs.Reads as abs-reads
 use Rattle.floats.proofs.larger.Reads as larger-reads
 use Rattle.sweep.proofs.coordinate.Reads as coordinate-reads
 
--- src/lib.rt:346:13
 mul-a : tie.Need-mul-a
 mul-a c = search needs
 
--- src/lib.rt:347:13
 add-e : tie.Need-add-e
 add-e c = search needs
 
--- src/lib.rt:348:50
 mul-coordinate : tie.Need-mul-coordinate
 mul-coordinate c = search needs
 
--- src/lib.rt:348:50
 sub-coordinate : tie.Need-sub-coordinate
 sub-coordinate c = search needs
 
--- src/lib.rt:348:50
 part-coordinate-start : tie.Need-part-coordinate-start
 part-coordinate-start c = search needs
 
--- src/lib.rt:348:50
 part-coordinate-end : tie.Need-part-coordinate-end
 part-coordinate-end c = search needs
 
--- src/lib.rt:348:39
 coordinate-requires : tie.Need-coordinate-requires
 coordinate-requires c κs = search needs
 
--- src/lib.rt:348:27
 abs-requires : tie.Need-abs-requires
 abs-requires c κs = search needs
 
--- src/lib.rt:348:5
 larger-requires : tie.Need-larger-requires
 larger-requires c κs = search needs
 
--- src/lib.rt:342:1
 returns : tie.Need-returns
 unfolding def.motionRow
 returns c = let q : c .before .before .before .before .before .before .before .args .c * c .before .before .before .before .before .before .before .args .n + c .before .before .before .before .before .before .before .args .n - c .before .before .before .before .before .before .before .args .c * c .before .before .before .before .before .before .before .args .n ≡ c .before .before .before .before .before .before .before .args .n = omega arith in rw (c .larger .ensures, c .before .abs .ensures, c .before .before .coordinate .ensures, q)

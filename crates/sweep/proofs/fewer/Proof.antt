@@ -7,12 +7,10 @@ use Rattle.sweep.proofs.fewer.Tie as tie
 use Rattle.sweep.proofs.fewer.Reads as reads
 use Rattle.sweep.proofs.fewer.Lts as lts
 
--- src/lib.rt:27:9
 returns : tie.Need-returns
 unfolding def.fewer
 returns c = rw (lt-ltb _ _ (c .if1 .taken))
 
--- src/lib.rt:23:1
 returns-2 : tie.Need-returns-2
 unfolding def.fewer
 returns-2 c = rw (le-ltb _ _ (c .if1 .left))

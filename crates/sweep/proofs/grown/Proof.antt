@@ -20,47 +20,36 @@ Inv-loop nu scale n rows₀ k₀ i₀ rows k i = (i ≤ n) × (length rows ≡ l
 abbrev μ-loop : tie.MeasureT-loop
 μ-loop nu scale n rows₀ k₀ i₀ rows k i = n - i
 
--- src/lib.rt:316:5
 loop-holds : tie.Need-loop-holds Inv-loop μ-loop
 loop-holds c = search (gather-start, needs)
 
--- src/lib.rt:317:22
 at-requires : tie.Need-at-requires Inv-loop μ-loop
 at-requires c κs = search needs
 
--- src/lib.rt:317:40
 at-requires-2 : tie.Need-at-requires-2 Inv-loop μ-loop
 at-requires-2 c κs = search needs
 
--- src/lib.rt:317:13
 past-requires : tie.Need-past-requires Inv-loop μ-loop
 past-requires c κs = search needs
 
--- src/lib.rt:318:9
 note-requires : tie.Need-note-requires Inv-loop μ-loop
 note-requires c κs = search needs
 
--- src/lib.rt:319:9
 count-requires : tie.Need-count-requires Inv-loop μ-loop
 count-requires c κs = omega (arith, gather-le _ _ (c .before .before .before .before .before .before .before .before .loop .i) (c .before .before .before .before .before .before .before .before .loop .k) (c .before .before .before .before .before .before .before .before .loop .rows) (c .before .before .before .before .before .before .before .before .loop .inv .2))
 
--- src/lib.rt:320:9
 add-i : tie.Need-add-i Inv-loop μ-loop
 add-i c = search needs
 
--- src/lib.rt:316:5
 loop-less : tie.Need-loop-less Inv-loop μ-loop
 loop-less c = search needs
 
--- src/lib.rt:316:5
 loop-again : tie.Need-loop-again Inv-loop μ-loop
 loop-again c = (search needs, search needs, gather-again _ _ (c .before .before .before .before .before .before .before .before .before .loop .i) (c .before .before .before .before .before .before .before .before .before .loop .k) (c .before .before .before .before .before .before .before .before .before .loop .rows) (c .count .result) _ (c .before .before .before .before .before .before .before .before .before .loop .inv .2) (rw (c .before .before .before .before .before .past .ensures, c .before .before .before .before .before .before .before .at .ensures, c .before .before .before .before .before .before .at2 .ensures) at (c .count .ensures)) (rw (c .before .before .before .before .before .past .ensures, c .before .before .before .before .before .before .before .at .ensures, c .before .before .before .before .before .before .at2 .ensures) at (c .before .before .before .note .ensures)))
 
--- src/lib.rt:311:1
 same-length : tie.Need-same-length Inv-loop μ-loop
 same-length c = search needs
 
--- src/lib.rt:311:1
 returns : tie.Need-returns Inv-loop μ-loop
 returns c = gather-done _ _ (c .before .loop .i) _ (c .before .loop .k) (c .before .loop .rows) (c .before .loop .inv .0) (c .loop-test .left) (c .before .loop .inv .2)
 

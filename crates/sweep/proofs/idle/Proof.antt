@@ -18,31 +18,24 @@ Inv-loop w n k₀ i₀ k i = (i ≤ n) × (k ≡ length (def.idleTo w n i))
 abbrev μ-loop : tie.MeasureT-loop
 μ-loop w n k₀ i₀ k i = n - i
 
--- src/lib.rt:191:5
 loop-holds : tie.Need-loop-holds Inv-loop μ-loop
 loop-holds c = search (idle-start, needs)
 
--- src/lib.rt:192:19
 idle-row-requires : tie.Need-idle-row-requires Inv-loop μ-loop
 idle-row-requires c κs = search needs
 
--- src/lib.rt:192:9
 count-requires : tie.Need-count-requires Inv-loop μ-loop
 count-requires c κs = omega (arith, idle-le (c .before .before .before .before .args .w .now) (c .before .before .before .before .args .n) (c .before .before .loop .i))
 
--- src/lib.rt:193:9
 add-i : tie.Need-add-i Inv-loop μ-loop
 add-i c = search needs
 
--- src/lib.rt:191:5
 loop-less : tie.Need-loop-less Inv-loop μ-loop
 loop-less c = search needs
 
--- src/lib.rt:191:5
 loop-again : tie.Need-loop-again Inv-loop μ-loop
 loop-again c = (search needs, idle-again _ _ (c .before .before .before .loop .i) (c .before .before .before .loop .k) (c .count .result) (c .before .before .before .loop .inv .1) (rw (← c .before .idle-row .ensures) (c .count .ensures)))
 
--- src/lib.rt:186:1
 returns : tie.Need-returns Inv-loop μ-loop
 returns c = search (idle-done, needs)
 

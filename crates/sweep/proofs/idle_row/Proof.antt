@@ -8,19 +8,15 @@ use Rattle.cells.proofs.at.Reads as at-reads
 use Rattle.sweep.proofs.cannot_act.Reads as cannot-act-reads
 use Rattle.sweep.proofs.row_of.Reads as row-of-reads
 
--- src/lib.rt:116:26
 row-of-requires : tie.Need-row-of-requires
 row-of-requires c κs = search needs
 
--- src/lib.rt:116:16
 at-requires : tie.Need-at-requires
 at-requires c κs = search needs
 
--- src/lib.rt:116:5
 cannot-act-requires : tie.Need-cannot-act-requires
 cannot-act-requires c κs = search needs
 
--- src/lib.rt:113:1
 returns : tie.Need-returns
 returns c = rw (c .cannot-act .ensures, c .before .at .ensures, c .before .before .row-of .ensures)
 

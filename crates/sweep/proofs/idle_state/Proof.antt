@@ -6,12 +6,10 @@ use Rattle.sweep.proofs.idle_state.Tie as tie
 use Rattle.sweep.proofs.idle_state.Reads as reads
 use Rattle.sweep.proofs.idle_state.Lts as lts
 
--- src/lib.rt:151:9
 returns : tie.Need-returns
 unfolding def.idleState
 returns c = rw (c .if1 .taken)
 
--- src/lib.rt:147:1
 returns-2 : tie.Need-returns-2
 unfolding def.idleState
 returns-2 c = rw (c .if1 .left)

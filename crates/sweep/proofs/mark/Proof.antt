@@ -17,31 +17,24 @@ Inv-loop w n states₀ i₀ states i = (i ≤ n) × (length states ≡ length st
 abbrev μ-loop : tie.MeasureT-loop
 μ-loop w n states₀ i₀ states i = n - i
 
--- src/lib.rt:168:5
 loop-holds : tie.Need-loop-holds Inv-loop μ-loop
 loop-holds c = search (markedTo-start, needs)
 
--- src/lib.rt:169:9
 mark-row-requires : tie.Need-mark-row-requires Inv-loop μ-loop
 mark-row-requires c κs = search needs
 
--- src/lib.rt:170:9
 add-i : tie.Need-add-i Inv-loop μ-loop
 add-i c = search needs
 
--- src/lib.rt:168:5
 loop-less : tie.Need-loop-less Inv-loop μ-loop
 loop-less c = search needs
 
--- src/lib.rt:168:5
 loop-again : tie.Need-loop-again Inv-loop μ-loop
 loop-again c = search (markedTo-again, needs)
 
--- src/lib.rt:164:1
 same-length : tie.Need-same-length Inv-loop μ-loop
 same-length c = search needs
 
--- src/lib.rt:164:1
 returns : tie.Need-returns Inv-loop μ-loop
 returns c = search (markedTo-done, needs)
 

@@ -9,23 +9,18 @@ use Rattle.cells.proofs.put_state.Reads as put-state-reads
 use Rattle.sweep.proofs.idle_row.Reads as idle-row-reads
 use Rattle.sweep.proofs.idle_state.Reads as idle-state-reads
 
--- src/lib.rt:159:24
 idle-row-requires : tie.Need-idle-row-requires
 idle-row-requires c κs = search needs
 
--- src/lib.rt:159:9
 idle-state-requires : tie.Need-idle-state-requires
 idle-state-requires c κs = search needs
 
--- src/lib.rt:160:5
 put-state-requires : tie.Need-put-state-requires
 put-state-requires c κs = search needs
 
--- src/lib.rt:156:1
 same-length : tie.Need-same-length
 same-length c = search needs
 
--- src/lib.rt:156:1
 returns : tie.Need-returns
 unfolding def.markedRow
 returns c = rw (c .before .before .put-state .ensures, c .before .before .before .before .idle-state .ensures, c .before .before .before .before .before .idle-row .ensures)

@@ -19,35 +19,27 @@ Inv-loop motion nu before n worst₀ coords c₀ worst c = (c ≤ coords) × (n 
 abbrev μ-loop : tie.MeasureT-loop
 μ-loop motion nu before n worst₀ coords c₀ worst c = coords - c
 
--- src/lib.rt:358:9
 returns : tie.Need-returns Inv-loop μ-loop
 returns c = motion-none _ _ _ _ (c .if1 .taken)
 
--- src/lib.rt:360:18
 div-coords : tie.Need-div-coords Inv-loop μ-loop
 div-coords c = search needs
 
--- src/lib.rt:362:5
 loop-holds : tie.Need-loop-holds Inv-loop μ-loop
 loop-holds c = search (motionTo-start, needs)
 
--- src/lib.rt:363:9
 farther-requires : tie.Need-farther-requires Inv-loop μ-loop
 farther-requires c κs = whole-row _ _ _ (c .loop-test .taken)
 
--- src/lib.rt:364:9
 add-c : tie.Need-add-c Inv-loop μ-loop
 add-c c = omega (arith, div-le-self (length (c .before .before .before .before .before .before .before .args .motion .now)) (length (c .before .before .before .before .before .before .before .args .nu .now)))
 
--- src/lib.rt:362:5
 loop-less : tie.Need-loop-less Inv-loop μ-loop
 loop-less c = search needs
 
--- src/lib.rt:362:5
 loop-again : tie.Need-loop-again Inv-loop μ-loop
 loop-again c = search (motionTo-again, needs)
 
--- src/lib.rt:352:1
 returns-2 : tie.Need-returns-2 Inv-loop μ-loop
 returns-2 c = search (motionTo-done, needs)
 

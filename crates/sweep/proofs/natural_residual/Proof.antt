@@ -8,15 +8,12 @@ use Rattle.sweep.proofs.natural_residual.Lts as lts
 use Rattle.floats.proofs.abs.Reads as abs-reads
 use Rattle.sweep.proofs.update.Reads as update-reads
 
--- src/lib.rt:225:21
 update-requires : tie.Need-update-requires
 update-requires c κs = search needs
 
--- src/lib.rt:225:5
 abs-requires : tie.Need-abs-requires
 abs-requires c κs = search needs
 
--- src/lib.rt:222:1
 returns : tie.Need-returns
 unfolding def.naturalResidual
 returns c = rw (c .abs .ensures, c .before .update .ensures)

@@ -8,16 +8,13 @@ use Rattle.sweep.proofs.near.Reads as reads
 use Rattle.sweep.proofs.near.Lts as lts
 use Rattle.floats.proofs.is_finite.Reads as is-finite-reads
 
--- src/lib.rt:62:8
 is-finite-requires : tie.Need-is-finite-requires
 is-finite-requires c κs = search needs
 
--- src/lib.rt:63:9
 returns : tie.Need-returns
 unfolding def.near
 returns c = rw (sym (c .before .is-finite .ensures) ∙ c .if1 .taken)
 
--- src/lib.rt:59:1
 returns-2 : tie.Need-returns-2
 unfolding def.near
 returns-2 c = rw (sym (c .before .is-finite .ensures) ∙ c .if1 .left)

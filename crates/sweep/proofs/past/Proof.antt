@@ -7,11 +7,9 @@ use Rattle.sweep.proofs.past.Reads as reads
 use Rattle.sweep.proofs.past.Lts as lts
 use Rattle.floats.proofs.abs.Reads as abs-reads
 
--- src/lib.rt:298:5
 abs-requires : tie.Need-abs-requires
 abs-requires c κs = search needs
 
--- src/lib.rt:295:1
 returns : tie.Need-returns
 unfolding def.past
 returns c = rw (c .abs .ensures)

@@ -17,27 +17,21 @@ Inv-loop w u-free lo hi scale states nu n worst₀ i₀ worst i = (i ≤ n) × (
 abbrev μ-loop : tie.MeasureT-loop
 μ-loop w u-free lo hi scale states nu n worst₀ i₀ worst i = n - i
 
--- src/lib.rt:253:5
 loop-holds : tie.Need-loop-holds Inv-loop μ-loop
 loop-holds c = search (residual-start, needs)
 
--- src/lib.rt:254:9
 worse-requires : tie.Need-worse-requires Inv-loop μ-loop
 worse-requires c κs = search needs
 
--- src/lib.rt:255:9
 add-i : tie.Need-add-i Inv-loop μ-loop
 add-i c = search needs
 
--- src/lib.rt:253:5
 loop-less : tie.Need-loop-less Inv-loop μ-loop
 loop-less c = search needs
 
--- src/lib.rt:253:5
 loop-again : tie.Need-loop-again Inv-loop μ-loop
 loop-again c = search (residual-again, needs)
 
--- src/lib.rt:247:1
 returns : tie.Need-returns Inv-loop μ-loop
 returns c = search (residual-done, needs)
 

@@ -11,58 +11,45 @@ use Rattle.sweep.proofs.row_of.Tie as tie
 use Rattle.sweep.proofs.row_of.Reads as reads
 use Rattle.sweep.proofs.row_of.Lts as lts
 
--- src/lib.rt:37:9
 slice-aggregate-result : tie.Need-slice-aggregate-result
 slice-aggregate-result c = search needs
 
--- src/lib.rt:37:9
 returns : tie.Need-returns
 unfolding def.rowOf
 returns c = rw (lt-ltb _ _ (c .before .if1 .taken))
 
--- src/lib.rt:40:9
 slice-aggregate-result-2 : tie.Need-slice-aggregate-result-2
 slice-aggregate-result-2 c = search needs
 
--- src/lib.rt:40:9
 returns-2 : tie.Need-returns-2
 unfolding def.rowOf
 returns-2 c = rw (le-ltb _ _ (c .before .before .if1 .left), le-leb _ _ (c .before .if2 .taken))
 
--- src/lib.rt:42:13
 mul-a : tie.Need-mul-a
 mul-a c = omega (arith, product (c .before .before .args .i) (c .before .before .args .n) (omega arith) (omega arith))
 
--- src/lib.rt:43:13
 add-e : tie.Need-add-e
 add-e c = omega (arith, product (c .before .before .args .i) (c .before .before .args .n) (omega arith) (omega arith))
 
--- src/lib.rt:45:9
 slice-aggregate-result-3 : tie.Need-slice-aggregate-result-3
 slice-aggregate-result-3 c = search needs
 
--- src/lib.rt:45:9
 returns-3 : tie.Need-returns-3
 unfolding def.rowOf
 returns-3 c = rw (le-ltb _ _ (c .before .before .before .if1 .left), lt-leb _ _ (c .before .before .if2 .left), lt-ltb _ _ (c .before .if3 .taken))
 
--- src/lib.rt:47:5
 mul-result : tie.Need-mul-result
 mul-result c = search needs
 
--- src/lib.rt:47:5
 sub-result : tie.Need-sub-result
 sub-result c = search needs
 
--- src/lib.rt:47:5
 part-result-start : tie.Need-part-result-start
 part-result-start c = search needs
 
--- src/lib.rt:47:5
 part-result-end : tie.Need-part-result-end
 part-result-end c = search needs
 
--- src/lib.rt:33:1
 returns-4 : tie.Need-returns-4
 unfolding def.rowOf
 returns-4 c = let q : c .before .before .before .before .args .i * c .before .before .before .before .args .n + c .before .before .before .before .args .n - c .before .before .before .before .args .i * c .before .before .before .before .args .n ≡ c .before .before .before .before .args .n = omega arith in rw (le-ltb _ _ (c .before .before .before .if1 .left), lt-leb _ _ (c .before .before .if2 .left), le-ltb _ _ (c .before .if3 .left), q)

@@ -9,43 +9,33 @@ use Rattle.sweep.proofs.natural_residual.Reads as natural-residual-read
 use Rattle.sweep.proofs.row_of.Reads as row-of-reads
 use Rattle.sweep.proofs.row_sum.Reads as row-sum-reads
 
--- src/lib.rt:232:9
 row-of-requires : tie.Need-row-of-requires
 row-of-requires c κs = search needs
 
--- src/lib.rt:233:26
 at-requires : tie.Need-at-requires
 at-requires c κs = search needs
 
--- src/lib.rt:233:9
 row-sum-requires : tie.Need-row-sum-requires
 row-sum-requires c κs = search needs
 
--- src/lib.rt:234:22
 at-requires-2 : tie.Need-at-requires-2
 at-requires-2 c κs = search needs
 
--- src/lib.rt:234:43
 at-requires-3 : tie.Need-at-requires-3
 at-requires-3 c κs = search needs
 
--- src/lib.rt:234:62
 at-requires-4 : tie.Need-at-requires-4
 at-requires-4 c κs = search needs
 
--- src/lib.rt:234:80
 at-requires-5 : tie.Need-at-requires-5
 at-requires-5 c κs = search needs
 
--- src/lib.rt:234:98
 at-requires-6 : tie.Need-at-requires-6
 at-requires-6 c κs = search needs
 
--- src/lib.rt:234:5
 natural-residual-requires : tie.Need-natural-residual-requires
 natural-residual-requires c κs = search needs
 
--- src/lib.rt:229:1
 returns : tie.Need-returns
 returns c = rw (c .natural-residual .ensures, c .before .before .before .before .before .at2 .ensures, c .before .before .before .before .at3 .ensures, c .before .before .before .at4 .ensures, c .before .before .at5 .ensures, c .before .at6 .ensures, c .before .before .before .before .before .before .row-sum .ensures, c .before .before .before .before .before .before .before .at .ensures, c .before .before .before .before .before .before .before .before .row-of .ensures)
 

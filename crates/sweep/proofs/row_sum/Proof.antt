@@ -18,43 +18,33 @@ Inv-loop row u nu n s₀ j₀ s j = (j ≤ n) × (n ≤ length row) × (n ≤ le
 abbrev μ-loop : tie.MeasureT-loop
 μ-loop row u nu n s₀ j₀ s j = n - j
 
--- src/lib.rt:204:9
 fewer-requires : tie.Need-fewer-requires Inv-loop μ-loop
 fewer-requires c κs = search needs
 
--- src/lib.rt:207:5
 loop-holds : tie.Need-loop-holds Inv-loop μ-loop
 loop-holds c = (search needs, rw (c .fewer .ensures) (fewer-left _ _), rw (c .fewer .ensures) (fewer-right _ _), c .fewer .ensures, rowSumTo-start _ _ _)
 
--- src/lib.rt:208:17
 mul-s : tie.Need-mul-s Inv-loop μ-loop
 mul-s c = search needs
 
--- src/lib.rt:208:17
 shared-slice-read-s : tie.Need-shared-slice-read-s Inv-loop μ-loop
 shared-slice-read-s c = search needs
 
--- src/lib.rt:208:26
 mul-s-2 : tie.Need-mul-s-2 Inv-loop μ-loop
 mul-s-2 c = search needs
 
--- src/lib.rt:208:26
 shared-slice-read-s-2 : tie.Need-shared-slice-read-s-2 Inv-loop μ-loop
 shared-slice-read-s-2 c = search needs
 
--- src/lib.rt:209:9
 add-j : tie.Need-add-j Inv-loop μ-loop
 add-j c = search needs
 
--- src/lib.rt:207:5
 loop-less : tie.Need-loop-less Inv-loop μ-loop
 loop-less c = search needs
 
--- src/lib.rt:207:5
 loop-again : tie.Need-loop-again Inv-loop μ-loop
 loop-again c = (search needs, c .before .before .before .loop .inv .1, c .before .before .before .loop .inv .2, c .before .before .before .loop .inv .3, rowSumTo-again _ _ _ (c .before .before .before .loop .j) (c .before .before .before .loop .s) _ (c .before .before .before .loop .inv .4) refl)
 
--- src/lib.rt:201:1
 returns : tie.Need-returns Inv-loop μ-loop
 returns c = rw (← c .before .loop .inv .3) (rowSumTo-done _ _ _ (c .before .loop .j) _ _ (c .before .loop .inv .0) (c .loop-test .left) (c .before .loop .inv .4))
 

@@ -17,31 +17,24 @@ Inv-loop lo hi scale nu states₀ n i₀ states i = (i ≤ n) × (length states 
 abbrev μ-loop : tie.MeasureT-loop
 μ-loop lo hi scale nu states₀ n i₀ states i = n - i
 
--- src/lib.rt:95:5
 loop-holds : tie.Need-loop-holds Inv-loop μ-loop
 loop-holds c = search (shownTo-start, needs)
 
--- src/lib.rt:96:9
 show-row-requires : tie.Need-show-row-requires Inv-loop μ-loop
 show-row-requires c κs = search needs
 
--- src/lib.rt:97:9
 add-i : tie.Need-add-i Inv-loop μ-loop
 add-i c = search needs
 
--- src/lib.rt:95:5
 loop-less : tie.Need-loop-less Inv-loop μ-loop
 loop-less c = search needs
 
--- src/lib.rt:95:5
 loop-again : tie.Need-loop-again Inv-loop μ-loop
 loop-again c = search (shownTo-again, needs)
 
--- src/lib.rt:91:1
 same-length : tie.Need-same-length Inv-loop μ-loop
 same-length c = search needs
 
--- src/lib.rt:91:1
 returns : tie.Need-returns Inv-loop μ-loop
 returns c = search (shownTo-done, needs)
 

@@ -11,48 +11,37 @@ use Rattle.cells.proofs.put_state.Reads as put-state-reads
 use Rattle.sweep.proofs.acts.Reads as acts-reads
 use Rattle.sweep.proofs.state_of.Reads as state-of-reads
 
--- src/lib.rt:84:8
 acts-requires : tie.Need-acts-requires
 acts-requires c κs = search needs
 
--- src/lib.rt:85:26
 at-requires : tie.Need-at-requires
 at-requires c κs = search needs
 
--- src/lib.rt:85:44
 at-requires-2 : tie.Need-at-requires-2
 at-requires-2 c κs = search needs
 
--- src/lib.rt:85:62
 at-requires-3 : tie.Need-at-requires-3
 at-requires-3 c κs = search needs
 
--- src/lib.rt:85:83
 at-requires-4 : tie.Need-at-requires-4
 at-requires-4 c κs = search needs
 
--- src/lib.rt:85:13
 state-of-requires : tie.Need-state-of-requires
 state-of-requires c κs = search needs
 
--- src/lib.rt:86:9
 put-state-requires : tie.Need-put-state-requires
 put-state-requires c κs = search needs
 
--- src/lib.rt:81:1
 same-length : tie.Need-same-length
 same-length c = search needs
 
--- src/lib.rt:81:1
 returns : tie.Need-returns
 unfolding def.shownRow
 returns c = rw (c .before .before .put-state .ensures, c .before .before .before .before .state-of .ensures, c .before .before .before .before .before .before .before .before .at .ensures, c .before .before .before .before .before .before .before .at2 .ensures, c .before .before .before .before .before .before .at3 .ensures, c .before .before .before .before .before .at4 .ensures, sym (c .before .before .before .before .before .before .before .before .before .before .acts .ensures) ∙ c .before .before .before .before .before .before .before .before .before .if1 .taken)
 
--- src/lib.rt:81:1
 same-length-2 : tie.Need-same-length-2
 same-length-2 c = search needs
 
--- src/lib.rt:81:1
 returns-2 : tie.Need-returns-2
 unfolding def.shownRow
 returns-2 c = rw (sym (c .before .acts .ensures) ∙ c .if1 .left)

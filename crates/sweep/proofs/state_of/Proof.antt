@@ -8,25 +8,20 @@ use Rattle.sweep.proofs.state_of.Reads as reads
 use Rattle.sweep.proofs.state_of.Lts as lts
 use Rattle.sweep.proofs.near.Reads as near-reads
 
--- src/lib.rt:72:8
 near-requires : tie.Need-near-requires
 near-requires c κs = search needs
 
--- src/lib.rt:73:9
 returns : tie.Need-returns
 unfolding def.stateOf
 returns c = rw (sym (c .before .near .ensures) ∙ c .if1 .taken)
 
--- src/lib.rt:75:8
 near-requires-2 : tie.Need-near-requires-2
 near-requires-2 c κs = search needs
 
--- src/lib.rt:76:9
 returns-2 : tie.Need-returns-2
 unfolding def.stateOf
 returns-2 c = rw (sym (c .before .before .before .near .ensures) ∙ c .before .before .if1 .left, sym (c .before .near2 .ensures) ∙ c .if2 .taken)
 
--- src/lib.rt:69:1
 returns-3 : tie.Need-returns-3
 unfolding def.stateOf
 returns-3 c = rw (sym (c .before .before .before .near .ensures) ∙ c .before .before .if1 .left, sym (c .before .near2 .ensures) ∙ c .if2 .left)

@@ -17,31 +17,24 @@ Inv-loop w u-free lo hi states nu₀ n i₀ nu i = (i ≤ n) × (n ≡ length u-
 abbrev μ-loop : tie.MeasureT-loop
 μ-loop w u-free lo hi states nu₀ n i₀ nu i = n - i
 
--- src/lib.rt:286:5
 loop-holds : tie.Need-loop-holds Inv-loop μ-loop
 loop-holds c = search (sweptTo-start, needs)
 
--- src/lib.rt:287:9
 sweep-row-requires : tie.Need-sweep-row-requires Inv-loop μ-loop
 sweep-row-requires c κs = search needs
 
--- src/lib.rt:288:9
 add-i : tie.Need-add-i Inv-loop μ-loop
 add-i c = search needs
 
--- src/lib.rt:286:5
 loop-less : tie.Need-loop-less Inv-loop μ-loop
 loop-less c = search needs
 
--- src/lib.rt:286:5
 loop-again : tie.Need-loop-again Inv-loop μ-loop
 loop-again c = search (sweptTo-again, needs)
 
--- src/lib.rt:281:1
 same-length : tie.Need-same-length Inv-loop μ-loop
 same-length c = search needs
 
--- src/lib.rt:281:1
 returns : tie.Need-returns Inv-loop μ-loop
 returns c = search (sweptTo-done, needs)
 

@@ -10,28 +10,22 @@ use Rattle.cells.proofs.put.Reads as put-reads
 use Rattle.sweep.proofs.acts.Reads as acts-reads
 use Rattle.sweep.proofs.updated.Reads as updated-reads
 
--- src/lib.rt:274:8
 acts-requires : tie.Need-acts-requires
 acts-requires c κs = search needs
 
--- src/lib.rt:275:13
 updated-requires : tie.Need-updated-requires
 updated-requires c κs = search needs
 
--- src/lib.rt:276:9
 put-requires : tie.Need-put-requires
 put-requires c κs = search needs
 
--- src/lib.rt:271:1
 same-length : tie.Need-same-length
 same-length c = search needs
 
--- src/lib.rt:271:1
 returns : tie.Need-returns
 unfolding def.sweptRow
 returns c = rw (c .before .before .put .ensures, c .before .before .before .before .updated .ensures, sym (c .before .before .before .before .before .before .before .acts .ensures) ∙ c .before .before .before .before .before .before .if1 .taken)
 
--- src/lib.rt:271:1
 returns-2 : tie.Need-returns-2
 unfolding def.sweptRow
 returns-2 c = rw (sym (c .before .acts .ensures) ∙ c .if1 .left)

@@ -7,11 +7,9 @@ use Rattle.sweep.proofs.update.Reads as reads
 use Rattle.sweep.proofs.update.Lts as lts
 use Rattle.floats.proofs.clamp.Reads as clamp-reads
 
--- src/lib.rt:218:5
 clamp-requires : tie.Need-clamp-requires
 clamp-requires c κs = search needs
 
--- src/lib.rt:215:1
 returns : tie.Need-returns
 unfolding def.update
 returns c = rw (c .clamp .ensures)

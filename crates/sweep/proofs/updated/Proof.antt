@@ -9,39 +9,30 @@ use Rattle.sweep.proofs.row_of.Reads as row-of-reads
 use Rattle.sweep.proofs.row_sum.Reads as row-sum-reads
 use Rattle.sweep.proofs.update.Reads as update-reads
 
--- src/lib.rt:266:9
 row-of-requires : tie.Need-row-of-requires
 row-of-requires c κs = search needs
 
--- src/lib.rt:267:26
 at-requires : tie.Need-at-requires
 at-requires c κs = search needs
 
--- src/lib.rt:267:9
 row-sum-requires : tie.Need-row-sum-requires
 row-sum-requires c κs = search needs
 
--- src/lib.rt:268:12
 at-requires-2 : tie.Need-at-requires-2
 at-requires-2 c κs = search needs
 
--- src/lib.rt:268:33
 at-requires-3 : tie.Need-at-requires-3
 at-requires-3 c κs = search needs
 
--- src/lib.rt:268:52
 at-requires-4 : tie.Need-at-requires-4
 at-requires-4 c κs = search needs
 
--- src/lib.rt:268:70
 at-requires-5 : tie.Need-at-requires-5
 at-requires-5 c κs = search needs
 
--- src/lib.rt:268:5
 update-requires : tie.Need-update-requires
 update-requires c κs = search needs
 
--- src/lib.rt:263:1
 returns : tie.Need-returns
 returns c = rw (c .update .ensures, c .before .before .before .before .at2 .ensures, c .before .before .before .at3 .ensures, c .before .before .at4 .ensures, c .before .at5 .ensures, c .before .before .before .before .before .row-sum .ensures, c .before .before .before .before .before .before .at .ensures, c .before .before .before .before .before .before .before .row-of .ensures)
 

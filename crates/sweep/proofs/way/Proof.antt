@@ -18,43 +18,33 @@ Inv-loop nu before y₀ n i₀ y i = (i ≤ n) × (n ≡ length y₀) × (length
 abbrev μ-loop : tie.MeasureT-loop
 μ-loop nu before y₀ n i₀ y i = n - i
 
--- src/lib.rt:375:5
 loop-holds : tie.Need-loop-holds Inv-loop μ-loop
 loop-holds c = search (way-start, needs)
 
--- src/lib.rt:376:16
 at-requires : tie.Need-at-requires Inv-loop μ-loop
 at-requires c κs = search needs
 
--- src/lib.rt:376:35
 at-requires-2 : tie.Need-at-requires-2 Inv-loop μ-loop
 at-requires-2 c κs = search needs
 
--- src/lib.rt:376:9
 mul-y : tie.Need-mul-y Inv-loop μ-loop
 mul-y c = search needs
 
--- src/lib.rt:376:9
 slice-write-y : tie.Need-slice-write-y Inv-loop μ-loop
 slice-write-y c = search needs
 
--- src/lib.rt:377:9
 add-i : tie.Need-add-i Inv-loop μ-loop
 add-i c = search needs
 
--- src/lib.rt:375:5
 loop-less : tie.Need-loop-less Inv-loop μ-loop
 loop-less c = search needs
 
--- src/lib.rt:375:5
 loop-again : tie.Need-loop-again Inv-loop μ-loop
 loop-again c = search (way-again, needs)
 
--- src/lib.rt:370:1
 same-length : tie.Need-same-length Inv-loop μ-loop
 same-length c = search needs
 
--- src/lib.rt:370:1
 returns : tie.Need-returns Inv-loop μ-loop
 returns c = way-done _ _ _ (c .before .loop .i) (c .before .loop .y) (c .before .loop .inv .3) (c .before .loop .inv .2) (omega arith) (omega arith)
 

@@ -10,24 +10,19 @@ use Rattle.floats.proofs.larger.Reads as larger-reads
 use Rattle.sweep.proofs.acts.Reads as acts-reads
 use Rattle.sweep.proofs.row_residual.Reads as row-residual-reads
 
--- src/lib.rt:240:8
 acts-requires : tie.Need-acts-requires
 acts-requires c κs = search needs
 
--- src/lib.rt:241:38
 row-residual-requires : tie.Need-row-residual-requires
 row-residual-requires c κs = search needs
 
--- src/lib.rt:241:9
 larger-requires : tie.Need-larger-requires
 larger-requires c κs = search needs
 
--- src/lib.rt:241:9
 returns : tie.Need-returns
 unfolding def.residualRow
 returns c = rw (c .larger .ensures, c .before .row-residual .ensures, sym (c .before .before .before .acts .ensures) ∙ c .before .before .if1 .taken)
 
--- src/lib.rt:237:1
 returns-2 : tie.Need-returns-2
 unfolding def.residualRow
 returns-2 c = rw (sym (c .before .acts .ensures) ∙ c .if1 .left)
