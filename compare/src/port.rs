@@ -27,6 +27,7 @@ pub struct Joins {
 /// What a solve is lent: the problem, and the buffers that it fills. The
 /// answer's counts are outcome (0 solved, 1 growth, 2 pass, 3 sweep), sweeps,
 /// exact passes, converged, exact, idle and the number of rows listed.
+#[cfg_attr(not(port_solve), allow(dead_code))]
 pub struct Lent<'a> {
     pub w: &'a [f64],
     pub u_free: &'a [f64],
