@@ -6,7 +6,6 @@ ghost use Rattle.floats.specs.Sqrt as root;
 ghost use Rattle.report.specs.Joins as join;
 ghost use Rattle.capi.specs.LeastNorm as least;
 ghost use Rattle.capi.specs.Reports as def;
-
 use least_norm::LeastNorm;
 use least_norm::Outcome;
 
