@@ -1,5 +1,5 @@
 -- The exact pass at a checkpoint, as the code goes through it.
-use Prim.Native.Nat.{ℕ, zero, suc, _+_, _*_, _≤_}
+use Prim.Native.Nat.{ℕ, zero, suc, _+_, _≤_}
 use mathlib.Core.Path.{_≡_, refl, sym, ap, _∙_}
 use mathlib.Core.Bool.{true, false}
 use mathlib.Core.List.{List}
@@ -45,10 +45,10 @@ settled-is k passes nu st (fighting r t) q e nu₁ st′ q′ g nu′ l h f n =
     record { standing = rw (f, h .answer); stood = rw (f, x, states-are (h .tried)); listed = h .listed }
 
 -- a pass from a copy of the multipliers
-pub attempt-is : (p : Problem) (k passes : ℕ) (nu : List Float) (st : List ℕ) (tried tried₁ tried₂ : List Float) (mat room : ℕ) (e : Exact) (q st′ q′ : List ℕ) (g : Progress) (nu′ : List Float) → length tried ≡ length nu → rows p ≤ 32 → rows p * rows p ≤ mat → 1056 ≤ room → tried₁ ≡ pasted nu tried → length tried₂ ≡ length tried₁ → E.PassReplied (E.passNumber (rows p) mat room) (E.exactPass p st tried₁) e tried₁ tried₂ st st′ q q′ → g ≡ S.settledOf e k (passes + 1) → nu′ ≡ S.settledNu e tried₂ nu → Ran (D.passed k (stand nu st passes) (E.exactPass p st nu)) q g nu′ st′ q′
-attempt-is p k passes nu st tried tried₁ tried₂ mat room e q st′ q′ g nu′ l few sq rm c same r f n =
+pub attempt-is : (p : Problem) (k passes : ℕ) (nu : List Float) (st : List ℕ) (tried tried₁ tried₂ : List Float) (room : ℕ) (e : Exact) (q st′ q′ : List ℕ) (g : Progress) (nu′ : List Float) → length tried ≡ length nu → rows p ≤ 32 → 1056 ≤ room → tried₁ ≡ pasted nu tried → length tried₂ ≡ length tried₁ → E.PassReplied (E.passNumber (rows p) room) (E.exactPass p st tried₁) e tried₁ tried₂ st st′ q q′ → g ≡ S.settledOf e k (passes + 1) → nu′ ≡ S.settledNu e tried₂ nu → Ran (D.passed k (stand nu st passes) (E.exactPass p st nu)) q g nu′ st′ q′
+attempt-is p k passes nu st tried tried₁ tried₂ room e q st′ q′ g nu′ l few rm c same r f n =
     let x : tried₁ ≡ nu = c ∙ front-whole nu tried l in
-    let y : Passed (E.exactPass p st tried₁) q e tried₂ st′ q′ = rw (number-none (rows p) mat room few sq rm) at r in
+    let y : Passed (E.exactPass p st tried₁) q e tried₂ st′ q′ = rw (number-none (rows p) room few rm) at r in
     settled-is k passes nu st (E.exactPass p st nu) q e tried₂ st′ q′ g nu′ (same ∙ ap length x) (rw x at y) (rw (add-one passes) at f) n
 
 module _ (cap : ℕ) (p : Problem) (k : ℕ) (nu : List Float) (st : List ℕ) (passes : ℕ) (q : List ℕ) where

@@ -1,5 +1,5 @@
 -- The sweeps of a solve, as their loop makes them: each turn from where the one before left off, until one ends the solve.
-use Prim.Native.Nat.{ℕ, zero, suc, _+_, _*_, _≤_, _<_}
+use Prim.Native.Nat.{ℕ, zero, suc, _+_, _≤_, _<_}
 use mathlib.Core.Path.{_≡_, refl, sym, ap, _∙_}
 use mathlib.Core.Bool.{Bool, true, false, true≢false}
 use mathlib.Core.List.{List}
@@ -45,22 +45,20 @@ module _ (cap : ℕ) (p : Problem) (m : Watch) (s : Stand) where
   run-done j n nu st passes q q′ h f a b = let e : j ≡ n = omega arith in rw (← e, h) (record { standing = refl; stood = refl; listed = f })
 
 -- the lengths of what a run is lent stay
-pub record Kept (st₀ st : List ℕ) (nu₀ nu before₀ before tried₀ tried y₀ y m₀ m : List Float) (q₀ q : List ℕ) (work₀ work : List Float) : Type 0 where
+pub record Kept (st₀ st : List ℕ) (nu₀ nu before₀ before tried₀ tried y₀ y : List Float) (q₀ q : List ℕ) (work₀ work : List Float) : Type 0 where
   pub of-states : length st ≡ length st₀
   pub of-nu : length nu ≡ length nu₀
   pub of-before : length before ≡ length before₀
   pub of-tried : length tried ≡ length tried₀
   pub of-y : length y ≡ length y₀
-  pub of-m : length m ≡ length m₀
   pub of-rows : length q ≡ length q₀
   pub of-work : length work ≡ length work₀
 
-pub kept-passable : {n : ℕ} {st₀ st : List ℕ} {nu₀ nu before₀ before tried₀ tried y₀ y m₀ m : List Float} {q₀ q : List ℕ} {work₀ work : List Float} {none : ℕ} (passes : ℕ) → S.Passable n nu₀ tried₀ m₀ work₀ none → Kept st₀ st nu₀ nu before₀ before tried₀ tried y₀ y m₀ m q₀ q work₀ work → passes < 0xffff_ffff → S.Passable n nu tried m work passes
+pub kept-passable : {n : ℕ} {st₀ st : List ℕ} {nu₀ nu before₀ before tried₀ tried y₀ y : List Float} {q₀ q : List ℕ} {work₀ work : List Float} {none : ℕ} (passes : ℕ) → S.Passable n nu₀ tried₀ work₀ none → Kept st₀ st nu₀ nu before₀ before tried₀ tried y₀ y q₀ q work₀ work → passes < 0xffff_ffff → S.Passable n nu tried work passes
 kept-passable passes r k h =
     record {
       few = r .few;
       copied = k .of-tried ∙ r .copied ∙ sym (k .of-nu);
-      matrix = omega (arith, r .matrix, k .of-m);
       room = omega (arith, r .room, k .of-work);
       count = h;
     }

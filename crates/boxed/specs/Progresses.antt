@@ -1,5 +1,5 @@
 -- What the code tells of a run between two sweeps, and what it leaves. Definitions only.
-use Prim.Native.Nat.{ℕ, _*_, _≤_, _<_}
+use Prim.Native.Nat.{ℕ, _≤_, _<_}
 use mathlib.Core.Path.{_≡_}
 use mathlib.Core.Bool.{Bool, true, false, cond}
 use mathlib.Core.List.{List}
@@ -7,6 +7,7 @@ use lib.Dec.{eqb}
 use lib.ListN.{length}
 use lib.Ieee.{Float}
 use Rattle.loops.specs.Loops.{fronted, pasted}
+use Rattle.sweep.specs.Rows.{Problem, rows, shown}
 use Rattle.exact_pass.specs.declared.Exact.{Exact}
 use Rattle.exact_pass.specs.declared.Exact.the-variants as ways
 use Rattle.boxed.specs.declared.Cause.{Cause}
@@ -14,7 +15,9 @@ use Rattle.boxed.specs.declared.Cause.the-variants as cause
 use Rattle.boxed.specs.declared.Standing.{Standing}
 use Rattle.boxed.specs.declared.Standing.the-variants as stands
 use Rattle.boxed.specs.declared.Progress.{Progress}
-use Rattle.boxed.specs.Solves.{Run, going, ended, Ending, exact, still, fight, Stand, stand}
+use Rattle.boxed.specs.declared.BoxAnswer.{BoxAnswer}
+use Rattle.boxed.specs.declared.BoxAnswer.the-variants.{Solved, Infeasible}
+use Rattle.boxed.specs.Solves.{Run, going, ended, Ending, exact, still, fight, Stand, stand, Result, answerOf, reportOf}
 
 abbrev pub standingOf : Run → Standing
 standingOf (going s) = stands.Going
@@ -71,9 +74,31 @@ unfoldable pub settledNu : Exact → List Float → List Float → List Float
 settledNu e tried nu = cond (isFound e) (pasted tried nu) nu
 
 -- room for a pass over n rows, and for one more in the count
-pub record Passable (n : ℕ) (nu tried m work : List Float) (passes : ℕ) : Type 0 where
+pub record Passable (n : ℕ) (nu tried work : List Float) (passes : ℕ) : Type 0 where
   pub few : n ≤ 32
   pub copied : length tried ≡ length nu
-  pub matrix : n * n ≤ length m
   pub room : 1056 ≤ length work
   pub count : passes < 0xffff_ffff
+
+-- ---- the end of a solve
+
+-- what a solve answers that stands so after its last sweep
+abbrev pub finishedAnswer : ℕ → Problem → ℕ → Standing → Stand → BoxAnswer
+finishedAnswer cap p idle stands.Going s = Solved (reportOf p idle cap false false s)
+finishedAnswer cap p idle (stands.Still k) s = Solved (reportOf p idle k true false s)
+finishedAnswer cap p idle (stands.Exact k) s = Solved (reportOf p idle k true true s)
+finishedAnswer cap p idle (stands.Fight k c n) s = Infeasible c n (reportOf p idle k false false s)
+
+-- the states that it leaves
+abbrev pub finishedStates : Problem → Standing → Stand → List ℕ
+finishedStates p stands.Going s = shown p (s .nu) (s .states) (rows p)
+finishedStates p (stands.Still k) s = shown p (s .nu) (s .states) (rows p)
+finishedStates p (stands.Exact k) s = s .states
+finishedStates p (stands.Fight k c n) s = s .states
+
+-- a call's answer and what it leaves in the multipliers, the states and the row list are those of a result
+pub record Left (x : Result) (r : BoxAnswer) (nu : List Float) (st q : List ℕ) : Type 0 where
+  pub answer : r ≡ answerOf (x .outcome)
+  pub multipliers : nu ≡ x .nu
+  pub states : st ≡ x .states
+  pub listed : q ≡ x .listed

@@ -11,6 +11,9 @@ ghost use Rattle.boxed.specs.Progresses as progress;
 // Refusals 5 to 10 of a solve.
 mod refusal;
 
+// The end of a solve.
+mod ending;
+
 // The most sweeps one solve runs.
 pub const SWEEP_CAP: u32 = 200;
 
@@ -218,17 +221,16 @@ fn attempt(
     states: &mut [u8],
     nu: &mut [f64],
     trial: &mut [f64],
-    m: &mut [f64],
     rows: &mut [usize],
     work: &mut [f64],
     k: u32,
     passes: u32,
 ) -> Progress
-    requires { ⌜ progress.Passable (length (now «u_free»)) (now nu) (now trial) (now m) (now work) passes ⌝ }
+    requires { ⌜ progress.Passable (length (now «u_free»)) (now nu) (now trial) (now work) passes ⌝ }
     ensures { λ r. ⌜ progress.Ran (def.passed k (def.stand (now (nu .entry)) (now (states .entry)) passes) (pass.exactPass (box.problem (now (w .entry)) (now («u_free» .entry)) (now (lo .entry)) (now (hi .entry)) (now (scale .entry))) (now (states .entry)) (now (nu .entry)))) (now (rows .entry)) r (now (nu .exit)) (now (states .exit)) (now (rows .exit)) × (r .passes ≤ passes + 1) × (drop 1056 (now (work .exit)) ≡ drop 1056 (now (work .entry))) ⌝ }
 {
     cells::copy(nu, trial);
-    let e = exact_pass::exact_pass(w, u_free, lo, hi, scale, states, trial, m, rows, work);
+    let e = exact_pass::exact_pass(w, u_free, lo, hi, scale, states, trial, rows, work);
     settle(e, k, trial, nu, passes + 1)
 }
 
@@ -243,13 +245,12 @@ fn check(
     states: &mut [u8],
     nu: &mut [f64],
     trial: &mut [f64],
-    m: &mut [f64],
     rows: &mut [usize],
     work: &mut [f64],
     k: u32,
     passes: u32,
 ) -> Progress
-    requires { ⌜ progress.Passable (length (now «u_free»)) (now nu) (now trial) (now m) (now work) passes ⌝ }
+    requires { ⌜ progress.Passable (length (now «u_free»)) (now nu) (now trial) (now work) passes ⌝ }
     ensures { λ r. ⌜ progress.Ran (def.checked cap (box.problem (now (w .entry)) (now («u_free» .entry)) (now (lo .entry)) (now (hi .entry)) (now (scale .entry))) k (def.going (def.stand (now (nu .entry)) (now (states .entry)) passes))) (now (rows .entry)) r (now (nu .exit)) (now (states .exit)) (now (rows .exit)) × (r .passes ≤ passes + 1) × (drop 1056 (now (work .exit)) ≡ drop 1056 (now (work .entry))) ⌝ }
 {
     if checkpoint(cap, k) {
@@ -262,7 +263,6 @@ fn check(
             states,
             nu,
             trial,
-            m,
             rows,
             work,
             k,
@@ -292,13 +292,12 @@ fn after(
     nu: &mut [f64],
     trial: &mut [f64],
     y: &mut [f64],
-    m: &mut [f64],
     rows: &mut [usize],
     work: &mut [f64],
     k: u32,
     passes: u32,
 ) -> Progress
-    requires { ⌜ progress.Passable (length (now «u_free»)) (now nu) (now trial) (now m) (now work) passes × (length (now y) ≡ length (now «u_free»)) ⌝ }
+    requires { ⌜ progress.Passable (length (now «u_free»)) (now nu) (now trial) (now work) passes × (length (now y) ≡ length (now «u_free»)) ⌝ }
     ensures { λ r. ⌜ progress.Ran (def.tested (box.problem (now (w .entry)) (now («u_free» .entry)) (now (lo .entry)) (now (hi .entry)) (now (scale .entry))) (def.watch (now (motion .entry)) tolerance) k (now (before .entry)) (def.checked cap (box.problem (now (w .entry)) (now («u_free» .entry)) (now (lo .entry)) (now (hi .entry)) (now (scale .entry))) k (def.going (def.stand (now (nu .entry)) (now (states .entry)) passes)))) (now (rows .entry)) r (now (nu .exit)) (now (states .exit)) (now (rows .exit)) × (r .passes ≤ passes + 1) × (drop 1056 (now (work .exit)) ≡ drop 1056 (now (work .entry))) ⌝ }
 {
     let c = check(
@@ -311,7 +310,6 @@ fn after(
         states,
         nu,
         trial,
-        m,
         rows,
         work,
         k,
@@ -355,13 +353,12 @@ fn turn(
     before: &mut [f64],
     trial: &mut [f64],
     y: &mut [f64],
-    m: &mut [f64],
     rows: &mut [usize],
     work: &mut [f64],
     k: u32,
     passes: u32,
 ) -> Progress
-    requires { ⌜ progress.Passable (length (now «u_free»)) (now nu) (now trial) (now m) (now work) passes × (length (now y) ≡ length (now «u_free»)) × (length (now before) ≡ length (now nu)) × (k < 0xffff_ffff) ⌝ }
+    requires { ⌜ progress.Passable (length (now «u_free»)) (now nu) (now trial) (now work) passes × (length (now y) ≡ length (now «u_free»)) × (length (now before) ≡ length (now nu)) × (k < 0xffff_ffff) ⌝ }
     ensures { λ r. ⌜ progress.Ran (def.turn cap (box.problem (now (w .entry)) (now («u_free» .entry)) (now (lo .entry)) (now (hi .entry)) (now (scale .entry))) (def.watch (now (motion .entry)) tolerance) k (def.going (def.stand (now (nu .entry)) (now (states .entry)) passes))) (now (rows .entry)) r (now (nu .exit)) (now (states .exit)) (now (rows .exit)) × (r .passes ≤ passes + 1) × (drop 1056 (now (work .exit)) ≡ drop 1056 (now (work .entry))) ⌝ }
 {
     cells::copy(nu, before);
@@ -384,7 +381,6 @@ fn turn(
             nu,
             trial,
             y,
-            m,
             rows,
             work,
             j,
@@ -409,11 +405,10 @@ fn run(
     before: &mut [f64],
     trial: &mut [f64],
     y: &mut [f64],
-    m: &mut [f64],
     rows: &mut [usize],
     work: &mut [f64],
 ) -> Progress
-    requires { ⌜ progress.Passable (length (now «u_free»)) (now nu) (now trial) (now m) (now work) 0 × (length (now y) ≡ length (now «u_free»)) × (length (now before) ≡ length (now nu)) ⌝ }
+    requires { ⌜ progress.Passable (length (now «u_free»)) (now nu) (now trial) (now work) 0 × (length (now y) ≡ length (now «u_free»)) × (length (now before) ≡ length (now nu)) ⌝ }
     ensures { λ r. ⌜ progress.Ran (def.run cap (box.problem (now (w .entry)) (now («u_free» .entry)) (now (lo .entry)) (now (hi .entry)) (now (scale .entry))) (def.watch (now (motion .entry)) tolerance) (def.stand (now (nu .entry)) (now (states .entry)) 0) cap) (now (rows .entry)) r (now (nu .exit)) (now (states .exit)) (now (rows .exit)) × (drop 1056 (now (work .exit)) ≡ drop 1056 (now (work .entry))) ⌝ }
 {
     let mut passes: u32 = 0;
@@ -433,7 +428,6 @@ fn run(
             before,
             trial,
             y,
-            m,
             rows,
             work,
             k,
@@ -452,36 +446,7 @@ fn run(
     }
 }
 
-// ---- the report
-
-// The report of a solve that ended at sweep k.
-fn report(
-    w: &[f64],
-    u_free: &[f64],
-    lo: &[f64],
-    hi: &[f64],
-    scale: &[f64],
-    states: &[u8],
-    nu: &[f64],
-    passes: u32,
-    k: u32,
-    converged: bool,
-    exact: bool,
-    idle: u32,
-) -> BoxReport
-    ensures { λ r. ⌜ r ≡ def.reportOf (box.problem (now (w .entry)) (now («u_free» .entry)) (now (lo .entry)) (now (hi .entry)) (now (scale .entry))) idle k converged exact (def.stand (now (nu .entry)) (now (states .entry)) passes) ⌝ }
-{
-    BoxReport {
-        sweeps: k,
-        exact_passes: passes,
-        converged,
-        exact,
-        residual: sweep::residual(w, u_free, lo, hi, scale, states, nu),
-        idle,
-    }
-}
-
-// ---- the start, and the rows handed back
+// ---- the whole
 
 // The multipliers and states before the first sweep; how many rows are Idle.
 fn start(w: &[f64], n: usize, lo: &[f64], hi: &[f64], states: &mut [u8], nu: &mut [f64]) -> usize
@@ -490,6 +455,154 @@ fn start(w: &[f64], n: usize, lo: &[f64], hi: &[f64], states: &mut [u8], nu: &mu
     sweep::begin(w, n, lo, hi, nu);
     sweep::mark(w, n, states);
     sweep::idle(w, n)
+}
+
+// All rows Idle: nothing to solve.
+fn nothing(idle: u32) -> BoxReport
+    ensures { λ r. ⌜ r ≡ def.nothing idle ⌝ }
+{
+    BoxReport {
+        sweeps: 0,
+        exact_passes: 0,
+        converged: true,
+        exact: true,
+        residual: 0.0,
+        idle,
+    }
+}
+
+// The sweeps of a solve and its end, over scratch of its own. So many rows are Idle, not all.
+fn sweeps_from(
+    w: &[f64],
+    u_free: &[f64],
+    lo: &[f64],
+    hi: &[f64],
+    scale: &[f64],
+    motion: &[f64],
+    tolerance: f64,
+    states: &mut [u8],
+    nu: &mut [f64],
+    rows: &mut [usize],
+    work: &mut [f64],
+    idle: u32,
+) -> BoxAnswer
+    requires { ⌜ (length (now «u_free») ≤ 32) × (length (now nu) ≡ length (now «u_free»)) × (1056 ≤ length (now work)) ⌝ }
+    ensures { λ r. ⌜ progress.Left (def.result def.SWEEP_CAP (box.problem (now (w .entry)) (now («u_free» .entry)) (now (lo .entry)) (now (hi .entry)) (now (scale .entry))) idle (now (rows .entry)) (def.run def.SWEEP_CAP (box.problem (now (w .entry)) (now («u_free» .entry)) (now (lo .entry)) (now (hi .entry)) (now (scale .entry))) (def.watch (now (motion .entry)) tolerance) (def.stand (now (nu .entry)) (now (states .entry)) 0) def.SWEEP_CAP)) r (now (nu .exit)) (now (states .exit)) (now (rows .exit)) × (drop 1056 (now (work .exit)) ≡ drop 1056 (now (work .entry))) ⌝ }
+{
+    let n = u_free.len();
+    let mut before = [0.0f64; 32];
+    let mut trial = [0.0f64; 32];
+    let mut y = [0.0f64; 32];
+    let g = run(
+        SWEEP_CAP,
+        w,
+        u_free,
+        lo,
+        hi,
+        scale,
+        motion,
+        tolerance,
+        states,
+        nu,
+        &mut before[..n],
+        &mut trial[..n],
+        &mut y[..n],
+        rows,
+        work,
+    );
+    let s = g.standing;
+    ending::finish(
+        SWEEP_CAP,
+        w,
+        u_free,
+        lo,
+        hi,
+        scale,
+        states,
+        nu,
+        s,
+        g.passes,
+        idle,
+    )
+}
+
+// The solve of a call that is not refused.
+fn solve_in(
+    w: &[f64],
+    u_free: &[f64],
+    lo: &[f64],
+    hi: &[f64],
+    scale: &[f64],
+    motion: &[f64],
+    tolerance: f64,
+    nu: &mut [f64],
+    states: &mut [u8],
+    rows: &mut [usize],
+    work: &mut [f64],
+) -> BoxAnswer
+    requires { ⌜ (length (now «u_free») ≤ 32) × (length (now nu) ≡ length (now «u_free»)) × (1056 ≤ length (now work)) ⌝ }
+    ensures { λ r. ⌜ progress.Left (def.solve def.SWEEP_CAP (box.problem (now (w .entry)) (now («u_free» .entry)) (now (lo .entry)) (now (hi .entry)) (now (scale .entry))) (def.watch (now (motion .entry)) tolerance) (now (nu .entry)) (now (states .entry)) (now (rows .entry))) r (now (nu .exit)) (now (states .exit)) (now (rows .exit)) × (drop 1056 (now (work .exit)) ≡ drop 1056 (now (work .entry))) ⌝ }
+{
+    let n = u_free.len();
+    let idle = start(w, n, lo, hi, states, nu);
+    if idle == n {
+        return BoxAnswer::Solved(nothing(idle as u32));
+    }
+    sweeps_from(
+        w,
+        u_free,
+        lo,
+        hi,
+        scale,
+        motion,
+        tolerance,
+        states,
+        nu,
+        rows,
+        work,
+        idle as u32,
+    )
+}
+
+pub struct BoxSolver {}
+
+impl BoxSolver {
+    // From the multipliers in nu, those that solve the problem, in their place, with a state for each row; or the rows that fight at the front of the row
+    // list; or document 01's number, and nothing is changed. The first 2,304 values of the workspace are free afterwards.
+    pub fn solve(
+        w: &[f64],
+        u_free: &[f64],
+        lo: &[f64],
+        hi: &[f64],
+        scale: &[f64],
+        motion: &[f64],
+        tolerance: f64,
+        nu: &mut [f64],
+        states: &mut [u8],
+        rows: &mut [usize],
+        workspace: &mut [f64],
+    ) -> BoxAnswer
+        ensures { λ r. ⌜ progress.Left (def.solveReply (box.problem (now (w .entry)) (now («u_free» .entry)) (now (lo .entry)) (now (hi .entry)) (now (scale .entry))) (def.watch (now (motion .entry)) tolerance) (now (nu .entry)) (now (states .entry)) (now (rows .entry)) (length (now (workspace .entry)))) r (now (nu .exit)) (now (states .exit)) (now (rows .exit)) × (drop 2304 (now (workspace .exit)) ≡ drop 2304 (now (workspace .entry))) ⌝ }
+    {
+        let room = workspace.len();
+        let number = refusal::refusal(w, u_free, lo, hi, scale, motion, nu, states, rows, room);
+        if number != 0 {
+            return BoxAnswer::Refused(number);
+        }
+        solve_in(
+            w,
+            u_free,
+            lo,
+            hi,
+            scale,
+            motion,
+            tolerance,
+            nu,
+            states,
+            rows,
+            workspace,
+        )
+    }
 }
 
 // The rows that fight: the filled front of the row list, of which an infeasible answer tells the length.

@@ -16,7 +16,8 @@ use Rattle.boxed.specs.Solves.{Outcome, refused, solved, infeasible, reply, sol
 use Rattle.boxed.specs.declared.BoxReport.{BoxReport}
 use Rattle.tally.specs.Tally.{Call, number, alone, turned, kept, joinedTo, full, numberOn, answerOn, Tallied, with, tallied, before, all}
 use Rattle.demand3.specs.Demand.{reportIn, reported, sumOf}
-use Rattle.demand3.proofs.Solves.{Modest, Reported, or-false}
+use Rattle.demand3.proofs.Solves.{Modest, Reported}
+use Rattle.boxed.proofs.Accepting.{or-false}
 
 -- ---- the tally with every report added, whatever the counts come to
 

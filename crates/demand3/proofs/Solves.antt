@@ -26,6 +26,7 @@ use Rattle.sweep.specs.Rows.{Problem, rows, W, state, acts, cannotAct, idleRow,
 use Rattle.sweep.specs.Rows as D
 use Rattle.moves.specs.Moves.{wrong}
 use Rattle.boxed.specs.Solves.{exact, still, fight, Stand, Run, going, ended, Watch, run, Outcome, refused, solved, infeasible, Result, reportOf, unfound, result, nothing, begin, solveFrom, solve, goodScaleAt, first, refusal, reply, solveReply, SWEEP_CAP}
+use Rattle.boxed.proofs.Accepting.{Accepted, accepted}
 use Rattle.boxed.specs.declared.BoxReport.{BoxReport}
 use Rattle.boxed.specs.declared.Cause.{Cause}
 use Rattle.boxed.specs.declared.Cause.the-variants as cause
@@ -75,49 +76,6 @@ acts-is-above : (d : Float) → cannotAct d ≡ false → above d ≡ true
 unfolding cannotAct isNaN
 acts-is-above d h = acting-above d h
 
--- ---- what is not refused
-
-first-false : (c : Bool) (k : ℕ) (l : List (Bool × ℕ)) → first ((c, suc k) ∷ l) ≡ 0 → (c ≡ false) × (first l ≡ 0)
-first-false true k l h = absurd (omega arith)
-first-false false k l h = (refl, h)
-
-pub or-false : (a b : Bool) → a || b ≡ false → (a ≡ false) × (b ≡ false)
-or-false true b h = absurd (true≢false h)
-or-false false b h = (refl, h)
-
-record Accepted (p : Problem) (nu : List Float) (st l : List ℕ) : Type 0 where
-  few : rows p ≤ 32
-  square : length (p .w) ≡ rows p * rows p
-  nus : length nu ≡ rows p
-  states : rows p ≤ length st
-  listed : rows p ≤ length l
-
--- all six tests fail
-six : (a b c d e f : Bool) → first ((a, 5) ∷ (b, 6) ∷ (c, 7) ∷ (d, 8) ∷ (e, 9) ∷ (f, 10) ∷ []) ≡ 0 → (a ≡ false) × (b ≡ false) × (c ≡ false) × (f ≡ false)
-six a b c d e f h =
-    let h5 = first-false a 4 ((b, 6) ∷ (c, 7) ∷ (d, 8) ∷ (e, 9) ∷ (f, 10) ∷ []) h in
-    let h6 = first-false b 5 ((c, 7) ∷ (d, 8) ∷ (e, 9) ∷ (f, 10) ∷ []) (h5 .1) in
-    let h7 = first-false c 6 ((d, 8) ∷ (e, 9) ∷ (f, 10) ∷ []) (h6 .1) in
-    let h8 = first-false d 7 ((e, 9) ∷ (f, 10) ∷ []) (h7 .1) in
-    let h9 = first-false e 8 ((f, 10) ∷ []) (h8 .1) in
-    (h5 .0, h6 .0, h7 .0, first-false f 9 [] (h9 .1) .0)
-
-accepted : (p : Problem) (motion nu : List Float) (st l : List ℕ) (room : ℕ) → refusal p motion nu st l room ≡ 0 → Accepted p nu st l
-unfolding refusal
-accepted p motion nu st l room h =
-    let n = rows p in
-    let lengths = eqb (length (p .lo)) n && eqb (length (p .hi)) n && eqb (length (p .scale)) n in
-    let g = six (ltb 32 n || ltb 2048 (length motion)) (not (eqb (length (p .w)) (n * n))) (not (lengths && eqb (length nu) n))
-    (not (every (goodScaleAt (p .scale)) n)) (ltb 0 n && not (eqb (length motion % n) 0)) (ltb room 2304 || ltb (length st) n || ltb (length l) n) h in
-    let ten = or-false (ltb room 2304 || ltb (length st) n) (ltb (length l) n) (g .3) in
-    record {
-      few = ltb-false 32 n (or-false (ltb 32 n) (ltb 2048 (length motion)) (g .0) .0);
-      square = eqb-true (length (p .w)) (n * n) (not-false (eqb (length (p .w)) (n * n)) (g .1));
-      nus = eqb-true (length nu) n (both-true lengths (eqb (length nu) n) (not-false (lengths && eqb (length nu) n) (g .2)) .1);
-      states = ltb-false (length st) n (or-false (ltb room 2304) (ltb (length st) n) (ten .0) .1);
-      listed = ltb-false (length l) n (ten .1);
-    }
-
 -- ---- what is known of a report
 
 pub record Modest (r : BoxReport) : Type 0 where
@@ -149,7 +107,7 @@ ended-below : (k j : ℕ) → 0 < j → j ≤ 200 → k ≡ notAbove (j - 1) →
 ended-below k zero h b e = absurd (not-suc-le-zero h)
 ended-below k (suc j) h b e = let g : suc j - 1 ≡ j = omega arith in e ∙ ap notAbove g ∙ sym (below-is j b)
 
-module _ (c : Call) (zeroth : number c ≡ 0) (fair : Upright (c .problem)) (ok : Accepted (c .problem) (c .nu) (c .states) (c .listed)) where
+module _ (c : Call) (zeroth : number c ≡ 0) (fair : Upright (c .problem)) (ok : Accepted (c .problem) (c .nu) (c .states) (c .listed) (c .room)) where
   abbrev p : Problem
   p = c .problem
 
@@ -316,11 +274,11 @@ unfolding idleState
 not-bound true s v e f g h = g (sym f ∙ e)
 not-bound false s v e f g h = h (sym f ∙ e)
 
-start-stands : (p : Problem) (nu : List Float) (st l : List ℕ) → Accepted p nu st l → Stands p (marked p st (rows p)) (begun p nu (rows p)) 0 0 (begin p nu st)
+start-stands : (p : Problem) (nu : List Float) (st l : List ℕ) {room : ℕ} → Accepted p nu st l room → Stands p (marked p st (rows p)) (begun p nu (rows p)) 0 0 (begin p nu st)
 unfolding begin sweptAlone
 start-stands p nu st l ok = record { marks = marked-marks p st (ok .states); boxed = begun-boxed p nu (le-of-eq (sym (ok .nus))); passes = sym due-zero; alone = refl }
 
-solve-modest : (p : Problem) (m : Watch) (nu : List Float) (st l : List ℕ) → Accepted p nu st l → Reported Modest (solve SWEEP_CAP p m nu st l .outcome)
+solve-modest : (p : Problem) (m : Watch) (nu : List Float) (st l : List ℕ) {room : ℕ} → Accepted p nu st l room → Reported Modest (solve SWEEP_CAP p m nu st l .outcome)
 unfolding solve solveFrom
 solve-modest p m nu st l ok = go (length (idleRows p (rows p))) (begin p nu st) (start-stands p nu st l ok) (eqb (length (idleRows p (rows p))) (rows p))
   where
@@ -331,7 +289,7 @@ solve-modest p m nu st l ok = go (length (idleRows p (rows p))) (begin p nu st) 
         (run-runs p m (marked p st (rows p)) (begun p nu (rows p)) s (marked-marks p st (ok .states)) h)
 
 -- all rows Idle: no row is on a bound, and every multiplier is as the clamp put it
-still-claims : (c : Call) → number c ≡ 0 → Upright (c .problem) → (ok : Accepted (c .problem) (c .nu) (c .states) (c .listed)) → (idle : ℕ)
+still-claims : (c : Call) → number c ≡ 0 → Upright (c .problem) → (ok : Accepted (c .problem) (c .nu) (c .states) (c .listed) (c .room)) → (idle : ℕ)
     → Claims c (record { outcome = solved (nothing idle); nu = begin (c .problem) (c .nu) (c .states) .nu; states = begin (c .problem) (c .nu) (c .states) .states; listed = c .listed })
 unfolding begin inBox sweptAlone passesMade
 still-claims c z fair ok idle =
@@ -354,7 +312,7 @@ still-claims c z fair ok idle =
       },
     )
 
-solve-claims : (c : Call) → number c ≡ 0 → Upright (c .problem) → Accepted (c .problem) (c .nu) (c .states) (c .listed)
+solve-claims : (c : Call) → number c ≡ 0 → Upright (c .problem) → Accepted (c .problem) (c .nu) (c .states) (c .listed) (c .room)
     → Claims c (solve SWEEP_CAP (c .problem) (c .watch) (c .nu) (c .states) (c .listed))
 unfolding solve solveFrom
 solve-claims c z fair ok = go (length (idleRows (c .problem) (rows (c .problem)))) (eqb (length (idleRows (c .problem) (rows (c .problem)))) (rows (c .problem)))
@@ -375,7 +333,7 @@ solve-claims c z fair ok = go (length (idleRows (c .problem) (rows (c .problem))
 
 -- ---- a call
 
-is-accepted : (c : Call) → number c ≡ 0 → Accepted (c .problem) (c .nu) (c .states) (c .listed)
+is-accepted : (c : Call) → number c ≡ 0 → Accepted (c .problem) (c .nu) (c .states) (c .listed) (c .room)
 is-accepted c e = accepted (c .problem) (c .watch .motion) (c .nu) (c .states) (c .listed) (c .room) e
 
 reply-modest : (c : Call) (k : ℕ) → number c ≡ k → Reported Modest (reply SWEEP_CAP (c .problem) (c .watch) (c .nu) (c .states) (c .listed) k .outcome)

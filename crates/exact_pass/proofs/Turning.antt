@@ -4,6 +4,7 @@ use mathlib.Core.Path.{_≡_, refl, sym, ap, _∙_}
 use mathlib.Core.Bool.{Bool, true, false, true≢false}
 use mathlib.Core.List.{List}
 use native.Mathlib.Omega.{arith}
+use native.Mathlib.Nat.{mul-le-mul}
 use native.Mathlib.Numerals.{add-one}
 use lib.ListN.{length}
 use lib.Ieee.{Float}
@@ -89,19 +90,19 @@ unfolding D.exactPass
 shown-is p st nu st₁ e nu′ st′ q q′ h g = rw (← h) g
 
 -- the public call's number
-module _ (n m room : ℕ) where
-  pub number-many : 32 < n → D.passNumber n m room ≡ 5
+module _ (n room : ℕ) where
+  pub number-many : 32 < n → D.passNumber n room ≡ 5
   unfolding D.passNumber
   number-many h = rw (lt-ltb 32 n h)
 
-  pub number-matrix : n ≤ 32 → m < n * n → D.passNumber n m room ≡ 10
+  pub number-room : n ≤ 32 → room < 1056 → D.passNumber n room ≡ 10
   unfolding D.passNumber
-  number-matrix h f = rw (le-ltb 32 n h, lt-ltb m (n * n) f)
+  number-room h g = rw (le-ltb 32 n h, lt-ltb room 1056 g)
 
-  pub number-room : n ≤ 32 → n * n ≤ m → room < 1056 → D.passNumber n m room ≡ 10
+  pub number-none : n ≤ 32 → 1056 ≤ room → D.passNumber n room ≡ 0
   unfolding D.passNumber
-  number-room h f g = rw (le-ltb 32 n h, le-ltb m (n * n) f, lt-ltb room 1056 g)
+  number-none h g = rw (le-ltb 32 n h, le-ltb room 1056 g)
 
-  pub number-none : n ≤ 32 → n * n ≤ m → 1056 ≤ room → D.passNumber n m room ≡ 0
-  unfolding D.passNumber
-  number-none h f g = rw (le-ltb 32 n h, le-ltb m (n * n) f, le-ltb room 1056 g)
+-- the places of a small matrix
+pub small-product : (n : ℕ) → n ≤ 8 → n * n ≤ 64
+small-product n h = omega (arith, mul-le-mul h h)

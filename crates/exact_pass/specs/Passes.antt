@@ -51,9 +51,9 @@ passFrom p st nu = moves p (trial (held p st nu (rows p)) st) (limit st (rows p)
 unfoldable pub exactPass : Problem → List ℕ → List Float → Pass
 exactPass p st nu = passFrom p (shown p nu st (rows p)) nu
 
--- ---- the public call: document 01's number where it is lent too little, 0 where it is not. `m` and `room` are the lengths of the matrix and of the workspace.
-unfoldable pub passNumber : ℕ → ℕ → ℕ → ℕ
-passNumber n m room = cond (ltb 32 n) 5 (cond (ltb m (n * n)) 10 (cond (ltb room 1056) 10 0))
+-- ---- the public call: document 01's number where it is lent too little, 0 where it is not. `room` is the length of the workspace.
+unfoldable pub passNumber : ℕ → ℕ → ℕ
+passNumber n room = cond (ltb 32 n) 5 (cond (ltb room 1056) 10 0)
 
 abbrev pub PassReplied : ℕ → Pass → Exact → List Float → List Float → List ℕ → List ℕ → List ℕ → List ℕ → Type 0
 PassReplied zero p e nu nu′ st st′ r r′ = Passed p r e nu′ st′ r′

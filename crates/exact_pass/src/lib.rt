@@ -417,7 +417,8 @@ fn pass(
     )
 }
 
-// From the multipliers nu, within their boxes, the exact solution, in their place. The matrix m has room for n * n values and the workspace for 1,056.
+// From the multipliers nu, within their boxes, the exact solution, in their place. The workspace has room for 1,056 values. The matrix of the moves is
+// the pass's own, in two sizes: a small problem does not clear the room of a large one.
 pub fn exact_pass(
     w: &[f64],
     u_free: &[f64],
@@ -426,21 +427,22 @@ pub fn exact_pass(
     scale: &[f64],
     states: &mut [u8],
     nu: &mut [f64],
-    m: &mut [f64],
     rows: &mut [usize],
     work: &mut [f64],
 ) -> Exact
-    ensures { λ e. ⌜ def.PassReplied (def.passNumber (length (now («u_free» .entry))) (length (now (m .entry))) (length (now (work .entry)))) (def.exactPass (box.problem (now (w .entry)) (now («u_free» .entry)) (now (lo .entry)) (now (hi .entry)) (now (scale .entry))) (now (states .entry)) (now (nu .entry))) e (now (nu .entry)) (now (nu .exit)) (now (states .entry)) (now (states .exit)) (now (rows .entry)) (now (rows .exit)) × (drop 1056 (now (work .exit)) ≡ drop 1056 (now (work .entry))) ⌝ }
+    ensures { λ e. ⌜ def.PassReplied (def.passNumber (length (now («u_free» .entry))) (length (now (work .entry)))) (def.exactPass (box.problem (now (w .entry)) (now («u_free» .entry)) (now (lo .entry)) (now (hi .entry)) (now (scale .entry))) (now (states .entry)) (now (nu .entry))) e (now (nu .entry)) (now (nu .exit)) (now (states .entry)) (now (states .exit)) (now (rows .entry)) (now (rows .exit)) × (drop 1056 (now (work .exit)) ≡ drop 1056 (now (work .entry))) ⌝ }
 {
     let n = u_free.len();
     if n > 32 {
         return Exact::Refused(5);
     }
-    if m.len() < n * n {
-        return Exact::Refused(10);
-    }
     if work.len() < 1056 {
         return Exact::Refused(10);
     }
-    pass(w, u_free, lo, hi, scale, states, nu, m, rows, work)
+    if n > 8 {
+        let mut large = [0.0f64; 1024];
+        return pass(w, u_free, lo, hi, scale, states, nu, &mut large, rows, work);
+    }
+    let mut small = [0.0f64; 64];
+    pass(w, u_free, lo, hi, scale, states, nu, &mut small, rows, work)
 }

@@ -6,9 +6,6 @@ use Rattle.boxed.proofs.after.Statement.{statement}
 use Rattle.boxed.proofs.after.Tie as tie
 use Rattle.boxed.proofs.after.Reads as reads
 use Rattle.boxed.proofs.after.Lts as lts
-use Rattle.boxed.proofs.check.Reads as check-reads
-use Rattle.boxed.proofs.is_going.Reads as is-going-reads
-use Rattle.boxed.proofs.test.Reads as test-reads
 
 check-requires : tie.Need-check-requires
 check-requires c κs = search needs
@@ -17,7 +14,7 @@ is-going-requires : tie.Need-is-going-requires
 is-going-requires c κs = search needs
 
 test-requires : tie.Need-test-requires
-test-requires c κs = (c .before .before .before .before .before .before .before .before .before .before .before .before .before .before .before .before .before .before .before .before .before .before .before .before .before .before .before .before .before .before .before .before .before .before .before .before .before .before .before .pre .0 .few, omega (arith, c .before .before .before .before .before .before .before .before .before .before .before .before .before .before .before .before .before .before .before .before .before .before .before .before .before .before .before .before .before .before .before .before .before .before .before .before .before .before .before .pre .1))
+test-requires c κs = (c .before .before .before .before .before .before .before .before .before .before .before .before .before .before .before .before .before .before .before .before .before .before .before .before .before .before .before .before .before .before .before .before .before .before .before .pre .0 .few, omega (arith, c .before .before .before .before .before .before .before .before .before .before .before .before .before .before .before .before .before .before .before .before .before .before .before .before .before .before .before .before .before .before .before .before .before .before .before .pre .1))
 
 same-length : tie.Need-same-length
 same-length c = search needs
@@ -37,11 +34,11 @@ same-length-5 c = search needs
 same-length-6 : tie.Need-same-length-6
 same-length-6 c = search needs
 
+returns : tie.Need-returns
+returns c = (after-going _ _ _ _ _ _ _ _ _ _ _ _ _ _ (c .before .before .before .before .before .before .before .before .before .before .before .before .before .before .before .before .before .before .before .before .before .check .ensures .0) (sym (c .before .before .before .before .before .before .before .before .before .before .is-going .ensures) ∙ c .before .before .before .before .before .before .before .before .before .if1 .taken) (c .before .before .before .before .test .ensures .0), omega (arith, c .before .before .before .before .test .ensures .1, c .before .before .before .before .before .before .before .before .before .before .before .before .before .before .before .before .before .before .before .before .before .check .ensures .1), c .before .before .before .before .before .before .before .before .before .before .before .before .before .before .before .before .before .before .before .before .before .check .ensures .2)
+
 same-length-7 : tie.Need-same-length-7
 same-length-7 c = search needs
-
-returns : tie.Need-returns
-returns c = (after-going _ _ _ _ _ _ _ _ _ _ _ _ _ _ (c .before .before .before .before .before .before .before .before .before .before .before .before .before .before .before .before .before .before .before .before .before .before .before .check .ensures .0) (sym (c .before .before .before .before .before .before .before .before .before .before .is-going .ensures) ∙ c .before .before .before .before .before .before .before .before .before .if1 .taken) (c .before .before .before .before .test .ensures .0), omega (arith, c .before .before .before .before .test .ensures .1, c .before .before .before .before .before .before .before .before .before .before .before .before .before .before .before .before .before .before .before .before .before .before .before .check .ensures .1), c .before .before .before .before .before .before .before .before .before .before .before .before .before .before .before .before .before .before .before .before .before .before .before .check .ensures .2)
 
 same-length-8 : tie.Need-same-length-8
 same-length-8 c = search needs
@@ -55,14 +52,8 @@ same-length-10 c = search needs
 same-length-11 : tie.Need-same-length-11
 same-length-11 c = search needs
 
-same-length-12 : tie.Need-same-length-12
-same-length-12 c = search needs
-
-same-length-13 : tie.Need-same-length-13
-same-length-13 c = search needs
-
 returns-2 : tie.Need-returns-2
-returns-2 c = (after-ended _ _ _ _ _ _ _ _ _ _ (c .before .before .before .before .before .before .before .before .before .before .before .before .before .before .check .ensures .0) (sym (c .before .is-going .ensures) ∙ c .if1 .left), c .before .before .before .before .before .before .before .before .before .before .before .before .before .before .check .ensures .1, c .before .before .before .before .before .before .before .before .before .before .before .before .before .before .check .ensures .2)
+returns-2 c = (after-ended _ _ _ _ _ _ _ _ _ _ (c .before .before .before .before .before .before .before .before .before .before .before .before .check .ensures .0) (sym (c .before .is-going .ensures) ∙ c .if1 .left), c .before .before .before .before .before .before .before .before .before .before .before .before .check .ensures .1, c .before .before .before .before .before .before .before .before .before .before .before .before .check .ensures .2)
 
 pub after-spec : {M : Type 1} → statement M
 after-spec =
@@ -77,12 +68,10 @@ after-spec =
     same-length-4
     same-length-5
     same-length-6
-    same-length-7
     returns
+    same-length-7
     same-length-8
     same-length-9
     same-length-10
     same-length-11
-    same-length-12
-    same-length-13
     returns-2)

@@ -5,9 +5,6 @@ use Rattle.boxed.proofs.attempt.Statement.{statement}
 use Rattle.boxed.proofs.attempt.Tie as tie
 use Rattle.boxed.proofs.attempt.Reads as reads
 use Rattle.boxed.proofs.attempt.Lts as lts
-use Rattle.boxed.proofs.settle.Reads as settle-reads
-use Rattle.cells.proofs.copy.Reads as copy-reads
-use Rattle.exact_pass.proofs.exact_pass.Reads as exact-pass-reads
 
 copy-requires : tie.Need-copy-requires
 copy-requires c κs = search needs
@@ -36,11 +33,8 @@ same-length-4 c = search needs
 same-length-5 : tie.Need-same-length-5
 same-length-5 c = search needs
 
-same-length-6 : tie.Need-same-length-6
-same-length-6 c = search needs
-
 returns : tie.Need-returns
-returns c = (attempt-is _ _ _ _ _ (c .before .before .before .before .before .before .before .before .before .before .before .before .before .before .before .before .before .before .before .before .before .before .before .before .before .before .before .before .before .before .before .before .before .before .before .before .before .args .trial .now) _ _ _ _ (c .before .before .before .before .before .before .before .before .before .before .before .before .before .before .before .exact-pass .result) _ _ _ _ _ (c .before .before .before .before .before .before .before .before .before .before .before .before .before .before .before .before .before .before .before .before .before .before .before .before .before .before .before .before .before .before .before .before .before .before .before .before .before .pre .copied) (c .before .before .before .before .before .before .before .before .before .before .before .before .before .before .before .before .before .before .before .before .before .before .before .before .before .before .before .before .before .before .before .before .before .before .before .before .before .pre .few) (c .before .before .before .before .before .before .before .before .before .before .before .before .before .before .before .before .before .before .before .before .before .before .before .before .before .before .before .before .before .before .before .before .before .before .before .before .before .pre .matrix) (c .before .before .before .before .before .before .before .before .before .before .before .before .before .before .before .before .before .before .before .before .before .before .before .before .before .before .before .before .before .before .before .before .before .before .before .before .before .pre .room) (c .before .before .before .before .before .before .before .before .before .before .before .before .before .before .before .before .before .before .before .before .before .before .before .copy .ensures) (omega arith) (c .before .before .before .before .before .before .before .before .before .before .before .before .before .before .before .exact-pass .ensures .0) (c .before .before .settle .ensures .0) (c .before .before .settle .ensures .1), settled-count _ _ _ _ (c .before .before .settle .ensures .0), c .before .before .before .before .before .before .before .before .before .before .before .before .before .before .before .exact-pass .ensures .1)
+returns c = (attempt-is _ _ _ _ _ (c .before .before .before .before .before .before .before .before .before .before .before .before .before .before .before .before .before .before .before .before .before .before .before .before .before .before .before .before .before .before .before .before .before .args .trial .now) _ _ _ (c .before .before .before .before .before .before .before .before .before .before .before .before .before .exact-pass .result) _ _ _ _ _ (c .before .before .before .before .before .before .before .before .before .before .before .before .before .before .before .before .before .before .before .before .before .before .before .before .before .before .before .before .before .before .before .before .before .pre .copied) (c .before .before .before .before .before .before .before .before .before .before .before .before .before .before .before .before .before .before .before .before .before .before .before .before .before .before .before .before .before .before .before .before .before .pre .few) (c .before .before .before .before .before .before .before .before .before .before .before .before .before .before .before .before .before .before .before .before .before .before .before .before .before .before .before .before .before .before .before .before .before .pre .room) (c .before .before .before .before .before .before .before .before .before .before .before .before .before .before .before .before .before .before .before .before .copy .ensures) (omega arith) (c .before .before .before .before .before .before .before .before .before .before .before .before .before .exact-pass .ensures .0) (c .before .before .settle .ensures .0) (c .before .before .settle .ensures .1), settled-count _ _ _ _ (c .before .before .settle .ensures .0), c .before .before .before .before .before .before .before .before .before .before .before .before .before .exact-pass .ensures .1)
 
 pub attempt-spec : {M : Type 1} → statement M
 attempt-spec =
@@ -55,5 +49,4 @@ attempt-spec =
     same-length-3
     same-length-4
     same-length-5
-    same-length-6
     returns)

@@ -6,8 +6,6 @@ use Rattle.boxed.proofs.check.Statement.{statement}
 use Rattle.boxed.proofs.check.Tie as tie
 use Rattle.boxed.proofs.check.Reads as reads
 use Rattle.boxed.proofs.check.Lts as lts
-use Rattle.boxed.proofs.attempt.Reads as attempt-reads
-use Rattle.boxed.proofs.checkpoint.Reads as checkpoint-reads
 
 checkpoint-requires : tie.Need-checkpoint-requires
 checkpoint-requires c κs = search needs
@@ -30,11 +28,8 @@ same-length-4 c = search needs
 same-length-5 : tie.Need-same-length-5
 same-length-5 c = search needs
 
-same-length-6 : tie.Need-same-length-6
-same-length-6 c = search needs
-
 returns : tie.Need-returns
-returns c = (check-tried _ _ _ _ _ _ _ _ _ _ _ (sym (c .before .before .before .before .before .before .before .before .before .before .before .before .before .before .before .before .before .before .before .before .checkpoint .ensures) ∙ c .before .before .before .before .before .before .before .before .before .before .before .before .before .before .before .before .before .before .before .if1 .taken) (c .before .before .before .before .before .before .before .before .before .before .before .before .attempt .ensures .0), c .before .before .before .before .before .before .before .before .before .before .before .before .attempt .ensures .1, c .before .before .before .before .before .before .before .before .before .before .before .before .attempt .ensures .2)
+returns c = (check-tried _ _ _ _ _ _ _ _ _ _ _ (sym (c .before .before .before .before .before .before .before .before .before .before .before .before .before .before .before .before .before .checkpoint .ensures) ∙ c .before .before .before .before .before .before .before .before .before .before .before .before .before .before .before .before .if1 .taken) (c .before .before .before .before .before .before .before .before .before .before .attempt .ensures .0), c .before .before .before .before .before .before .before .before .before .before .attempt .ensures .1, c .before .before .before .before .before .before .before .before .before .before .attempt .ensures .2)
 
 returns-2 : tie.Need-returns-2
 returns-2 c = (check-not _ _ _ _ _ _ _ (sym (c .before .checkpoint .ensures) ∙ c .if1 .left), omega arith, refl)
@@ -50,6 +45,5 @@ check-spec =
     same-length-3
     same-length-4
     same-length-5
-    same-length-6
     returns
     returns-2)

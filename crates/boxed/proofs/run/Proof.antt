@@ -11,20 +11,18 @@ use Rattle.boxed.proofs.run.Statement.{statement}
 use Rattle.boxed.proofs.run.Tie as tie
 use Rattle.boxed.proofs.run.Reads as reads
 use Rattle.boxed.proofs.run.Lts as lts
-use Rattle.boxed.proofs.is_going.Reads as is-going-reads
-use Rattle.boxed.proofs.turn.Reads as turn-reads
 
 abbrev Inv-loop : tie.InvT-loop
-Inv-loop cap w u-free lo hi scale motion tolerance states₀ nu₀ before₀ trial₀ y₀ m₀ rows₀ work₀ passes₀ k₀ states nu before trial y m rows work passes k = (k ≤ cap) × (passes ≤ k) × Kept states₀ states nu₀ nu before₀ before trial₀ trial y₀ y m₀ m rows₀ rows work₀ work × (def.run cap (box.problem w u-free lo hi scale) (def.watch motion tolerance) (def.stand nu₀ states₀ 0) k ≡ def.going (def.stand nu states passes)) × (rows ≡ rows₀) × (drop 1056 work ≡ drop 1056 work₀)
+Inv-loop cap w u-free lo hi scale motion tolerance states₀ nu₀ before₀ trial₀ y₀ rows₀ work₀ passes₀ k₀ states nu before trial y rows work passes k = (k ≤ cap) × (passes ≤ k) × Kept states₀ states nu₀ nu before₀ before trial₀ trial y₀ y rows₀ rows work₀ work × (def.run cap (box.problem w u-free lo hi scale) (def.watch motion tolerance) (def.stand nu₀ states₀ 0) k ≡ def.going (def.stand nu states passes)) × (rows ≡ rows₀) × (drop 1056 work ≡ drop 1056 work₀)
 
 abbrev μ-loop : tie.MeasureT-loop
-μ-loop cap w u-free lo hi scale motion tolerance states₀ nu₀ before₀ trial₀ y₀ m₀ rows₀ work₀ passes₀ k₀ states nu before trial y m rows work passes k = cap - k
+μ-loop cap w u-free lo hi scale motion tolerance states₀ nu₀ before₀ trial₀ y₀ rows₀ work₀ passes₀ k₀ states nu before trial y rows work passes k = cap - k
 
 loop-holds : tie.Need-loop-holds Inv-loop μ-loop
 loop-holds c = (search needs, search needs, search needs, run-start _ _ _ _, search needs, search needs)
 
 turn-requires : tie.Need-turn-requires Inv-loop μ-loop
-turn-requires c κs = (kept-passable (c .before .before .before .before .before .before .before .before .before .loop .passes) (c .before .before .before .before .before .before .before .before .before .before .before .before .before .before .before .before .before .before .before .before .before .before .before .before .pre .0) (c .before .before .before .before .before .before .before .before .before .loop .inv .2) (omega (arith, c .before .before .before .before .before .before .before .before .before .loop .inv .1, c .before .before .before .before .before .before .before .before .loop-test .taken, c .before .before .before .before .before .before .before .before .before .before .before .before .before .before .before .before .before .before .before .before .before .before .before .before .fits .cap)), c .before .before .before .before .before .before .before .before .before .loop .inv .2 .of-y ∙ c .before .before .before .before .before .before .before .before .before .before .before .before .before .before .before .before .before .before .before .before .before .before .before .before .pre .1, c .before .before .before .before .before .before .before .before .before .loop .inv .2 .of-before ∙ c .before .before .before .before .before .before .before .before .before .before .before .before .before .before .before .before .before .before .before .before .before .before .before .before .pre .2 ∙ sym (c .before .before .before .before .before .before .before .before .before .loop .inv .2 .of-nu), omega (arith, c .before .before .before .before .before .before .before .before .loop-test .taken, c .before .before .before .before .before .before .before .before .before .before .before .before .before .before .before .before .before .before .before .before .before .before .before .before .fits .cap))
+turn-requires c κs = (kept-passable (c .before .before .before .before .before .before .before .before .loop .passes) (c .before .before .before .before .before .before .before .before .before .before .before .before .before .before .before .before .before .before .before .before .before .before .pre .0) (c .before .before .before .before .before .before .before .before .loop .inv .2) (omega (arith, c .before .before .before .before .before .before .before .before .loop .inv .1, c .before .before .before .before .before .before .before .loop-test .taken, c .before .before .before .before .before .before .before .before .before .before .before .before .before .before .before .before .before .before .before .before .before .before .fits .cap)), c .before .before .before .before .before .before .before .before .loop .inv .2 .of-y ∙ c .before .before .before .before .before .before .before .before .before .before .before .before .before .before .before .before .before .before .before .before .before .before .pre .1, c .before .before .before .before .before .before .before .before .loop .inv .2 .of-before ∙ c .before .before .before .before .before .before .before .before .before .before .before .before .before .before .before .before .before .before .before .before .before .before .pre .2 ∙ sym (c .before .before .before .before .before .before .before .before .loop .inv .2 .of-nu), omega (arith, c .before .before .before .before .before .before .before .loop-test .taken, c .before .before .before .before .before .before .before .before .before .before .before .before .before .before .before .before .before .before .before .before .before .before .fits .cap))
 
 is-going-requires : tie.Need-is-going-requires Inv-loop μ-loop
 is-going-requires c κs = search needs
@@ -50,20 +48,20 @@ same-length-6 c = search needs
 same-length-7 : tie.Need-same-length-7 Inv-loop μ-loop
 same-length-7 c = search needs
 
-same-length-8 : tie.Need-same-length-8 Inv-loop μ-loop
-same-length-8 c = search needs
-
 returns : tie.Need-returns Inv-loop μ-loop
-returns c = (rw (c .before .before .before .before .before .before .before .before .before .before .before .before .before .before .before .before .before .before .before .before .before .before .before .before .before .before .before .before .loop .inv .4) at (run-stop _ _ _ _ (c .before .before .before .before .before .before .before .before .before .before .before .before .before .before .before .before .before .before .before .before .before .before .before .before .before .before .before .before .loop .k) _ _ (c .before .before .before .before .before .before .before .before .before .before .before .before .before .before .before .before .before .before .turn .result) _ _ _ _ (c .before .before .before .before .before .before .before .before .before .before .before .before .before .before .before .before .before .before .before .before .before .before .before .before .before .before .before .before .loop .inv .3) (c .before .before .before .before .before .before .before .before .before .before .before .before .before .before .before .before .before .before .turn .ensures .0) (sym (c .before .is-going .ensures) ∙ not-true _ (c .if1 .taken)) (c .before .before .before .before .before .before .before .before .before .before .before .before .before .before .before .before .before .before .before .before .before .before .before .before .before .before .before .loop-test .taken)), c .before .before .before .before .before .before .before .before .before .before .before .before .before .before .before .before .before .before .turn .ensures .2 ∙ c .before .before .before .before .before .before .before .before .before .before .before .before .before .before .before .before .before .before .before .before .before .before .before .before .before .before .before .before .loop .inv .5)
+returns c = (rw (c .before .before .before .before .before .before .before .before .before .before .before .before .before .before .before .before .before .before .before .before .before .before .before .before .before .loop .inv .4) at (run-stop _ _ _ _ (c .before .before .before .before .before .before .before .before .before .before .before .before .before .before .before .before .before .before .before .before .before .before .before .before .before .loop .k) _ _ (c .before .before .before .before .before .before .before .before .before .before .before .before .before .before .before .before .turn .result) _ _ _ _ (c .before .before .before .before .before .before .before .before .before .before .before .before .before .before .before .before .before .before .before .before .before .before .before .before .before .loop .inv .3) (c .before .before .before .before .before .before .before .before .before .before .before .before .before .before .before .before .turn .ensures .0) (sym (c .before .is-going .ensures) ∙ not-true _ (c .if1 .taken)) (c .before .before .before .before .before .before .before .before .before .before .before .before .before .before .before .before .before .before .before .before .before .before .before .before .loop-test .taken)), c .before .before .before .before .before .before .before .before .before .before .before .before .before .before .before .before .turn .ensures .2 ∙ c .before .before .before .before .before .before .before .before .before .before .before .before .before .before .before .before .before .before .before .before .before .before .before .before .before .loop .inv .5)
 
 add-k : tie.Need-add-k Inv-loop μ-loop
-add-k c = omega (arith, c .before .before .before .before .before .before .before .before .before .before .before .before .before .before .before .before .before .before .before .before .before .before .before .before .before .before .before .loop-test .taken, c .before .before .before .before .before .before .before .before .before .before .before .before .before .before .before .before .before .before .before .before .before .before .before .before .before .before .before .before .before .before .before .before .before .before .before .before .before .before .before .before .before .before .before .fits .cap)
+add-k c = omega (arith, c .before .before .before .before .before .before .before .before .before .before .before .before .before .before .before .before .before .before .before .before .before .before .before .before .loop-test .taken, c .before .before .before .before .before .before .before .before .before .before .before .before .before .before .before .before .before .before .before .before .before .before .before .before .before .before .before .before .before .before .before .before .before .before .before .before .before .before .before .fits .cap)
 
 loop-less : tie.Need-loop-less Inv-loop μ-loop
 loop-less c = search needs
 
 loop-again : tie.Need-loop-again Inv-loop μ-loop
-loop-again c = let g = run-again _ _ _ _ (c .before .before .before .before .before .before .before .before .before .before .before .before .before .before .before .before .before .before .before .before .before .before .before .before .before .before .before .before .loop .k) _ (c .before .before .before .before .before .before .before .before .before .before .before .before .before .before .before .before .before .before .turn .result) _ _ _ _ (c .before .before .before .before .before .before .before .before .before .before .before .before .before .before .before .before .before .before .before .before .before .before .before .before .before .before .before .before .loop .inv .3) (c .before .before .before .before .before .before .before .before .before .before .before .before .before .before .before .before .before .before .turn .ensures .0) (sym (c .before .is-going .ensures) ∙ not-false _ (c .if1 .left)) in (omega (arith, c .before .before .before .before .before .before .before .before .before .before .before .before .before .before .before .before .before .before .before .before .before .before .before .before .before .before .before .loop-test .taken), omega (arith, c .before .before .before .before .before .before .before .before .before .before .before .before .before .before .before .before .before .before .turn .ensures .1, c .before .before .before .before .before .before .before .before .before .before .before .before .before .before .before .before .before .before .before .before .before .before .before .before .before .before .before .before .loop .inv .1), search needs, g .0, g .1 ∙ c .before .before .before .before .before .before .before .before .before .before .before .before .before .before .before .before .before .before .before .before .before .before .before .before .before .before .before .before .loop .inv .4, c .before .before .before .before .before .before .before .before .before .before .before .before .before .before .before .before .before .before .turn .ensures .2 ∙ c .before .before .before .before .before .before .before .before .before .before .before .before .before .before .before .before .before .before .before .before .before .before .before .before .before .before .before .before .loop .inv .5)
+loop-again c = let g = run-again _ _ _ _ (c .before .before .before .before .before .before .before .before .before .before .before .before .before .before .before .before .before .before .before .before .before .before .before .before .before .loop .k) _ (c .before .before .before .before .before .before .before .before .before .before .before .before .before .before .before .before .turn .result) _ _ _ _ (c .before .before .before .before .before .before .before .before .before .before .before .before .before .before .before .before .before .before .before .before .before .before .before .before .before .loop .inv .3) (c .before .before .before .before .before .before .before .before .before .before .before .before .before .before .before .before .turn .ensures .0) (sym (c .before .is-going .ensures) ∙ not-false _ (c .if1 .left)) in (omega (arith, c .before .before .before .before .before .before .before .before .before .before .before .before .before .before .before .before .before .before .before .before .before .before .before .before .loop-test .taken), omega (arith, c .before .before .before .before .before .before .before .before .before .before .before .before .before .before .before .before .turn .ensures .1, c .before .before .before .before .before .before .before .before .before .before .before .before .before .before .before .before .before .before .before .before .before .before .before .before .before .loop .inv .1), search needs, g .0, g .1 ∙ c .before .before .before .before .before .before .before .before .before .before .before .before .before .before .before .before .before .before .before .before .before .before .before .before .before .loop .inv .4, c .before .before .before .before .before .before .before .before .before .before .before .before .before .before .before .before .turn .ensures .2 ∙ c .before .before .before .before .before .before .before .before .before .before .before .before .before .before .before .before .before .before .before .before .before .before .before .before .before .loop .inv .5)
+
+same-length-8 : tie.Need-same-length-8 Inv-loop μ-loop
+same-length-8 c = search needs
 
 same-length-9 : tie.Need-same-length-9 Inv-loop μ-loop
 same-length-9 c = search needs
@@ -82,12 +80,6 @@ same-length-13 c = search needs
 
 same-length-14 : tie.Need-same-length-14 Inv-loop μ-loop
 same-length-14 c = search needs
-
-same-length-15 : tie.Need-same-length-15 Inv-loop μ-loop
-same-length-15 c = search needs
-
-same-length-16 : tie.Need-same-length-16 Inv-loop μ-loop
-same-length-16 c = search needs
 
 returns-2 : tie.Need-returns-2 Inv-loop μ-loop
 returns-2 c = (run-done _ _ _ _ (c .before .loop .k) _ (c .before .loop .nu) (c .before .loop .states) (c .before .loop .passes) _ _ (c .before .loop .inv .3) (c .before .loop .inv .4) (c .before .loop .inv .0) (c .loop-test .left), c .before .loop .inv .5)
@@ -108,17 +100,15 @@ run-spec =
     same-length-5
     same-length-6
     same-length-7
-    same-length-8
     returns
     add-k
     loop-less
     loop-again
+    same-length-8
     same-length-9
     same-length-10
     same-length-11
     same-length-12
     same-length-13
     same-length-14
-    same-length-15
-    same-length-16
     returns-2)

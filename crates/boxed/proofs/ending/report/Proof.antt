@@ -1,10 +1,10 @@
 use Rattle.boxed.specs.Solves as def
 use native.Mathlib.Omega.{arith}
 use borrow.Author.Needs.{needs}
-use Rattle.boxed.proofs.report.Statement.{statement}
-use Rattle.boxed.proofs.report.Tie as tie
-use Rattle.boxed.proofs.report.Reads as reads
-use Rattle.boxed.proofs.report.Lts as lts
+use Rattle.boxed.proofs.ending.report.Statement.{statement}
+use Rattle.boxed.proofs.ending.report.Tie as tie
+use Rattle.boxed.proofs.ending.report.Reads as reads
+use Rattle.boxed.proofs.ending.report.Lts as lts
 use Rattle.sweep.proofs.residual.Reads as residual-reads
 
 residual-requires : tie.Need-residual-requires

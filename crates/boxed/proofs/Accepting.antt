@@ -1,0 +1,58 @@
+-- What a call that is not refused was lent.
+use Prim.Native.Nat.{ℕ, suc, _*_, _%_, _≤_}
+use mathlib.Core.Path.{_≡_, refl}
+use mathlib.Core.Bool.{Bool, true, false, not, _&&_, _||_, true≢false}
+use mathlib.Core.List.{List, [], _∷_}
+use native.Mathlib.Omega.{arith}
+use lib.Dec.{ltb, eqb}
+use lib.ListN.{length}
+use lib.Ieee.{Float}
+use borrow.Author.Tests.{eqb-true, ltb-false, not-false}
+use Rattle.loops.specs.Loops.{every}
+use Rattle.loops.proofs.Every.{both-true}
+use Rattle.sweep.specs.Rows.{Problem, rows}
+use Rattle.boxed.specs.Solves.{goodScaleAt, first, refusal}
+
+first-false : (c : Bool) (k : ℕ) (l : List (Bool × ℕ)) → first ((c, suc k) ∷ l) ≡ 0 → (c ≡ false) × (first l ≡ 0)
+first-false true k l h = absurd (omega arith)
+first-false false k l h = (refl, h)
+
+pub or-false : (a b : Bool) → a || b ≡ false → (a ≡ false) × (b ≡ false)
+or-false true b h = absurd (true≢false h)
+or-false false b h = (refl, h)
+
+pub record Accepted (p : Problem) (nu : List Float) (st l : List ℕ) (room : ℕ) : Type 0 where
+  pub few : rows p ≤ 32
+  pub square : length (p .w) ≡ rows p * rows p
+  pub nus : length nu ≡ rows p
+  pub work : 2304 ≤ room
+  pub states : rows p ≤ length st
+  pub listed : rows p ≤ length l
+
+-- all six tests fail
+six : (a b c d e f : Bool) → first ((a, 5) ∷ (b, 6) ∷ (c, 7) ∷ (d, 8) ∷ (e, 9) ∷ (f, 10) ∷ []) ≡ 0 → (a ≡ false) × (b ≡ false) × (c ≡ false) × (f ≡ false)
+six a b c d e f h =
+    let h5 = first-false a 4 ((b, 6) ∷ (c, 7) ∷ (d, 8) ∷ (e, 9) ∷ (f, 10) ∷ []) h in
+    let h6 = first-false b 5 ((c, 7) ∷ (d, 8) ∷ (e, 9) ∷ (f, 10) ∷ []) (h5 .1) in
+    let h7 = first-false c 6 ((d, 8) ∷ (e, 9) ∷ (f, 10) ∷ []) (h6 .1) in
+    let h8 = first-false d 7 ((e, 9) ∷ (f, 10) ∷ []) (h7 .1) in
+    let h9 = first-false e 8 ((f, 10) ∷ []) (h8 .1) in
+    (h5 .0, h6 .0, h7 .0, first-false f 9 [] (h9 .1) .0)
+
+pub accepted : (p : Problem) (motion nu : List Float) (st l : List ℕ) (room : ℕ) → refusal p motion nu st l room ≡ 0 → Accepted p nu st l room
+unfolding refusal
+accepted p motion nu st l room h =
+    let n = rows p in
+    let lengths = eqb (length (p .lo)) n && eqb (length (p .hi)) n && eqb (length (p .scale)) n in
+    let g = six (ltb 32 n || ltb 2048 (length motion)) (not (eqb (length (p .w)) (n * n))) (not (lengths && eqb (length nu) n))
+    (not (every (goodScaleAt (p .scale)) n)) (ltb 0 n && not (eqb (length motion % n) 0)) (ltb room 2304 || ltb (length st) n || ltb (length l) n) h in
+    let ten = or-false (ltb room 2304 || ltb (length st) n) (ltb (length l) n) (g .3) in
+    let lent = or-false (ltb room 2304) (ltb (length st) n) (ten .0) in
+    record {
+      few = ltb-false 32 n (or-false (ltb 32 n) (ltb 2048 (length motion)) (g .0) .0);
+      square = eqb-true (length (p .w)) (n * n) (not-false (eqb (length (p .w)) (n * n)) (g .1));
+      nus = eqb-true (length nu) n (both-true lengths (eqb (length nu) n) (not-false (lengths && eqb (length nu) n) (g .2)) .1);
+      work = ltb-false room 2304 (lent .0);
+      states = ltb-false (length st) n (lent .1);
+      listed = ltb-false (length l) n (ten .1);
+    }
