@@ -567,6 +567,24 @@ fn solve_in(
 pub struct BoxSolver {}
 
 impl BoxSolver {
+    // The number with which `solve` refuses such a call, 5 to 10, or 0 where it takes it. So much room has the workspace.
+    pub fn refusal(
+        w: &[f64],
+        u_free: &[f64],
+        lo: &[f64],
+        hi: &[f64],
+        scale: &[f64],
+        motion: &[f64],
+        nu: &[f64],
+        states: &[u8],
+        rows: &[usize],
+        room: usize,
+    ) -> u32
+        ensures { λ r. ⌜ r ≡ def.refusal (box.problem (now (w .entry)) (now («u_free» .entry)) (now (lo .entry)) (now (hi .entry)) (now (scale .entry))) (now (motion .entry)) (now (nu .entry)) (now (states .entry)) (now (rows .entry)) room ⌝ }
+    {
+        refusal::refusal(w, u_free, lo, hi, scale, motion, nu, states, rows, room)
+    }
+
     // From the multipliers in nu, those that solve the problem, in their place, with a state for each row; or the rows that fight at the front of the row
     // list; or document 01's number, and nothing is changed. The first 2,304 values of the workspace are free afterwards.
     pub fn solve(
