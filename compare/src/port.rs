@@ -40,7 +40,7 @@ pub struct Lent<'a> {
     pub states: &'a mut [u8],
     pub rows: &'a mut [usize],
     pub workspace: &'a mut [f64],
-    pub counts: &'a mut [u32],
+    pub counts: &'a mut [usize],
     pub residual: &'a mut [f64],
 }
 
@@ -196,7 +196,7 @@ extern "C" {
         rows_len: usize,
         workspace: *mut f64,
         workspace_len: usize,
-        counts: *mut u32,
+        counts: *mut usize,
         counts_len: usize,
         residual: *mut f64,
         residual_len: usize,

@@ -1,2 +1,3 @@
 pub mod LeastNorm
 pub mod Room
+pub mod Solving

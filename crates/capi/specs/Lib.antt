@@ -1,2 +1,3 @@
 pub mod LeastNorm
 pub mod Reports
+pub mod Solves

@@ -7,7 +7,7 @@ ghost use Rattle.capi.specs.Reports as def;
 use report::Joined;
 use report::SolveReport;
 
-fn flag(b: bool) -> u32
+pub fn flag(b: bool) -> u32
     ensures { λ r. ⌜ r ≡ def.flag b ⌝ }
 {
     if b { 1 } else { 0 }
