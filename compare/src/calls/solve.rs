@@ -111,10 +111,10 @@ pub fn original(case: &Case, reference: &Answer) -> Option<Answer> {
 }
 
 /// The number given to a port that writes past a lent buffer.
-const MARGINS_CHANGED: u32 = 98;
+pub const MARGINS_CHANGED: u32 = 98;
 
 /// The port's answer, each buffer lent between guard values.
-fn ported(case: &Case, call: port::Solve) -> Answer {
+pub fn ported(case: &Case, call: impl FnOnce(port::Lent) -> u32) -> Answer {
     let p = &case.problem;
     let mut nu = Guarded::of(&p.nu);
     let mut states = Guarded::filled(u8::GUARD, case.states_len);

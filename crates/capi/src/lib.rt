@@ -15,6 +15,7 @@ use least_norm::Outcome;
 
 mod reports;
 mod solves;
+mod tallying;
 
 // The square root, rounded to nearest.
 #[no_mangle]
