@@ -10,3 +10,4 @@ pub mod Solves
 pub mod Orders
 pub mod Theorem
 pub mod Instance
+pub mod Called
