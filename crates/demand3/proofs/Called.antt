@@ -4,7 +4,7 @@ use mathlib.Core.List.{List, [], _∷_, map}
 use Rattle.report.specs.declared.SolveReport.{SolveReport}
 use Rattle.boxed.specs.Solves.{Result}
 use Rattle.boxed.specs.Progresses.{Left}
-use Rattle.tally.specs.Tally.{Call, Tallies, tallied, before, all}
+use Rattle.tally.specs.Tally.{Call, tallied, before, all}
 use Rattle.demand3.specs.Called.{Told, toldOf, Made, DemandOfCode}
 use Rattle.demand3.proofs.Theorem.{demand3}
 
