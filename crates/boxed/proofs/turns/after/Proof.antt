@@ -2,10 +2,10 @@ use mathlib.Core.Path.{sym, _∙_, refl}
 use Rattle.boxed.proofs.Turning.{after-going, after-ended}
 use native.Mathlib.Omega.{arith}
 use borrow.Author.Needs.{needs}
-use Rattle.boxed.proofs.after.Statement.{statement}
-use Rattle.boxed.proofs.after.Tie as tie
-use Rattle.boxed.proofs.after.Reads as reads
-use Rattle.boxed.proofs.after.Lts as lts
+use Rattle.boxed.proofs.turns.after.Statement.{statement}
+use Rattle.boxed.proofs.turns.after.Tie as tie
+use Rattle.boxed.proofs.turns.after.Reads as reads
+use Rattle.boxed.proofs.turns.after.Lts as lts
 
 check-requires : tie.Need-check-requires
 check-requires c κs = search needs

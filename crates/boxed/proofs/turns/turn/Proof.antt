@@ -2,10 +2,10 @@ use mathlib.Core.Path.{sym, _∙_, refl, _≡_}
 use Rattle.boxed.proofs.Turning.{turn-going, turn-ended}
 use native.Mathlib.Omega.{arith}
 use borrow.Author.Needs.{needs}
-use Rattle.boxed.proofs.turn.Statement.{statement}
-use Rattle.boxed.proofs.turn.Tie as tie
-use Rattle.boxed.proofs.turn.Reads as reads
-use Rattle.boxed.proofs.turn.Lts as lts
+use Rattle.boxed.proofs.turns.turn.Statement.{statement}
+use Rattle.boxed.proofs.turns.turn.Tie as tie
+use Rattle.boxed.proofs.turns.turn.Reads as reads
+use Rattle.boxed.proofs.turns.turn.Lts as lts
 
 copy-requires : tie.Need-copy-requires
 copy-requires c κs = search needs

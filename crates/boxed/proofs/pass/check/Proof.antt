@@ -2,10 +2,10 @@ use mathlib.Core.Path.{sym, _∙_, refl}
 use Rattle.boxed.proofs.Attempts.{check-tried, check-not}
 use native.Mathlib.Omega.{arith}
 use borrow.Author.Needs.{needs}
-use Rattle.boxed.proofs.check.Statement.{statement}
-use Rattle.boxed.proofs.check.Tie as tie
-use Rattle.boxed.proofs.check.Reads as reads
-use Rattle.boxed.proofs.check.Lts as lts
+use Rattle.boxed.proofs.pass.check.Statement.{statement}
+use Rattle.boxed.proofs.pass.check.Tie as tie
+use Rattle.boxed.proofs.pass.check.Reads as reads
+use Rattle.boxed.proofs.pass.check.Lts as lts
 
 checkpoint-requires : tie.Need-checkpoint-requires
 checkpoint-requires c κs = search needs

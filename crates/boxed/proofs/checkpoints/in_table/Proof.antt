@@ -5,10 +5,10 @@ use mathlib.Core.Path.{_≡_, refl}
 use Prim.Native.Nat.{_≤_, _-_}
 use borrow.Author.Needs.{needs}
 use native.Mathlib.Omega.{arith}
-use Rattle.boxed.proofs.in_table.Statement.{statement}
-use Rattle.boxed.proofs.in_table.Tie as tie
-use Rattle.boxed.proofs.in_table.Reads as reads
-use Rattle.boxed.proofs.in_table.Lts as lts
+use Rattle.boxed.proofs.checkpoints.in_table.Statement.{statement}
+use Rattle.boxed.proofs.checkpoints.in_table.Tie as tie
+use Rattle.boxed.proofs.checkpoints.in_table.Reads as reads
+use Rattle.boxed.proofs.checkpoints.in_table.Lts as lts
 
 abbrev Inv-loop : tie.InvT-loop
 Inv-loop k i₀ i = (i ≤ 8) × (def.member k (drop i def.table) ≡ def.member k def.table)

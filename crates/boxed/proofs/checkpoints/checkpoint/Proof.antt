@@ -2,11 +2,11 @@ use mathlib.Core.Path.{sym, _∙_}
 use Rattle.boxed.proofs.Tables.{checkpoint-hit, checkpoint-cap}
 use native.Mathlib.Omega.{arith}
 use borrow.Author.Needs.{needs}
-use Rattle.boxed.proofs.checkpoint.Statement.{statement}
-use Rattle.boxed.proofs.checkpoint.Tie as tie
-use Rattle.boxed.proofs.checkpoint.Reads as reads
-use Rattle.boxed.proofs.checkpoint.Lts as lts
-use Rattle.boxed.proofs.in_table.Reads as in-table-reads
+use Rattle.boxed.proofs.checkpoints.checkpoint.Statement.{statement}
+use Rattle.boxed.proofs.checkpoints.checkpoint.Tie as tie
+use Rattle.boxed.proofs.checkpoints.checkpoint.Reads as reads
+use Rattle.boxed.proofs.checkpoints.checkpoint.Lts as lts
+use Rattle.boxed.proofs.checkpoints.in_table.Reads as in-table-reads
 
 in-table-requires : tie.Need-in-table-requires
 in-table-requires c κs = search needs

@@ -2,12 +2,12 @@ use mathlib.Core.Path.{sym, _∙_}
 use Rattle.boxed.specs.Progresses as progress
 use native.Mathlib.Omega.{arith}
 use borrow.Author.Needs.{needs}
-use Rattle.boxed.proofs.settle.Statement.{statement}
-use Rattle.boxed.proofs.settle.Tie as tie
-use Rattle.boxed.proofs.settle.Reads as reads
-use Rattle.boxed.proofs.settle.Lts as lts
-use Rattle.boxed.proofs.is_found.Reads as is-found-reads
-use Rattle.boxed.proofs.unfound.Reads as unfound-reads
+use Rattle.boxed.proofs.pass.settle.Statement.{statement}
+use Rattle.boxed.proofs.pass.settle.Tie as tie
+use Rattle.boxed.proofs.pass.settle.Reads as reads
+use Rattle.boxed.proofs.pass.settle.Lts as lts
+use Rattle.boxed.proofs.pass.is_found.Reads as is-found-reads
+use Rattle.boxed.proofs.pass.unfound.Reads as unfound-reads
 use Rattle.cells.proofs.copy.Reads as copy-reads
 
 is-found-requires : tie.Need-is-found-requires

@@ -7,10 +7,10 @@ use mathlib.Core.Path.{_≡_, refl, sym, _∙_}
 use Prim.Native.Nat.{_≤_, _-_}
 use borrow.Author.Needs.{needs}
 use native.Mathlib.Omega.{arith}
-use Rattle.boxed.proofs.run.Statement.{statement}
-use Rattle.boxed.proofs.run.Tie as tie
-use Rattle.boxed.proofs.run.Reads as reads
-use Rattle.boxed.proofs.run.Lts as lts
+use Rattle.boxed.proofs.turns.run.Statement.{statement}
+use Rattle.boxed.proofs.turns.run.Tie as tie
+use Rattle.boxed.proofs.turns.run.Reads as reads
+use Rattle.boxed.proofs.turns.run.Lts as lts
 
 abbrev Inv-loop : tie.InvT-loop
 Inv-loop cap w u-free lo hi scale motion tolerance states₀ nu₀ before₀ trial₀ y₀ rows₀ work₀ passes₀ k₀ states nu before trial y rows work passes k = (k ≤ cap) × (passes ≤ k) × Kept states₀ states nu₀ nu before₀ before trial₀ trial y₀ y rows₀ rows work₀ work × (def.run cap (box.problem w u-free lo hi scale) (def.watch motion tolerance) (def.stand nu₀ states₀ 0) k ≡ def.going (def.stand nu states passes)) × (rows ≡ rows₀) × (drop 1056 work ≡ drop 1056 work₀)

@@ -1,11 +1,11 @@
 use Rattle.boxed.proofs.Testing.{grow-is}
 use native.Mathlib.Omega.{arith}
 use borrow.Author.Needs.{needs}
-use Rattle.boxed.proofs.grow.Statement.{statement}
-use Rattle.boxed.proofs.grow.Tie as tie
-use Rattle.boxed.proofs.grow.Reads as reads
-use Rattle.boxed.proofs.grow.Lts as lts
-use Rattle.boxed.proofs.unless.Reads as unless-reads
+use Rattle.boxed.proofs.tests.grow.Statement.{statement}
+use Rattle.boxed.proofs.tests.grow.Tie as tie
+use Rattle.boxed.proofs.tests.grow.Reads as reads
+use Rattle.boxed.proofs.tests.grow.Lts as lts
+use Rattle.boxed.proofs.tests.unless.Reads as unless-reads
 use Rattle.sweep.proofs.grown.Reads as grown-reads
 
 grown-requires : tie.Need-grown-requires

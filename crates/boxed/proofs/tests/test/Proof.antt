@@ -2,11 +2,11 @@ use mathlib.Core.Path.{refl}
 use Rattle.boxed.proofs.Testing.{test-going, test-still, test-ray}
 use native.Mathlib.Omega.{arith}
 use borrow.Author.Needs.{needs}
-use Rattle.boxed.proofs.test.Statement.{statement}
-use Rattle.boxed.proofs.test.Tie as tie
-use Rattle.boxed.proofs.test.Reads as reads
-use Rattle.boxed.proofs.test.Lts as lts
-use Rattle.boxed.proofs.unless.Reads as unless-reads
+use Rattle.boxed.proofs.tests.test.Statement.{statement}
+use Rattle.boxed.proofs.tests.test.Tie as tie
+use Rattle.boxed.proofs.tests.test.Reads as reads
+use Rattle.boxed.proofs.tests.test.Lts as lts
+use Rattle.boxed.proofs.tests.unless.Reads as unless-reads
 use Rattle.ray.proofs.ray.Reads as ray-reads
 use Rattle.sweep.proofs.motion_of.Reads as motion-of-reads
 use Rattle.sweep.proofs.residual.Reads as residual-reads

@@ -1,10 +1,10 @@
 use mathlib.Core.Path.{refl}
 use native.Mathlib.Omega.{arith}
 use borrow.Author.Needs.{needs}
-use Rattle.boxed.proofs.unfound.Statement.{statement}
-use Rattle.boxed.proofs.unfound.Tie as tie
-use Rattle.boxed.proofs.unfound.Reads as reads
-use Rattle.boxed.proofs.unfound.Lts as lts
+use Rattle.boxed.proofs.pass.unfound.Statement.{statement}
+use Rattle.boxed.proofs.pass.unfound.Tie as tie
+use Rattle.boxed.proofs.pass.unfound.Reads as reads
+use Rattle.boxed.proofs.pass.unfound.Lts as lts
 
 enum-told : tie.Need-enum-told
 enum-told c = search needs

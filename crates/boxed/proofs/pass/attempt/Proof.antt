@@ -1,10 +1,10 @@
 use Rattle.boxed.proofs.Attempts.{attempt-is, settled-count}
 use native.Mathlib.Omega.{arith}
 use borrow.Author.Needs.{needs}
-use Rattle.boxed.proofs.attempt.Statement.{statement}
-use Rattle.boxed.proofs.attempt.Tie as tie
-use Rattle.boxed.proofs.attempt.Reads as reads
-use Rattle.boxed.proofs.attempt.Lts as lts
+use Rattle.boxed.proofs.pass.attempt.Statement.{statement}
+use Rattle.boxed.proofs.pass.attempt.Tie as tie
+use Rattle.boxed.proofs.pass.attempt.Reads as reads
+use Rattle.boxed.proofs.pass.attempt.Lts as lts
 
 copy-requires : tie.Need-copy-requires
 copy-requires c κs = search needs

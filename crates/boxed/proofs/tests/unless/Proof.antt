@@ -1,10 +1,10 @@
 use borrow.Author.Tests.{eq-eqb, ne-eqb}
 use borrow.Author.Needs.{needs}
 use native.Mathlib.Omega.{arith}
-use Rattle.boxed.proofs.unless.Statement.{statement}
-use Rattle.boxed.proofs.unless.Tie as tie
-use Rattle.boxed.proofs.unless.Reads as reads
-use Rattle.boxed.proofs.unless.Lts as lts
+use Rattle.boxed.proofs.tests.unless.Statement.{statement}
+use Rattle.boxed.proofs.tests.unless.Tie as tie
+use Rattle.boxed.proofs.tests.unless.Reads as reads
+use Rattle.boxed.proofs.tests.unless.Lts as lts
 
 returns : tie.Need-returns
 returns c = rw (eq-eqb _ _ (c .if1 .taken))
