@@ -90,133 +90,7 @@ fn nothing(idle: u32) -> BoxReport
     }
 }
 
-// The sweeps of a solve of at most 8 rows, over scratch of that size: that for 32 rows would take long to clear.
-fn run_small(
-    w: &[f64],
-    u_free: &[f64],
-    lo: &[f64],
-    hi: &[f64],
-    scale: &[f64],
-    motion: &[f64],
-    tolerance: f64,
-    states: &mut [u8],
-    nu: &mut [f64],
-    rows: &mut [usize],
-    work: &mut [f64],
-) -> Progress
-    requires { ⌜ (length (now «u_free») ≤ 8) × (length (now nu) ≡ length (now «u_free»)) × (1056 ≤ length (now work)) ⌝ }
-    ensures { λ r. ⌜ progress.Ran (def.run def.SWEEP_CAP (box.problem (now (w .entry)) (now («u_free» .entry)) (now (lo .entry)) (now (hi .entry)) (now (scale .entry))) (def.watch (now (motion .entry)) tolerance) (def.stand (now (nu .entry)) (now (states .entry)) 0) def.SWEEP_CAP) (now (rows .entry)) r (now (nu .exit)) (now (states .exit)) (now (rows .exit)) × (drop 1056 (now (work .exit)) ≡ drop 1056 (now (work .entry))) ⌝ }
-{
-    let n = u_free.len();
-    let mut before = [0.0f64; 8];
-    let mut trial = [0.0f64; 8];
-    let mut y = [0.0f64; 8];
-    turns::run(
-        SWEEP_CAP,
-        w,
-        u_free,
-        lo,
-        hi,
-        scale,
-        motion,
-        tolerance,
-        states,
-        nu,
-        &mut before[..n],
-        &mut trial[..n],
-        &mut y[..n],
-        rows,
-        work,
-    )
-}
-
-// The same of at most 32 rows.
-fn run_large(
-    w: &[f64],
-    u_free: &[f64],
-    lo: &[f64],
-    hi: &[f64],
-    scale: &[f64],
-    motion: &[f64],
-    tolerance: f64,
-    states: &mut [u8],
-    nu: &mut [f64],
-    rows: &mut [usize],
-    work: &mut [f64],
-) -> Progress
-    requires { ⌜ (length (now «u_free») ≤ 32) × (length (now nu) ≡ length (now «u_free»)) × (1056 ≤ length (now work)) ⌝ }
-    ensures { λ r. ⌜ progress.Ran (def.run def.SWEEP_CAP (box.problem (now (w .entry)) (now («u_free» .entry)) (now (lo .entry)) (now (hi .entry)) (now (scale .entry))) (def.watch (now (motion .entry)) tolerance) (def.stand (now (nu .entry)) (now (states .entry)) 0) def.SWEEP_CAP) (now (rows .entry)) r (now (nu .exit)) (now (states .exit)) (now (rows .exit)) × (drop 1056 (now (work .exit)) ≡ drop 1056 (now (work .entry))) ⌝ }
-{
-    let n = u_free.len();
-    let mut before = [0.0f64; 32];
-    let mut trial = [0.0f64; 32];
-    let mut y = [0.0f64; 32];
-    turns::run(
-        SWEEP_CAP,
-        w,
-        u_free,
-        lo,
-        hi,
-        scale,
-        motion,
-        tolerance,
-        states,
-        nu,
-        &mut before[..n],
-        &mut trial[..n],
-        &mut y[..n],
-        rows,
-        work,
-    )
-}
-
-fn run(
-    w: &[f64],
-    u_free: &[f64],
-    lo: &[f64],
-    hi: &[f64],
-    scale: &[f64],
-    motion: &[f64],
-    tolerance: f64,
-    states: &mut [u8],
-    nu: &mut [f64],
-    rows: &mut [usize],
-    work: &mut [f64],
-) -> Progress
-    requires { ⌜ (length (now «u_free») ≤ 32) × (length (now nu) ≡ length (now «u_free»)) × (1056 ≤ length (now work)) ⌝ }
-    ensures { λ r. ⌜ progress.Ran (def.run def.SWEEP_CAP (box.problem (now (w .entry)) (now («u_free» .entry)) (now (lo .entry)) (now (hi .entry)) (now (scale .entry))) (def.watch (now (motion .entry)) tolerance) (def.stand (now (nu .entry)) (now (states .entry)) 0) def.SWEEP_CAP) (now (rows .entry)) r (now (nu .exit)) (now (states .exit)) (now (rows .exit)) × (drop 1056 (now (work .exit)) ≡ drop 1056 (now (work .entry))) ⌝ }
-{
-    if u_free.len() > 8 {
-        return run_large(
-            w,
-            u_free,
-            lo,
-            hi,
-            scale,
-            motion,
-            tolerance,
-            states,
-            nu,
-            rows,
-            work,
-        );
-    }
-    run_small(
-        w,
-        u_free,
-        lo,
-        hi,
-        scale,
-        motion,
-        tolerance,
-        states,
-        nu,
-        rows,
-        work,
-    )
-}
-
-// The sweeps of a solve and its end. So many rows are Idle, not all.
+// The sweeps of a solve and its end, over scratch of its own. So many rows are Idle, not all.
 fn sweeps_from(
     w: &[f64],
     u_free: &[f64],
@@ -234,7 +108,12 @@ fn sweeps_from(
     requires { ⌜ (length (now «u_free») ≤ 32) × (length (now nu) ≡ length (now «u_free»)) × (1056 ≤ length (now work)) ⌝ }
     ensures { λ r. ⌜ progress.Left (def.result def.SWEEP_CAP (box.problem (now (w .entry)) (now («u_free» .entry)) (now (lo .entry)) (now (hi .entry)) (now (scale .entry))) idle (now (rows .entry)) (def.run def.SWEEP_CAP (box.problem (now (w .entry)) (now («u_free» .entry)) (now (lo .entry)) (now (hi .entry)) (now (scale .entry))) (def.watch (now (motion .entry)) tolerance) (def.stand (now (nu .entry)) (now (states .entry)) 0) def.SWEEP_CAP)) r (now (nu .exit)) (now (states .exit)) (now (rows .exit)) × (drop 1056 (now (work .exit)) ≡ drop 1056 (now (work .entry))) ⌝ }
 {
-    let g = run(
+    let n = u_free.len();
+    let mut before = [0.0f64; 32];
+    let mut trial = [0.0f64; 32];
+    let mut y = [0.0f64; 32];
+    let g = turns::run(
+        SWEEP_CAP,
         w,
         u_free,
         lo,
@@ -244,6 +123,9 @@ fn sweeps_from(
         tolerance,
         states,
         nu,
+        &mut before[..n],
+        &mut trial[..n],
+        &mut y[..n],
         rows,
         work,
     );
