@@ -36,6 +36,8 @@ extern "C" {
 #define PISKORLU_REFUSED_MOTION 9u
 /* Solve: workspace, states, rows, counts or residual too short. */
 #define PISKORLU_REFUSED_SHORT 10u
+/* Tallied solve: the tally might not hold one solve more. */
+#define PISKORLU_REFUSED_TALLY 11u
 
 /* Least norm: lengths that do not agree, or are too large or too small. */
 #define PISKORLU_REFUSED_LEAST_NORM 12u
@@ -171,6 +173,36 @@ uint32_t piskorlu_continued(const uint32_t *a, size_t a_len, double a_residual,
                             const uint32_t *b, size_t b_len, double b_residual,
                             uint32_t *counts, size_t counts_len,
                             double *residual, size_t residual_len);
+
+/*
+ * A solve whose report joins a tally, as one increment with its sweeps, exact
+ * passes, converged, exact and residual. Begin with the report of no solve.
+ *
+ * tally           the tally's counts, at least PISKORLU_REPORT_COUNTS; they
+ *                 are read, and receive the counts with this solve's.
+ * tally_residual  its residual in tally_residual[0], likewise.
+ *
+ * The others are those of piskorlu_solve. Returns PISKORLU_ACCEPTED, or one of
+ * the numbers 5 to 10 as piskorlu_solve (10 at once where tally or
+ * tally_residual is too short, too), or else PISKORLU_REFUSED_TALLY where the
+ * tally has 4,294,967,295 increments, more than 4,294,967,095 sweeps or more
+ * than 4,294,967,286 exact passes; and then nothing is written.
+ */
+uint32_t piskorlu_tallied(uint32_t *tally, size_t tally_len,
+                          double *tally_residual, size_t tally_residual_len,
+                          const double *w, size_t w_len,
+                          const double *u_free, size_t u_free_len,
+                          const double *lo, size_t lo_len,
+                          const double *hi, size_t hi_len,
+                          const double *scale, size_t scale_len,
+                          const double *motion, size_t motion_len,
+                          double tolerance,
+                          double *nu, size_t nu_len,
+                          uint8_t *states, size_t states_len,
+                          size_t *rows, size_t rows_len,
+                          double *workspace, size_t workspace_len,
+                          size_t *counts, size_t counts_len,
+                          double *residual, size_t residual_len);
 
 #ifdef __cplusplus
 }

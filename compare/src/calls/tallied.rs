@@ -49,6 +49,27 @@ fn run(
     }
 }
 
+/// The refusal of slices too short.
+const SHORT: u32 = 10;
+
+/// Whether the port refuses a tally of eight counts and one of no residual,
+/// and writes nothing.
+fn refuses_short(case: &cases::Case, tally: &SolveReport, call: port::Tallied) -> bool {
+    let counts = ours::counts(tally);
+    let residual = [tally.residual];
+    [(8, 1), (9, 0)].into_iter().all(|(n, m)| {
+        let mut lent_counts = Guarded::of(&counts[..n]);
+        let mut lent_residual = Guarded::of(&residual[..m]);
+        let answer = solve::ported(case, |lent| {
+            call((lent_counts.lend(), lent_residual.lend()), lent)
+        });
+        let refused = solve::lend(case, |_| Err(SHORT));
+        solve::difference(&refused, &answer, Zeros::WithSign).is_none()
+            && lent_counts.kept().as_deref() == Some(&counts[..n])
+            && lent_residual.kept().as_deref() == Some(&residual[..m])
+    })
+}
+
 /// The port's answer, the tally lent between guard values, a flag in it any
 /// number but 0: where the port refuses, the tally must keep every bit.
 fn ported(case: &cases::Case, tally: &mut SolveReport, call: port::Tallied) -> SolveAnswer {
@@ -60,7 +81,9 @@ fn ported(case: &cases::Case, tally: &mut SolveReport, call: port::Tallied) -> S
     let mut answer = solve::ported(case, |lent| call((counts.lend(), residual.lend()), lent));
     let left = counts.kept().zip(residual.kept());
     let (counts, residual) = left.unwrap_or((vec![0; 9], vec![f64::NAN]));
-    if answer.number == 0 {
+    if !refuses_short(case, tally, call) {
+        answer.number = solve::MARGINS_CHANGED;
+    } else if answer.number == 0 {
         *tally = ours::back(&counts, residual[0]);
     } else if counts != before || residual[0].to_bits() != tally.residual.to_bits() {
         answer.number = solve::MARGINS_CHANGED;

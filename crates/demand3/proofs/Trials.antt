@@ -20,7 +20,7 @@ use Rattle.ray.specs.Rays.{ray}
 use Rattle.moves.specs.Moves.{heldRow, heldTo, held, inside, inconsistent, toTarget, narrowed, narrow, roomRow, roomTo, room, unblocked, movedRow, moved, wrong, harder, pushedRow, unpushed, pushed}
 use Rattle.moves.specs.declared.Blocking.{Blocking}
 use Rattle.moves.specs.declared.Hardest.{Hardest}
-use Rattle.exact_pass.specs.Headings.{Trial, trial, Pass, moving, found, failed, fighting, released, release, stopped, fought, wentTo, went, headedBy, headed}
+use Rattle.exact_pass.specs.Headings.{Trial, trial, Pass, boundAt, moving, found, failed, fighting, released, release, stopped, fought, wentTo, went, headedBy, headed}
 use Rattle.exact_pass.specs.Passes.{aimed, towardBy, toward, step, stuck, move, moves, limit, passFrom, exactPass}
 use Rattle.demand3.specs.Claims.{firstTried, LastMove}
 use Rattle.demand3.proofs.Rays.{Fights, ray-gathered}
@@ -334,31 +334,48 @@ wrong-acts s u h = go (eqb s 1) refl (eqb s 2) refl h
     go false e true f k = ap (λ (x : ℕ). eqb x 3) (eqb-true s 2 f)
     go false e false f k = absurd (true≢false (sym k))
 
-release-passing : {base : List Float} (p : Problem) (first t : Trial) → Tries p base t → LastMove p first (t .nu) (t .states) → Passing p base first (release p t)
+-- a move has come to the multipliers nu, the rows inside written
+record Wrote (p : Problem) (first : Trial) (nu : List Float) (st : List ℕ) : Type 0 where
+  before : ℕ
+  from : List Float
+  tried : moves p first before ≡ moving (trial from st)
+  way : List Float
+  far : Float
+  written : (i : ℕ) → i < rows p → state st i ≡ 0 → at nu i ≡ at from i ⊕ far ⊗ at way i
+
+release-passing : {base : List Float} (p : Problem) (first t : Trial) → Tries p base t → (w : Wrote p first (t .nu) (t .states)) → moves p first (suc (w .before)) ≡ release p t
+    → Passing p base first (release p t)
 unfolding release released
-release-passing {base} p first t h last = go (pushed p (t .states) (t .nu) (rows p)) (pushed-released p (t .states) (t .nu))
+release-passing {base} p first t h w came = go (pushed p (t .states) (t .nu) (rows p)) (pushed-released p (t .states) (t .nu)) came
   where
     go : (b : Hardest) → Released p (t .states) (t .nu) (rows p) b
+        → moves p first (suc (w .before)) ≡ cond (eqb (b .row) (rows p)) (found t) (moving (trial (t .nu) (set (t .states) (b .row) 0)))
         → Passing p base first (cond (eqb (b .row) (rows p)) (found t) (moving (trial (t .nu) (set (t .states) (b .row) 0))))
-    go b (nothing e w f) = rw (eq-eqb (b .row) (rows p) e) (h, f, last)
-    go b (this c w) =
+    go b (nothing e d f) q =
+        let last : LastMove p first (t .nu) (t .states)
+        = record { before = w .before; from = w .from; tried = w .tried; came = rw (eq-eqb (b .row) (rows p) e) at q; way = w .way; far = w .far; written = w .written } in
+        rw (eq-eqb (b .row) (rows p) e) (h, f, last)
+    go b (this c w) q =
         rw (ne-eqb (b .row) (rows p) (λ e. omega arith))
         (record {
           marks = set-marks p (t .states) (b .row) 0 c (omega arith) (sym (sym (h .marks .idle (b .row) c) ∙ wrong-acts (state (t .states) (b .row)) (rowSum p (t .nu) (b .row)) w)) (h .marks);
           holds = free-holds p (t .states) (t .nu) (b .row) c (h .marks) (h .holds);
         })
 
-stopped-passing : {base : List Float} (p : Problem) (first t : Trial) (r : Blocking) → Tries p base t → LastMove p first (t .nu) (t .states) → Stops p (t .states) r
-    → Passing p base first (stopped p t r)
+stopped-passing : {base : List Float} (p : Problem) (first t : Trial) (r : Blocking) → Tries p base t → (w : Wrote p first (t .nu) (t .states)) → Stops p (t .states) r
+    → moves p first (suc (w .before)) ≡ stopped p t r → Passing p base first (stopped p t r)
 unfolding stopped
-stopped-passing p first t r h last (nowhere e) = rw e (release-passing p first t h last)
-stopped-passing p first t r h last (onLo e b z) =
+stopped-passing p first t r h w (nowhere e) came =
+    let q : moves p first (suc (w .before))
+    ≡ cond (eqb (r .stop) 0) (release p t) (moving (trial (set (t .nu) (r .row) (boundAt (p .lo) (p .hi) (r .stop) (r .row))) (set (t .states) (r .row) (r .stop)))) = came in
+    rw e (release-passing p first t h w (rw e at q))
+stopped-passing p first t r h w (onLo e b z) came =
     rw e
     (record {
       marks = set-marks p (t .states) (r .row) 1 b (omega arith) (sym (state-not-idle p (t .states) (r .row) 0 (h .marks) b z refl)) (h .marks);
       holds = set-holds p (t .states) (t .nu) (r .row) 1 (at (p .lo) (r .row)) b (λ q. omega arith) (λ q. refl) (λ q. absurd (omega arith)) (h .marks) (h .holds);
     })
-stopped-passing p first t r h last (onHi e b z) =
+stopped-passing p first t r h w (onHi e b z) came =
     rw e
     (record {
       marks = set-marks p (t .states) (r .row) 2 b (omega arith) (sym (state-not-idle p (t .states) (r .row) 0 (h .marks) b z refl)) (h .marks);
@@ -377,46 +394,47 @@ record Stood (p : Problem) (first t : Trial) (l : List ℕ) : Type 0 where
   listed : l ≡ stuck (t .states) (rows p)
 
 -- the rows inside, moved
-moved-last : {base : List Float} (p : Problem) (first t : Trial) (l : List ℕ) (y : List Float) (alpha : Float) → Tries p base t → Stood p first t l
-    → LastMove p first (moved l y alpha (t .nu) (length l)) (t .states)
-moved-last p first t l y alpha h e =
-    rw (e .listed)
-    (record {
+abbrev moved-wrote : {base : List Float} (p : Problem) (first t : Trial) (l : List ℕ) (y : List Float) (alpha : Float) → Tries p base t → Stood p first t l
+    → Wrote p first (moved l y alpha (t .nu) (length l)) (t .states)
+moved-wrote p first t l y alpha h e =
+    record {
       before = e .after;
       from = t .nu;
       tried = e .tried;
       way = y;
       far = alpha;
-      written = λ i b z. moved-at (t .states) (rows p) y alpha (t .nu) (h .holds .long) i b z;
-    })
+      written = λ i b z. rw (e .listed) (moved-at (t .states) (rows p) y alpha (t .nu) (h .holds .long) i b z);
+    }
 
-went-passing : {base : List Float} (p : Problem) (first t : Trial) (l : List ℕ) (y : List Float) (alpha : Float) → Tries p base t → Stood p first t l → Insides p (t .states) l
-    → Passing p base first (went p t l y alpha)
+went-passing : {base : List Float} (p : Problem) (first t : Trial) (l : List ℕ) (y : List Float) (alpha : Float) → Tries p base t → (here : Stood p first t l) → Insides p (t .states) l
+    → moves p first (suc (here .after)) ≡ went p t l y alpha → Passing p base first (went p t l y alpha)
 unfolding went wentTo
-went-passing {base} p first t l y alpha h here s = go (room p l (t .nu) y alpha (length l)) (room-stops p (t .states) l (t .nu) y alpha s)
+went-passing {base} p first t l y alpha h here s came = go (room p l (t .nu) y alpha (length l)) (room-stops p (t .states) l (t .nu) y alpha s) came
   where
     go : (r : Blocking) → Stops p (t .states) r
+        → moves p first (suc (here .after)) ≡ cond (isFinite (r .alpha)) (stopped p (trial (moved l y (r .alpha) (t .nu) (length l)) (t .states)) r) (fought t (ray p (t .states) y))
         → Passing p base first (cond (isFinite (r .alpha)) (stopped p (trial (moved l y (r .alpha) (t .nu) (length l)) (t .states)) r) (fought t (ray p (t .states) y)))
-    go r k = pick (isFinite (r .alpha))
+    go r k q = pick (isFinite (r .alpha)) q
       where
-        pick : (b : Bool) → Passing p base first (cond b (stopped p (trial (moved l y (r .alpha) (t .nu) (length l)) (t .states)) r) (fought t (ray p (t .states) y)))
-        pick true =
+        pick : (b : Bool) → moves p first (suc (here .after)) ≡ cond b (stopped p (trial (moved l y (r .alpha) (t .nu) (length l)) (t .states)) r) (fought t (ray p (t .states) y))
+            → Passing p base first (cond b (stopped p (trial (moved l y (r .alpha) (t .nu) (length l)) (t .states)) r) (fought t (ray p (t .states) y)))
+        pick true c =
             stopped-passing p first (trial (moved l y (r .alpha) (t .nu) (length l)) (t .states)) r
-            (record { marks = h .marks; holds = moved-holds p (t .states) l y (r .alpha) (t .nu) s (h .holds) }) (moved-last p first t l y (r .alpha) h here) k
-        pick false = fought-passing p first t (ray p (t .states) y) h (ray-gathered p (t .states) y)
+            (record { marks = h .marks; holds = moved-holds p (t .states) l y (r .alpha) (t .nu) s (h .holds) }) (moved-wrote p first t l y (r .alpha) h here) k c
+        pick false c = fought-passing p first t (ray p (t .states) y) h (ray-gathered p (t .states) y)
 
-headed-passing : {base : List Float} (p : Problem) (first t : Trial) (l : List ℕ) (z r y : List Float) → Tries p base t → Stood p first t l → Insides p (t .states) l
-    → Passing p base first (headedBy p t l z r y)
+headed-passing : {base : List Float} (p : Problem) (first t : Trial) (l : List ℕ) (z r y : List Float) → Tries p base t → (here : Stood p first t l) → Insides p (t .states) l
+    → moves p first (suc (here .after)) ≡ headedBy p t l z r y → Passing p base first (headedBy p t l z r y)
 unfolding headedBy
-headed-passing {base} p first t l z r y h here s = pick (inconsistent (p .w) (rows p) (p .scale) l r (length l)) (toTarget (p .scale) l z (t .nu) y (length l))
+headed-passing {base} p first t l z r y h here s came = pick (inconsistent (p .w) (rows p) (p .scale) l r (length l)) (toTarget (p .scale) l z (t .nu) y (length l)) came
   where
-    pick : (b : Bool) (x : List Float) → Passing p base first (cond b (went p t l y ∞) (went p t l x 1ᶠ))
-    pick true x = went-passing p first t l y ∞ h here s
-    pick false x = went-passing p first t l x 1ᶠ h here s
+    pick : (b : Bool) (x : List Float) → moves p first (suc (here .after)) ≡ cond b (went p t l y ∞) (went p t l x 1ᶠ) → Passing p base first (cond b (went p t l y ∞) (went p t l x 1ᶠ))
+    pick true x c = went-passing p first t l y ∞ h here s c
+    pick false x c = went-passing p first t l x 1ᶠ h here s c
 
--- where no row is inside, no move is left to make
-none-last : (p : Problem) (first t : Trial) → Stood p first t [] → LastMove p first (t .nu) (t .states)
-none-last p first t e =
+-- where no row is inside, none is left to write
+abbrev none-wrote : (p : Problem) (first t : Trial) → Stood p first t [] → Wrote p first (t .nu) (t .states)
+none-wrote p first t e =
     record {
       before = e .after;
       from = t .nu;
@@ -426,24 +444,26 @@ none-last p first t e =
       written = λ i b z. absurd (none-inside (t .states) (rows p) i (sym (e .listed)) b z);
     }
 
-step-passing : {base : List Float} (p : Problem) (first t : Trial) (l : List ℕ) → Tries p base t → Stood p first t l → Insides p (t .states) l → Passing p base first (step p t l)
+step-passing : {base : List Float} (p : Problem) (first t : Trial) (l : List ℕ) → Tries p base t → (here : Stood p first t l) → Insides p (t .states) l
+    → moves p first (suc (here .after)) ≡ step p t l → Passing p base first (step p t l)
 unfolding step toward towardBy aimed headed
-step-passing p first t [] h here s = release-passing p first t h (none-last p first t here)
-step-passing p first t (a ∷ l) h here s = headed-passing p first t (a ∷ l) _ _ _ h here s
+step-passing p first t [] h here s came = release-passing p first t h (none-wrote p first t here) came
+step-passing p first t (a ∷ l) h here s came = headed-passing p first t (a ∷ l) _ _ _ h here s came
 
-move-passing : (p : Problem) (base : List Float) (first : Trial) (k : ℕ) (x : Pass) → moves p first k ≡ x → Passing p base first x → Passing p base first (move p k x)
+move-passing : (p : Problem) (base : List Float) (first : Trial) (k : ℕ) (x : Pass) → moves p first k ≡ x → moves p first (suc k) ≡ move p k x → Passing p base first x
+    → Passing p base first (move p k x)
 unfolding move
-move-passing p base first k (moving t) e h =
-    step-passing p first t (stuck (t .states) (rows p)) h (record { after = k; tried = e; listed = refl }) (stuck-insides p (t .states))
-move-passing p base first k (found t) e h = h
-move-passing p base first k (failed t) e h = h
-move-passing p base first k (fighting l t) e h = h
+move-passing p base first k (moving t) e came h =
+    step-passing p first t (stuck (t .states) (rows p)) h (record { after = k; tried = e; listed = refl }) (stuck-insides p (t .states)) came
+move-passing p base first k (found t) e came h = h
+move-passing p base first k (failed t) e came h = h
+move-passing p base first k (fighting l t) e came h = h
 
 moves-passing : (p : Problem) (base : List Float) (first : Trial) → Tries p base first → (k : ℕ) → Passing p base first (moves p first k)
 unfolding moves
 moves-passing p base first h k =
     turns-keep (move p) (moving first) (λ i x. (moves p first i ≡ x) × Passing p base first x) k (turns-start (moving first) (move p), h)
-    (λ i x c g. (turns-step (moving first) (move p) i ∙ ap (move p i) (g .0), move-passing p base first i x (g .0) (g .1))) .1
+    (λ i x c g. let q = turns-step (moving first) (move p) i ∙ ap (move p i) (g .0) in (q, move-passing p base first i x (g .0) q (g .1))) .1
 
 pub exact-passing : (p : Problem) (st : List ℕ) (nu : List Float) → Marks p st → rows p ≤ length nu → Passing p nu (firstTried p st nu) (exactPass p st nu)
 unfolding exactPass passFrom

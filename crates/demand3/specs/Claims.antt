@@ -124,11 +124,12 @@ bySweeps c k =
 abbrev pub firstTried : Problem → List ℕ → List Float → Trial
 firstTried p st nu = trial (held p (shown p nu st (rows p)) nu (rows p)) (shown p nu st (rows p))
 
--- Its last move, from what it had tried after the moves before: every row inside (state 0) was at `from`, and was written `far` along its way.
+-- Its last move, from what it had tried after the moves before to what it found: every row inside (state 0) was at `from`, and was written `far` along its way.
 pub record LastMove (p : Problem) (first : Trial) (nu : List Float) (st : List ℕ) : Type 0 where
   pub before : ℕ
   pub from : List Float
   pub tried : moves p first before ≡ moving (trial from st)
+  pub came : moves p first (suc before) ≡ found (trial nu st)
   pub way : List Float
   pub far : Float
   pub written : (i : ℕ) → i < rows p → getD st i 0 ≡ 0 → at nu i ≡ at from i ⊕ far ⊗ at way i
