@@ -70,7 +70,8 @@ fn count_up(perm: &mut [u8])
     }
 }
 
-// Column j's work. Whether it goes on: it does not where every column from j on is zero.
+// Column j's work. Whether it goes on: it does not where every column from j on is zero. The squared norm that chose the pivot is nearly the
+// one whose root the reflector takes, and known sooner: its rough root is found while the columns are swapped.
 fn reduce(
     a: &mut [f64],
     m: usize,
@@ -84,11 +85,12 @@ fn reduce(
     ensures { λ r. ⌜ promise.standing r j (def.factors (now (a .exit)) (now (b .exit)) (now (perm .exit))) ≡ def.reduce m n j (def.going (def.factors (now (a .entry)) (now (b .entry)) (now (perm .entry)))) ⌝ }
 {
     let p = pivoting::find_pivot(a, m, n, j);
+    let near = floats::sqrt_rough(p.norm);
     pivoting::bring(a, m, n, j, p.col, perm);
     if p.norm == 0.0 {
         return false;
     }
-    columns::eliminate(a, m, n, j, b, v);
+    columns::eliminate(a, m, n, j, b, v, near);
     true
 }
 
