@@ -1,13 +1,13 @@
 -- Straight-line runs: what the calls of a function leave, put together, is its definition. The last call comes first.
 use Prim.Native.Nat.{ℕ, zero, suc, _+_, _-_, _*_, _≤_, _<_, min}
 use mathlib.Core.Path.{_≡_, refl, sym, _∙_, ap}
-use mathlib.Core.Bool.{Bool, true, false, cond}
+use mathlib.Core.Bool.{Bool, true, false}
 use mathlib.Core.List.{List, _++_}
 use native.Mathlib.Omega.{arith}
 use native.Mathlib.Nat.{zero-add, add-comm, mul-one, not-suc-le-zero}
 use native.Mathlib.Numerals.{add-one}
 use borrow.Author.Tests.{eq-eqb, ne-eqb, lt-ltb, le-ltb, lt-leb, le-leb}
-use lib.ListN.{length, getD, set, replicate, take, drop}
+use lib.ListN.{length, set, replicate, take, drop}
 use lib.Seq.{length-take-le, drop-append-add, drop-drop, getD-set-same, getD-set-other}
 use lib.Ieee.{Float, nan, binary64, add, sub, lt, eq}
 use Rattle.loops.specs.Loops.{between, swap, tab, turns}
@@ -16,7 +16,7 @@ use Rattle.loops.proofs.Turns.{between-shift, between-again, between-more, turn
 use Rattle.loops.proofs.Updates.{between-ext, updated-here, updated-long}
 use Rattle.floats.specs.Ops.{_⊕_, _⊖_, _⊗_, _⊘_, at, 0ᶠ, 2ᶠ, 1e-11}
 use Rattle.floats.specs.Helpers.{abs}
-use Rattle.floats.specs.Sums.{gathered, sum, difference}
+use Rattle.floats.specs.Sums.{sum, difference}
 use Rattle.floats.proofs.Sums.{gathered-ext}
 use Rattle.least_norm.specs.declared.Pivot.{Pivot}
 use Rattle.least_norm.specs.declared.Scan.{Scan}

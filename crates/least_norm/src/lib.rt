@@ -138,6 +138,15 @@ fn solve_ranked(
     solution::unpermute(perm, y, x);
 }
 
+// The solution at full rank. Every entry of y and of x is written, so neither need be cleared, and there is no reflector from the right.
+fn solve_full(a: &[f64], m: usize, n: usize, b: &[f64], x: &mut [f64], perm: &[u8], y: &mut [f64])
+    requires { ⌜ promise.Matrix (now a) m n × (0 < n) × (n ≤ m) × (length (now b) ≡ m) × (length (now x) ≡ n) × (length (now perm) ≡ n) × (length (now y) ≡ n) × promise.Onto n (now perm) ⌝ }
+    ensures { λ r. ⌜ def.solution n (now (a .entry)) (now (b .entry)) (now (x .exit)) ≡ def.solved n (def.factors (now (a .entry)) (now (b .entry)) (now (perm .entry))) n ⌝ }
+{
+    solution::substitute(a, m, n, n, b, y);
+    solution::unpermute(perm, y, x);
+}
+
 // The solution at any rank. The reflectors stand in the front of the workspace.
 fn solve_at(
     a: &mut [f64],
@@ -150,13 +159,19 @@ fn solve_at(
     y: &mut [f64],
     rank: usize,
 )
-    requires { ⌜ promise.Matrix (now a) m n × (rank ≤ m) × (rank ≤ n) × (length (now b) ≡ m) × (length (now perm) ≡ n) × (1056 ≤ length (now workspace)) × (length (now y) ≡ n) × (now x ≡ replicate n 0ᶠ) ⌝ }
+    requires { ⌜ promise.Matrix (now a) m n × (rank ≤ m) × (rank ≤ n) × (length (now b) ≡ m) × (length (now perm) ≡ n) × (1056 ≤ length (now workspace)) × (length (now y) ≡ n) × (length (now x) ≡ n) × promise.Onto n (now perm) ⌝ }
     ensures { λ r. ⌜ (def.solution rank (now (a .exit)) (now (b .entry)) (now (x .exit)) ≡ def.solved n (def.factors (now (a .entry)) (now (b .entry)) (now (perm .entry))) rank) × (drop 1056 (now (workspace .exit)) ≡ drop 1056 (now (workspace .entry))) ⌝ }
 {
     if rank == 0 {
+        vector::zero(x);
+        return;
+    }
+    if rank == n {
+        solve_full(a, m, n, b, x, perm, y);
         return;
     }
     let w = rank * n;
+    vector::zero(x);
     vector::zero(y);
     solve_ranked(a, m, n, b, x, &mut workspace[..w], perm, y, rank);
 }
@@ -175,7 +190,6 @@ fn least_norm(
     requires { ⌜ promise.Reducing (now a) m n (now b) (now perm) (now v) × (length (now x) ≡ n) × (n ≤ length (now v)) × (1056 ≤ length (now workspace)) ⌝ }
     ensures { λ r. ⌜ (def.solution r (now (a .exit)) (now (b .exit)) (now (x .exit)) ≡ def.leastNorm m n (now (a .entry)) (now (b .entry))) × (drop 1056 (now (workspace .exit)) ≡ drop 1056 (now (workspace .entry))) × (r ≤ 32) ⌝ }
 {
-    vector::zero(x);
     count_up(perm);
     let k = fewer(m, n);
     let columns = reduce_columns(a, m, n, k, b, perm, v);
