@@ -103,7 +103,7 @@ pub zeros-substituted : (n rank : ℕ) (a b y z : List Float) → y ≡ starts.s
 unfolding starts.substituted def.substituted
 zeros-substituted n rank a b y z e q = rw (e, q)
 
-pub zeros-unpermuted : (n k : ℕ) (perm : List ℕ) (y x z : List Float) → x ≡ starts.unpermuted z perm y k → z ≡ replicate n 0ᶠ → x ≡ def.unpermuted n perm y k
+zeros-unpermuted : (n k : ℕ) (perm : List ℕ) (y x z : List Float) → x ≡ starts.unpermuted z perm y k → z ≡ replicate n 0ᶠ → x ≡ def.unpermuted n perm y k
 unfolding starts.unpermuted def.unpermuted
 zeros-unpermuted n k perm y x z e q = rw (e, q)
 
@@ -198,6 +198,13 @@ reduced-fine m n a b k h =
 pub onto-run : (m n : ℕ) (a b : List Float) (k c : ℕ) (s : def.Factors) → promise.Stopped k (def.reduced m n a b k) c s → k ≤ n → promise.Onto n (s .perm)
 onto-run m n a b k c s e h = subst (λ (s : def.Factors). promise.Onto n (s .perm)) (sym (e .factors)) (reduced-fine m n a b k h .1)
 
+-- so the order's start does not show
+pub order-run : (n : ℕ) (perm : List ℕ) (x z y : List Float) → x ≡ starts.unpermuted z perm y (length perm) → length perm ≡ n → length z ≡ n → promise.Onto n perm → x ≡ def.unpermuted (length perm) perm y (length perm)
+order-run n perm x z y e lp lz onto =
+    let l : length (replicate n 0ᶠ) ≡ n = length-replicate n 0ᶠ in
+    let g : x ≡ starts.unpermuted (replicate n 0ᶠ) perm y n = rw (← lp) (e ∙ rw lp (unpermuted-any perm y z (replicate n 0ᶠ) (lz ∙ sym l) n lz onto)) in
+    rw lp (zeros-unpermuted n n perm y x (replicate n 0ᶠ) g refl)
+
 -- ---- the solution at full rank, from any x and y
 
 pub full-run : (n : ℕ) (a b : List Float) (perm : List ℕ) (x z y w : List Float) →
@@ -206,10 +213,8 @@ pub full-run : (n : ℕ) (a b : List Float) (perm : List ℕ) (x z y w : List Fl
 full-run n a b perm x z y w ex ey lp lz lw onto h =
     let l : length (replicate n 0ᶠ) ≡ n = length-replicate n 0ᶠ in
     let fy = zeros-substituted n n a b y (replicate n 0ᶠ) (ey ∙ substituted-any n a b w (replicate n 0ᶠ) lw l) refl in
-    let gx : x ≡ starts.unpermuted (replicate n 0ᶠ) perm y n = rw (← lp) (ex ∙ rw lp (unpermuted-any perm y z (replicate n 0ᶠ) (lz ∙ sym l) n lz onto)) in
-    let fx : x ≡ def.unpermuted (length perm) perm y (length perm) = rw lp (zeros-unpermuted n n perm y x (replicate n 0ᶠ) gx refl) in
     let k : n ≤ n = omega arith in
-    solved-run n n a b perm x y y (replicate (n * n) 0ᶠ) a fx lp (turned-none n n (replicate (n * n) 0ᶠ) y k) fy (cleared-none n n a (replicate (n * n) 0ᶠ) (n * n) refl refl k) h
+    solved-run n n a b perm x y y (replicate (n * n) 0ᶠ) a (order-run n perm x z y ex lp lz onto) lp (turned-none n n (replicate (n * n) 0ᶠ) y k) fy (cleared-none n n a (replicate (n * n) 0ᶠ) (n * n) refl refl k) h
 
 pub full-at : (n rank : ℕ) (a b x : List Float) (s : def.Factors) → rank ≡ n → def.solution n a b x ≡ def.solved n s n → def.solution rank a b x ≡ def.solved n s rank
 full-at n rank a b x s q e = rw q e

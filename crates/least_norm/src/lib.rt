@@ -117,7 +117,7 @@ fn reduce_columns(
     k
 }
 
-// The solution at a rank above 0, x and y cleared.
+// The solution at a rank above 0, y cleared. Every entry of x is written.
 fn solve_ranked(
     a: &mut [f64],
     m: usize,
@@ -129,7 +129,7 @@ fn solve_ranked(
     y: &mut [f64],
     rank: usize,
 )
-    requires { ⌜ promise.Trapezoidal (now a) m n rank (now right) × (0 < rank) × (length (now b) ≡ m) × (length (now perm) ≡ n) × (length (now y) ≡ n) × (now y ≡ replicate n 0ᶠ) × (now x ≡ replicate n 0ᶠ) ⌝ }
+    requires { ⌜ promise.Trapezoidal (now a) m n rank (now right) × (0 < rank) × (length (now b) ≡ m) × (length (now perm) ≡ n) × (length (now y) ≡ n) × (now y ≡ replicate n 0ᶠ) × (length (now x) ≡ n) × promise.Onto n (now perm) ⌝ }
     ensures { λ r. ⌜ def.solution rank (now (a .exit)) (now (b .entry)) (now (x .exit)) ≡ def.solved n (def.factors (now (a .entry)) (now (b .entry)) (now (perm .entry))) rank ⌝ }
 {
     trapezoid::clear(a, m, n, rank, right);
@@ -171,7 +171,6 @@ fn solve_at(
         return;
     }
     let w = rank * n;
-    vector::zero(x);
     vector::zero(y);
     solve_ranked(a, m, n, b, x, &mut workspace[..w], perm, y, rank);
 }

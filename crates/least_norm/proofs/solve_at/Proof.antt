@@ -40,17 +40,14 @@ mul-w c = omega (arith, product (c .before .before .before .before .before .befo
 zero-requires-2 : tie.Need-zero-requires-2
 zero-requires-2 c = search needs
 
-zero-requires-3 : tie.Need-zero-requires-3
-zero-requires-3 c = search needs
-
 slice-relend-prefix-solve-ranked : tie.Need-slice-relend-prefix-solve-ranked
-slice-relend-prefix-solve-ranked c = omega (arith, product (c .before .before .before .before .before .before .before .before .before .before .before .before .before .before .before .before .before .before .args .rank) (c .before .before .before .before .before .before .before .before .before .before .before .before .before .before .before .before .before .before .args .n) (omega arith) (omega arith))
+slice-relend-prefix-solve-ranked c = omega (arith, product (c .before .before .before .before .before .before .before .before .before .before .before .before .before .before .args .rank) (c .before .before .before .before .before .before .before .before .before .before .before .before .before .before .args .n) (omega arith) (omega arith))
 
 slice-aggregate-solve-ranked : tie.Need-slice-aggregate-solve-ranked
-slice-aggregate-solve-ranked c = sym (length-take-le _ _ (omega (arith, product (c .before .before .before .before .before .before .before .before .before .before .before .before .before .before .before .before .before .before .before .args .rank) (c .before .before .before .before .before .before .before .before .before .before .before .before .before .before .before .before .before .before .before .args .n) (omega arith) (omega arith))))
+slice-aggregate-solve-ranked c = sym (length-take-le _ _ (omega (arith, product (c .before .before .before .before .before .before .before .before .before .before .before .before .before .before .before .args .rank) (c .before .before .before .before .before .before .before .before .before .before .before .before .before .before .before .args .n) (omega arith) (omega arith))))
 
 solve-ranked-requires : tie.Need-solve-ranked-requires
-solve-ranked-requires c κs = ((search needs, search needs, search needs, search needs, search needs, length-take-le _ _ (omega (arith, product (c .before .before .before .before .before .before .before .before .before .before .before .before .before .before .before .before .before .before .before .before .args .rank) (c .before .before .before .before .before .before .before .before .before .before .before .before .before .before .before .before .before .before .before .before .args .n) (omega arith) (omega arith)))), omega (arith, c .before .before .before .before .before .before .before .before .before .before .before .before .before .if1 .left), search needs, search needs, search needs, replicate-at _ _ _ _ (c .before .before .before .before .before .before .zero3 .ensures) (c .before .before .before .before .before .before .before .before .before .before .before .before .before .before .before .before .before .before .before .before .pre .6), replicate-at _ _ _ _ (c .before .before .before .before .before .before .before .before .before .before .zero2 .ensures) (c .before .before .before .before .before .before .before .before .before .before .before .before .before .before .before .before .before .before .before .before .pre .7))
+solve-ranked-requires c κs = ((search needs, search needs, search needs, search needs, search needs, length-take-le _ _ (omega (arith, product (c .before .before .before .before .before .before .before .before .before .before .before .before .before .before .before .before .args .rank) (c .before .before .before .before .before .before .before .before .before .before .before .before .before .before .before .before .args .n) (omega arith) (omega arith)))), omega (arith, c .before .before .before .before .before .before .before .before .before .if1 .left), search needs, search needs, search needs, replicate-at _ _ _ _ (c .before .before .before .before .before .before .zero2 .ensures) (c .before .before .before .before .before .before .before .before .before .before .before .before .before .before .before .before .pre .6), search needs, c .before .before .before .before .before .before .before .before .before .before .before .before .before .before .before .before .pre .8)
 
 same-length-5 : tie.Need-same-length-5
 same-length-5 c = search needs
@@ -65,7 +62,7 @@ same-length-8 : tie.Need-same-length-8
 same-length-8 c = search needs
 
 returns-3 : tie.Need-returns-3
-returns-3 c = (c .before .before .before .before .before .before .before .before .solve-ranked .ensures, past-front _ (c .before .before .before .before .before .before .before .before .solve-ranked .last .1 .1 .1 .1 .1 .0) (c .before .before .before .before .before .before .before .before .before .before .before .before .before .before .before .before .before .before .before .before .before .before .before .before .before .before .before .before .before .args .rank * c .before .before .before .before .before .before .before .before .before .before .before .before .before .before .before .before .before .before .before .before .before .before .before .before .before .before .before .before .before .args .n) 1056 (c .before .before .before .before .before .before .before .before .solve-ranked .kept .1 .1 .1 .1 .1 .0) (omega (arith, product (c .before .before .before .before .before .before .before .before .before .before .before .before .before .before .before .before .before .before .before .before .before .before .before .before .before .before .before .before .before .args .rank) (c .before .before .before .before .before .before .before .before .before .before .before .before .before .before .before .before .before .before .before .before .before .before .before .before .before .before .before .before .before .args .n) (omega arith) (omega arith))) (omega (arith, product (c .before .before .before .before .before .before .before .before .before .before .before .before .before .before .before .before .before .before .before .before .before .before .before .before .before .before .before .before .before .args .rank) (c .before .before .before .before .before .before .before .before .before .before .before .before .before .before .before .before .before .before .before .before .before .before .before .before .before .before .before .before .before .args .n) (omega arith) (omega arith))))
+returns-3 c = (c .before .before .before .before .before .before .before .before .solve-ranked .ensures, past-front _ (c .before .before .before .before .before .before .before .before .solve-ranked .last .1 .1 .1 .1 .1 .0) (c .before .before .before .before .before .before .before .before .before .before .before .before .before .before .before .before .before .before .before .before .before .before .before .before .before .args .rank * c .before .before .before .before .before .before .before .before .before .before .before .before .before .before .before .before .before .before .before .before .before .before .before .before .before .args .n) 1056 (c .before .before .before .before .before .before .before .before .solve-ranked .kept .1 .1 .1 .1 .1 .0) (omega (arith, product (c .before .before .before .before .before .before .before .before .before .before .before .before .before .before .before .before .before .before .before .before .before .before .before .before .before .args .rank) (c .before .before .before .before .before .before .before .before .before .before .before .before .before .before .before .before .before .before .before .before .before .before .before .before .before .args .n) (omega arith) (omega arith))) (omega (arith, product (c .before .before .before .before .before .before .before .before .before .before .before .before .before .before .before .before .before .before .before .before .before .before .before .before .before .args .rank) (c .before .before .before .before .before .before .before .before .before .before .before .before .before .before .before .before .before .before .before .before .before .before .before .before .before .args .n) (omega arith) (omega arith))))
 
 pub solve-at-spec : {M : Type 1} → statement M
 solve-at-spec =
@@ -81,7 +78,6 @@ solve-at-spec =
     returns-2
     mul-w
     zero-requires-2
-    zero-requires-3
     slice-relend-prefix-solve-ranked
     slice-aggregate-solve-ranked
     solve-ranked-requires
