@@ -102,3 +102,14 @@ pub fn sqrt_near(v: f64, near: f64) -> f64
     }
     sqrt_guessed(v, 0)
 }
+
+// A rough square root of v for `sqrt_near`, or 0; nothing is promised of it. It can be found early, while what its near root is taken of is awaited.
+pub fn sqrt_rough(v: f64) -> f64 {
+    if v > 0.0 {
+        let b = f64::to_bits(v);
+        if b < 0x7ff0_0000_0000_0000 {
+            return root::approximate(b);
+        }
+    }
+    0.0
+}

@@ -60,18 +60,26 @@ fn refine(s: u64, a: u64) -> u64
     p - 1
 }
 
-// A guess at the whole part of the root of the value whose pattern is x, for an x from 2^52 to 2^54: three steps of Newton's method for 1 / √x.
-// Nothing is promised of it; the constant of the last step is a little above 1.5 so that a root that is a whole number is not guessed one too low.
-fn newton(x: u64) -> u64
+// A guess at the root of the value whose pattern is x: three steps of Newton's method for 1 / √x, each written so that its products do not wait for
+// each other. Nothing is promised of it; the constant of the last step is a little above 1.5 so that a root that is a whole number is not guessed one
+// too low.
+pub fn approximate(x: u64) -> f64
     requires { ⌜ x < 0x7ff0_0000_0000_0000 ⌝ }
 {
     let v = f64::from_bits(x);
     let h = v * 0.5;
     let y0 = f64::from_bits(0x5fe6_eb50_c7b5_37a9 - x / 2);
-    let y1 = y0 * (1.5 - h * y0 * y0);
-    let y2 = y1 * (1.5 - h * y1 * y1);
-    let y3 = y2 * (1.50000000004 - h * y2 * y2);
-    let g = v * y3;
+    let y1 = 1.5 * y0 - h * y0 * (y0 * y0);
+    let y2 = 1.5 * y1 - h * y1 * (y1 * y1);
+    let y3 = 1.50000000004 * y2 - h * y2 * (y2 * y2);
+    v * y3
+}
+
+// A guess at the whole part of the same root, for a value from 2^52 to 2^54.
+fn newton(x: u64) -> u64
+    requires { ⌜ x < 0x7ff0_0000_0000_0000 ⌝ }
+{
+    let g = approximate(x);
     if g > 0.0 {
         return (f64::to_bits(g) % 0x10_0000_0000_0000 + 0x10_0000_0000_0000) / 0x400_0000;
     }

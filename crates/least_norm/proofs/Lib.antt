@@ -2,3 +2,4 @@ pub mod Steps
 pub mod Blocks
 pub mod Runs
 pub mod Single
+pub mod Starts

@@ -1,13 +1,13 @@
 -- Straight-line runs: what the calls of a function leave, put together, is its definition. The last call comes first.
 use Prim.Native.Nat.{ℕ, zero, suc, _+_, _-_, _*_, _≤_, _<_, min}
 use mathlib.Core.Path.{_≡_, refl, sym, _∙_, ap}
-use mathlib.Core.Bool.{Bool, true, false, cond}
+use mathlib.Core.Bool.{Bool, true, false}
 use mathlib.Core.List.{List, _++_}
 use native.Mathlib.Omega.{arith}
 use native.Mathlib.Nat.{zero-add, add-comm, mul-one, not-suc-le-zero}
 use native.Mathlib.Numerals.{add-one}
 use borrow.Author.Tests.{eq-eqb, ne-eqb, lt-ltb, le-ltb, lt-leb, le-leb}
-use lib.ListN.{length, getD, set, replicate, take, drop}
+use lib.ListN.{length, set, replicate, take, drop}
 use lib.Seq.{length-take-le, drop-append-add, drop-drop, getD-set-same, getD-set-other}
 use lib.Ieee.{Float, nan, binary64, add, sub, lt, eq}
 use Rattle.loops.specs.Loops.{between, swap, tab, turns}
@@ -16,7 +16,7 @@ use Rattle.loops.proofs.Turns.{between-shift, between-again, between-more, turn
 use Rattle.loops.proofs.Updates.{between-ext, updated-here, updated-long}
 use Rattle.floats.specs.Ops.{_⊕_, _⊖_, _⊗_, _⊘_, at, 0ᶠ, 2ᶠ, 1e-11}
 use Rattle.floats.specs.Helpers.{abs}
-use Rattle.floats.specs.Sums.{gathered, sum, difference}
+use Rattle.floats.specs.Sums.{sum, difference}
 use Rattle.floats.proofs.Sums.{gathered-ext}
 use Rattle.least_norm.specs.declared.Pivot.{Pivot}
 use Rattle.least_norm.specs.declared.Scan.{Scan}
@@ -179,18 +179,26 @@ pub leads-run : (n : ℕ) (a : List Float) (i : ℕ) (x y v w : Float) → x ≡
 unfolding def.leads
 leads-run n a i x y v w ex ey ev ew = let q : 0 * n + 0 ≡ 0 = omega arith in rw (ex, ey, ev, ew, q)
 
-module _ (n : ℕ) (a : List Float) (i r : ℕ) where
-  pub counted-up : (l : Bool) → l ≡ def.leads n a i → l ≡ true → r ≡ i → r + 1 ≡ def.counted n a i r
-  unfolding def.counted
-  counted-up l e t q = let u : def.leads n a i ≡ true = sym e ∙ t in rw (eq-eqb r i q, u) (add-one r)
+-- all of the first i lead; the next does too, or it ends the count
+module _ (n : ℕ) (a : List Float) (i : ℕ) (all : i ≡ def.leading n a i) (l : Bool) (this : l ≡ def.leads n a i) where
+  pub leading-again : l ≡ true → i + 1 ≡ def.leading n a (i + 1)
+  unfolding def.leading def.counted turns
+  leading-again t = let u : def.leads n a i ≡ true = sym this ∙ t in rw (add-one, ← all, eq-eqb i i refl, u)
 
-  pub counted-same : (l : Bool) → l ≡ def.leads n a i → l ≡ false → r ≡ i → r ≡ def.counted n a i r
-  unfolding def.counted
-  counted-same l e t q = let u : def.leads n a i ≡ false = sym e ∙ t in rw (eq-eqb r i q, u)
+  leading-here : l ≡ false → def.leading n a (suc i) ≡ i
+  unfolding def.leading def.counted turns
+  leading-here t = let u : def.leads n a i ≡ false = sym this ∙ t in rw (← all, eq-eqb i i refl, u)
 
-  pub counted-before : (r ≡ i → ⊥) → r ≡ def.counted n a i r
+  counted-still : (j : ℕ) → i < j → def.counted n a j i ≡ i
   unfolding def.counted
-  counted-before q = rw (ne-eqb r i q)
+  counted-still j h = rw (ne-eqb i j (λ e. omega arith))
+
+  pub leading-ended : (k : ℕ) → l ≡ false → i < k → i ≡ def.leading n a k
+  unfolding def.leading
+  leading-ended k t h = sym (stays (def.counted n a) 0 i (suc i) (leading-here t) (λ j b. counted-still j (omega arith)) k h)
+
+pub leading-done : (n : ℕ) (a : List Float) (i k : ℕ) → i ≡ def.leading n a i → i ≤ k → k ≤ i → k ≡ def.leading n a k
+leading-done n a i k e g h = let q : i ≡ k = omega arith in rw q at e
 
 -- ---- the trapezoid: p is where row i starts
 

@@ -1,13 +1,13 @@
 -- The steps of a system of one row and one column, where a, b and x have one entry each.
-use Prim.Native.Nat.{ℕ, zero, suc, _+_, _*_, _≤_, _<_}
-use mathlib.Core.Path.{_≡_, refl, sym, _∙_, ap}
+use Prim.Native.Nat.{ℕ, zero, suc, _*_}
+use mathlib.Core.Path.{_≡_, refl, _∙_}
 use mathlib.Core.Bool.{Bool, true, false, cond}
 use mathlib.Core.List.{List, [], _∷_}
 use native.Mathlib.Nat.{zero-mul}
 use native.Mathlib.Omega.{arith}
-use lib.ListN.{length, getD, set, replicate}
+use lib.ListN.{length, set}
 use lib.Ieee.{Float, lt, eq}
-use Rattle.loops.specs.Loops.{turns, between, downward, tab, swap}
+use Rattle.loops.specs.Loops.{turns, between, downward, tab}
 use Rattle.loops.specs.Updates.{updated}
 use Rattle.floats.specs.Ops.{_⊕_, _⊖_, _⊗_, _⊘_, at, 0ᶠ, 2ᶠ, 1e-11}
 use Rattle.floats.specs.Helpers.{abs}

@@ -1,17 +1,17 @@
 -- Loops whose turns read the matrix by place: where each starts, its next turn, and its end, in the form in which `search` applies them.
-use Prim.Native.Nat.{ℕ, zero, suc, _+_, _-_, _*_, _≤_, _<_}
-use mathlib.Core.Path.{_≡_, refl, sym, _∙_, ap}
+use Prim.Native.Nat.{ℕ, suc, _+_, _-_, _*_, _≤_, _<_}
+use mathlib.Core.Path.{_≡_, refl, _∙_}
 use mathlib.Core.List.{List}
-use native.Mathlib.Omega.{arith}
 use native.Mathlib.Numerals.{add-one}
 use lib.ListN.{getD, set, replicate}
 use lib.Ieee.{Float, nan}
 use Rattle.loops.specs.Updates.{updated}
 use Rattle.loops.proofs.Turns.{between-from, between-again, between-done, downward-from, downward-again, downward-done, turns-from, turns-again, turns-done}
 use Rattle.loops.proofs.Updates.{updated-start, updated-again, updated-done}
-use Rattle.floats.specs.Ops.{_⊕_, _⊖_, _⊗_, _⊘_, at, 0ᶠ}
+use Rattle.floats.specs.Ops.{_⊕_, _⊗_, _⊘_, at, 0ᶠ}
 use Rattle.least_norm.specs.Reflector.{less}
 use Rattle.least_norm.specs.LeastNorm as def
+use Rattle.least_norm.specs.Starts as starts
 use Rattle.least_norm.specs.Blocks.{squares, products, lessRows}
 
 -- p is the place of row i and column c
@@ -74,28 +74,28 @@ pub cleared-from : (n rank : ℕ) (a right : List Float) → right ≡ replicate
 unfolding def.cleared
 cleared-from n rank a right e = rw e (downward-from _ _ rank)
 
-module _ (n rank : ℕ) (a b : List Float) where
-  pub substituted-from : (y : List Float) → y ≡ replicate n 0ᶠ → y ≡ def.substituted n rank a b rank
-  unfolding def.substituted
-  substituted-from y e = rw e (downward-from _ _ rank)
+module _ (y₀ : List Float) (n rank : ℕ) (a b : List Float) where
+  pub substituted-from : y₀ ≡ starts.substituted y₀ n rank a b rank
+  unfolding starts.substituted
+  substituted-from = downward-from _ _ rank
 
-  pub substituted-again : (i : ℕ) (y : List Float) (u v : Float) → 0 < i → i ≤ rank → y ≡ def.substituted n rank a b i → u ≡ def.known n rank a b y (i - 1) → v ≡ at a ((i - 1) * n + (i - 1)) → set y (i - 1) (u ⊘ v) ≡ def.substituted n rank a b (i - 1)
-  unfolding def.substituted
+  pub substituted-again : (i : ℕ) (y : List Float) (u v : Float) → 0 < i → i ≤ rank → y ≡ starts.substituted y₀ n rank a b i → u ≡ def.known n rank a b y (i - 1) → v ≡ at a ((i - 1) * n + (i - 1)) → set y (i - 1) (u ⊘ v) ≡ starts.substituted y₀ n rank a b (i - 1)
+  unfolding starts.substituted
   substituted-again i y u v h g e f p = downward-again _ _ rank i y (set y (i - 1) (u ⊘ v)) h g e (rw (f, p))
 
-  pub substituted-done : (i : ℕ) (y : List Float) → i ≤ 0 → y ≡ def.substituted n rank a b i → y ≡ def.substituted n rank a b 0
-  unfolding def.substituted
+  pub substituted-done : (i : ℕ) (y : List Float) → i ≤ 0 → y ≡ starts.substituted y₀ n rank a b i → y ≡ starts.substituted y₀ n rank a b 0
+  unfolding starts.substituted
   substituted-done i y h e = downward-done _ _ rank i y h e
 
-module _ (n : ℕ) (perm : List ℕ) (y : List Float) where
-  pub unpermuted-from : (x : List Float) → x ≡ replicate n 0ᶠ → x ≡ def.unpermuted n perm y 0
-  unfolding def.unpermuted
-  unpermuted-from x e = rw e (turns-from _ _)
+module _ (x₀ : List Float) (perm : List ℕ) (y : List Float) where
+  pub unpermuted-from : x₀ ≡ starts.unpermuted x₀ perm y 0
+  unfolding starts.unpermuted
+  unpermuted-from = turns-from _ _
 
-  pub unpermuted-again : (j p : ℕ) (x z : List Float) → z ≡ set x p (at y j) → p ≡ getD perm j 0 → x ≡ def.unpermuted n perm y j → z ≡ def.unpermuted n perm y (j + 1)
-  unfolding def.unpermuted
+  pub unpermuted-again : (j p : ℕ) (x z : List Float) → z ≡ set x p (at y j) → p ≡ getD perm j 0 → x ≡ starts.unpermuted x₀ perm y j → z ≡ starts.unpermuted x₀ perm y (j + 1)
+  unfolding starts.unpermuted
   unpermuted-again j p x z g q e = turns-again _ _ j x z e (rw (← q) g)
 
-  pub unpermuted-done : (j k : ℕ) (x : List Float) → j ≤ k → k ≤ j → x ≡ def.unpermuted n perm y j → x ≡ def.unpermuted n perm y k
-  unfolding def.unpermuted
+  pub unpermuted-done : (j k : ℕ) (x : List Float) → j ≤ k → k ≤ j → x ≡ starts.unpermuted x₀ perm y j → x ≡ starts.unpermuted x₀ perm y k
+  unfolding starts.unpermuted
   unpermuted-done j k x g h e = turns-done _ _ j k x g h e

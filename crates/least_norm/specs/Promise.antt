@@ -4,7 +4,7 @@ use mathlib.Core.Path.{_≡_}
 use mathlib.Core.Bool.{Bool, true, false, cond, _&&_}
 use mathlib.Core.List.{List}
 use lib.Dec.{leb, eqb}
-use lib.ListN.{length, drop}
+use lib.ListN.{length, getD, drop}
 use lib.Ieee.{Float}
 use Rattle.loops.specs.Loops.{between}
 use Rattle.floats.specs.Ops.{at}
@@ -104,6 +104,10 @@ Trapezoidal a m n rank right = (length a ≡ m * n) × (m ≤ 32) × (n ≤ 32) 
 
 abbrev pub Turning : List Float → ℕ → ℕ → List Float → Type 0
 Turning right n rank y = (length right ≡ rank * n) × (n ≤ 32) × (rank ≤ n) × (length y ≡ n)
+
+-- each number below n stands at a place of perm below n
+abbrev pub Onto : ℕ → List ℕ → Type 0
+Onto n perm = (p : ℕ) → p < n → (j : ℕ) × (j < n) × (getD perm j 0 ≡ p)
 
 -- the pivot of the columns from c on to the next one, from a pivot before them
 pub record Scanned (a : List Float) (m n j c : ℕ) (best : Pivot) (r : Scan) : Type 0 where

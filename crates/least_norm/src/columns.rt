@@ -31,15 +31,15 @@ fn copy_column(a: &[f64], m: usize, n: usize, j: usize, v: &mut [f64])
     }
 }
 
-// Column j's reflector, left in v from row j down.
-fn householder(a: &[f64], m: usize, n: usize, j: usize, v: &mut [f64]) -> Householder
+// Column j's reflector, left in v from row j down. The column's norm may be guessed to be near.
+fn householder(a: &[f64], m: usize, n: usize, j: usize, v: &mut [f64], near: f64) -> Householder
     requires { ⌜ Matrix (now a) m n × (j < n) × (j < m) × (m ≤ length (now v)) ⌝ }
     ensures { λ r. ⌜ Reflects (now (a .entry)) m n j r (now (v .exit)) ⌝ }
 {
     copy_column(a, m, n, j, v);
     let alpha = v[j];
     let sigma = vector::dot(0.0, v, 0, 1, v, 0, 1, j + 1, m);
-    let beta = reflect::beta(alpha, sigma);
+    let beta = reflect::beta(alpha, sigma, near);
     let v0 = alpha - beta;
     v[j] = v0;
     Householder {
@@ -159,12 +159,20 @@ fn zero_below(a: &mut [f64], m: usize, n: usize, j: usize)
     }
 }
 
-// Column j's reflector applied to the columns after it and to b.
-pub fn eliminate(a: &mut [f64], m: usize, n: usize, j: usize, b: &mut [f64], v: &mut [f64])
+// Column j's reflector applied to the columns after it and to b. The column's norm may be guessed to be near.
+pub fn eliminate(
+    a: &mut [f64],
+    m: usize,
+    n: usize,
+    j: usize,
+    b: &mut [f64],
+    v: &mut [f64],
+    near: f64,
+)
     requires { ⌜ Matrix (now a) m n × (j < m) × (j < n) × (length (now b) ≡ m) × (m ≤ length (now v)) ⌝ }
     ensures { λ r. ⌜ ((p : List ℕ) → def.factors (now (a .exit)) (now (b .exit)) p ≡ def.eliminated m n j (def.factors (now (a .entry)) (now (b .entry)) p)) ⌝ }
 {
-    let h = householder(a, m, n, j, v);
+    let h = householder(a, m, n, j, v, near);
     reflect_columns(a, m, n, j, v, h.vtv);
     reflect::reflect(b, j, 0, 1, h.v0, v, 0, h.vtv, j + 1, m);
     place::put(a, m, n, j, j, h.beta);

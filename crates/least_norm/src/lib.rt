@@ -70,7 +70,8 @@ fn count_up(perm: &mut [u8])
     }
 }
 
-// Column j's work. Whether it goes on: it does not where every column from j on is zero.
+// Column j's work. Whether it goes on: it does not where every column from j on is zero. The squared norm that chose the pivot is nearly the
+// one whose root the reflector takes, and known sooner: its rough root is found while the columns are swapped.
 fn reduce(
     a: &mut [f64],
     m: usize,
@@ -84,11 +85,12 @@ fn reduce(
     ensures { λ r. ⌜ promise.standing r j (def.factors (now (a .exit)) (now (b .exit)) (now (perm .exit))) ≡ def.reduce m n j (def.going (def.factors (now (a .entry)) (now (b .entry)) (now (perm .entry)))) ⌝ }
 {
     let p = pivoting::find_pivot(a, m, n, j);
+    let near = floats::sqrt_rough(p.norm);
     pivoting::bring(a, m, n, j, p.col, perm);
     if p.norm == 0.0 {
         return false;
     }
-    columns::eliminate(a, m, n, j, b, v);
+    columns::eliminate(a, m, n, j, b, v, near);
     true
 }
 
@@ -115,7 +117,7 @@ fn reduce_columns(
     k
 }
 
-// The solution at a rank above 0, x and y cleared.
+// The solution at a rank above 0, y cleared. Every entry of x is written.
 fn solve_ranked(
     a: &mut [f64],
     m: usize,
@@ -127,12 +129,21 @@ fn solve_ranked(
     y: &mut [f64],
     rank: usize,
 )
-    requires { ⌜ promise.Trapezoidal (now a) m n rank (now right) × (0 < rank) × (length (now b) ≡ m) × (length (now perm) ≡ n) × (length (now y) ≡ n) × (now y ≡ replicate n 0ᶠ) × (now x ≡ replicate n 0ᶠ) ⌝ }
+    requires { ⌜ promise.Trapezoidal (now a) m n rank (now right) × (0 < rank) × (length (now b) ≡ m) × (length (now perm) ≡ n) × (length (now y) ≡ n) × (now y ≡ replicate n 0ᶠ) × (length (now x) ≡ n) × promise.Onto n (now perm) ⌝ }
     ensures { λ r. ⌜ def.solution rank (now (a .exit)) (now (b .entry)) (now (x .exit)) ≡ def.solved n (def.factors (now (a .entry)) (now (b .entry)) (now (perm .entry))) rank ⌝ }
 {
     trapezoid::clear(a, m, n, rank, right);
     solution::substitute(a, m, n, rank, b, y);
     solution::turn_back(right, n, rank, y);
+    solution::unpermute(perm, y, x);
+}
+
+// The solution at full rank. Every entry of y and of x is written, so neither need be cleared, and there is no reflector from the right.
+fn solve_full(a: &[f64], m: usize, n: usize, b: &[f64], x: &mut [f64], perm: &[u8], y: &mut [f64])
+    requires { ⌜ promise.Matrix (now a) m n × (0 < n) × (n ≤ m) × (length (now b) ≡ m) × (length (now x) ≡ n) × (length (now perm) ≡ n) × (length (now y) ≡ n) × promise.Onto n (now perm) ⌝ }
+    ensures { λ r. ⌜ def.solution n (now (a .entry)) (now (b .entry)) (now (x .exit)) ≡ def.solved n (def.factors (now (a .entry)) (now (b .entry)) (now (perm .entry))) n ⌝ }
+{
+    solution::substitute(a, m, n, n, b, y);
     solution::unpermute(perm, y, x);
 }
 
@@ -148,10 +159,15 @@ fn solve_at(
     y: &mut [f64],
     rank: usize,
 )
-    requires { ⌜ promise.Matrix (now a) m n × (rank ≤ m) × (rank ≤ n) × (length (now b) ≡ m) × (length (now perm) ≡ n) × (1056 ≤ length (now workspace)) × (length (now y) ≡ n) × (now x ≡ replicate n 0ᶠ) ⌝ }
+    requires { ⌜ promise.Matrix (now a) m n × (rank ≤ m) × (rank ≤ n) × (length (now b) ≡ m) × (length (now perm) ≡ n) × (1056 ≤ length (now workspace)) × (length (now y) ≡ n) × (length (now x) ≡ n) × promise.Onto n (now perm) ⌝ }
     ensures { λ r. ⌜ (def.solution rank (now (a .exit)) (now (b .entry)) (now (x .exit)) ≡ def.solved n (def.factors (now (a .entry)) (now (b .entry)) (now (perm .entry))) rank) × (drop 1056 (now (workspace .exit)) ≡ drop 1056 (now (workspace .entry))) ⌝ }
 {
     if rank == 0 {
+        vector::zero(x);
+        return;
+    }
+    if rank == n {
+        solve_full(a, m, n, b, x, perm, y);
         return;
     }
     let w = rank * n;
@@ -173,7 +189,6 @@ fn least_norm(
     requires { ⌜ promise.Reducing (now a) m n (now b) (now perm) (now v) × (length (now x) ≡ n) × (n ≤ length (now v)) × (1056 ≤ length (now workspace)) ⌝ }
     ensures { λ r. ⌜ (def.solution r (now (a .exit)) (now (b .exit)) (now (x .exit)) ≡ def.leastNorm m n (now (a .entry)) (now (b .entry))) × (drop 1056 (now (workspace .exit)) ≡ drop 1056 (now (workspace .entry))) × (r ≤ 32) ⌝ }
 {
-    vector::zero(x);
     count_up(perm);
     let k = fewer(m, n);
     let columns = reduce_columns(a, m, n, k, b, perm, v);

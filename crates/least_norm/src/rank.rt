@@ -14,28 +14,17 @@ fn leads(a: &[f64], m: usize, n: usize, i: usize) -> bool
     this > 0.00000000001 * largest
 }
 
-// r of the first i entries lead; one more does where all of them do.
-fn counted(a: &[f64], m: usize, n: usize, i: usize, r: usize) -> usize
-    requires { ⌜ Matrix (now a) m n × (i < m) × (i < n) × (r ≤ i) ⌝ }
-    ensures { λ s. ⌜ (s ≡ def.counted n (now (a .entry)) i r) × (s ≤ i + 1) ⌝ }
-{
-    if r == i {
-        if leads(a, m, n, i) {
-            return r + 1;
-        }
-    }
-    r
-}
-
+// How many of the first k entries lead before one does not.
 pub fn leading(a: &[f64], m: usize, n: usize, k: usize) -> usize
     requires { ⌜ Matrix (now a) m n × (k ≤ m) × (k ≤ n) ⌝ }
     ensures { λ r. ⌜ (r ≡ def.leading n (now (a .entry)) k) × (r ≤ k) ⌝ }
 {
-    let mut r = 0;
     let mut i = 0;
     while i < k {
-        r = counted(a, m, n, i, r);
+        if !leads(a, m, n, i) {
+            return i;
+        }
         i += 1;
     }
-    r
+    k
 }

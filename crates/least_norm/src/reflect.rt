@@ -8,9 +8,9 @@ ghost use Rattle.least_norm.specs.Reflector as def;
 ghost use Rattle.least_norm.specs.Promise.{Part, Strided};
 use crate::vector;
 
-// The root of alpha² + sigma. Where sigma is 0, as in a square system's last step, it is alpha's magnitude, unless the square leaves the
-// range in which that is so.
-fn norm(alpha: f64, sigma: f64) -> f64
+// The root of alpha² + sigma, which may be guessed to be near. Where sigma is 0, as in a square system's last step, it is alpha's magnitude,
+// unless the square leaves the range in which that is so.
+fn norm(alpha: f64, sigma: f64, near: f64) -> f64
     ensures { λ r. ⌜ r ≡ sqrt (alpha ⊗ alpha ⊕ sigma) ⌝ }
 {
     if sigma == 0.0 {
@@ -22,14 +22,14 @@ fn norm(alpha: f64, sigma: f64) -> f64
         }
         return floats::sqrt_near(alpha * alpha + sigma, size);
     }
-    floats::sqrt(alpha * alpha + sigma)
+    floats::sqrt_near(alpha * alpha + sigma, near)
 }
 
 // The same with the sign that alpha does not have.
-pub fn beta(alpha: f64, sigma: f64) -> f64
+pub fn beta(alpha: f64, sigma: f64, near: f64) -> f64
     ensures { λ r. ⌜ r ≡ def.beta alpha sigma ⌝ }
 {
-    let root = norm(alpha, sigma);
+    let root = norm(alpha, sigma, near);
     if alpha >= 0.0 { -root } else { root }
 }
 

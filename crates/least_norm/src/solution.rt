@@ -1,9 +1,9 @@
 // T w = c by back substitution, then the reflectors from the right, then the columns' order.
 ghost use mathlib.Core.Path.{_≡_};
 ghost use Prim.Native.Nat.{_+_, _*_, _≤_, _<_};
-ghost use lib.ListN.{length, replicate, set};
-ghost use Rattle.floats.specs.Ops.{0ᶠ};
+ghost use lib.ListN.{length, set};
 ghost use Rattle.least_norm.specs.LeastNorm as def;
+ghost use Rattle.least_norm.specs.Starts as starts;
 ghost use Rattle.least_norm.specs.Promise.{Matrix, Turning};
 use crate::place;
 use crate::reflect;
@@ -19,9 +19,10 @@ fn known(a: &[f64], m: usize, n: usize, rank: usize, b: &[f64], y: &[f64], i: us
     vector::less_dot(b[i], a, p, y, 0, i + 1, rank)
 }
 
+// What stands in y past the rank stays.
 pub fn substitute(a: &[f64], m: usize, n: usize, rank: usize, b: &[f64], y: &mut [f64])
-    requires { ⌜ Matrix (now a) m n × (rank ≤ m) × (rank ≤ n) × (length (now b) ≡ m) × (length (now y) ≡ n) × (now y ≡ replicate n 0ᶠ) ⌝ }
-    ensures { λ r. ⌜ now (y .exit) ≡ def.substituted n rank (now (a .entry)) (now (b .entry)) 0 ⌝ }
+    requires { ⌜ Matrix (now a) m n × (rank ≤ m) × (rank ≤ n) × (length (now b) ≡ m) × (length (now y) ≡ n) ⌝ }
+    ensures { λ r. ⌜ now (y .exit) ≡ starts.substituted (now (y .entry)) n rank (now (a .entry)) (now (b .entry)) 0 ⌝ }
 {
     let mut i = rank;
     while i > 0 {
@@ -81,8 +82,8 @@ fn wide(p: u8) -> usize
 }
 
 pub fn unpermute(perm: &[u8], y: &[f64], x: &mut [f64])
-    requires { ⌜ (length (now y) ≡ length (now perm)) × (now x ≡ replicate (length (now perm)) 0ᶠ) × (length (now perm) ≤ 32) ⌝ }
-    ensures { λ r. ⌜ now (x .exit) ≡ def.unpermuted (length (now (perm .entry))) (now (perm .entry)) (now (y .entry)) (length (now (perm .entry))) ⌝ }
+    requires { ⌜ (length (now y) ≡ length (now perm)) × (length (now perm) ≤ 32) ⌝ }
+    ensures { λ r. ⌜ now (x .exit) ≡ starts.unpermuted (now (x .entry)) (now (perm .entry)) (now (y .entry)) (length (now (perm .entry))) ⌝ }
 {
     let n = perm.len();
     let mut j = 0;

@@ -80,7 +80,7 @@ fn clear_row(a: &mut [f64], m: usize, n: usize, rank: usize, i: usize, right: &m
     if sigma == 0.0 {
         return;
     }
-    let u0 = alpha - reflect::beta(alpha, sigma);
+    let u0 = alpha - reflect::beta(alpha, sigma, 0.0);
     place::put(right, rank, n, i, i, u0);
     keep_row(a, m, n, rank, i, right);
     reflect_rows(a, m, n, rank, i, right, u0, u0 * u0 + sigma);

@@ -1,14 +1,12 @@
 -- `least_norm::least_norm` meets its contract. Assumes nothing.
 use borrow.Author.Needs.{needs}
 use lib.Seq.{length-take-le}
-use mathlib.Core.Path.{sym, _∙_}
+use mathlib.Core.Path.{sym}
 use native.Mathlib.Omega.{arith}
-use Rattle.least_norm.proofs.Runs.{replicate-at, tab-at, least-run}
+use Rattle.least_norm.proofs.Runs.{tab-at, least-run}
+use Rattle.least_norm.proofs.Starts.{onto-run}
 use Rattle.least_norm.proofs.least_norm.Statement.{statement}
 use Rattle.least_norm.proofs.least_norm.Tie as tie
-
-zero-requires : tie.Need-zero-requires
-zero-requires c κs = search needs
 
 count-up-requires : tie.Need-count-up-requires
 count-up-requires c κs = search needs
@@ -17,7 +15,7 @@ fewer-requires : tie.Need-fewer-requires
 fewer-requires c κs = search needs
 
 reduce-columns-requires : tie.Need-reduce-columns-requires
-reduce-columns-requires c κs = (search needs, search needs, search needs, tab-at _ _ _ (c .before .before .before .before .before .before .before .count-up .ensures) (c .before .before .before .before .before .before .before .before .before .before .before .before .before .before .before .before .before .before .before .pre .0 .4))
+reduce-columns-requires c κs = (search needs, search needs, search needs, tab-at _ _ _ (c .before .before .before .before .before .before .before .count-up .ensures) (c .before .before .before .before .before .before .before .before .before .before .before .before .before .before .before .pre .0 .4))
 
 leading-requires : tie.Need-leading-requires
 leading-requires c κs = search needs
@@ -26,10 +24,10 @@ slice-relend-prefix-solve-at : tie.Need-slice-relend-prefix-solve-at
 slice-relend-prefix-solve-at c = search needs
 
 slice-aggregate-solve-at : tie.Need-slice-aggregate-solve-at
-slice-aggregate-solve-at c = sym (length-take-le _ _ (omega (arith, c .before .before .before .before .before .before .before .before .before .before .before .before .before .before .before .before .before .before .before .before .before .before .before .before .before .before .before .before .before .before .before .before .before .before .before .before .pre .2, c .before .before .before .before .before .before .before .before .before .before .before .before .before .before .before .before .reduce-columns .kept .1 .1 .1 .1 .1 .1 .0)))
+slice-aggregate-solve-at c = sym (length-take-le _ _ (omega (arith, c .before .before .before .before .before .before .before .before .before .before .before .before .before .before .before .before .before .before .before .before .before .before .before .before .before .before .before .before .before .before .before .before .pre .2, c .before .before .before .before .before .before .before .before .before .before .before .before .before .before .before .before .reduce-columns .kept .1 .1 .1 .1 .1 .1 .0)))
 
 solve-at-requires : tie.Need-solve-at-requires
-solve-at-requires c κs = (omega (arith, c .before .before .before .before .before .before .before .before .before .before .before .before .before .before .before .before .before .before .before .before .before .before .before .before .before .before .before .before .before .before .before .before .before .before .before .before .pre .0, c .before .before .before .before .before .before .before .before .before .before .before .before .before .before .before .before .reduce-columns .kept .0), omega (arith, c .before .before .before .before .before .before .leading .ensures .1, c .before .before .before .before .before .before .before .before .before .before .before .before .before .before .before .before .reduce-columns .ensures .most, c .before .before .before .before .before .before .before .before .before .before .before .before .before .before .before .before .before .before .before .before .before .fewer .ensures), omega (arith, c .before .before .before .before .before .before .leading .ensures .1, c .before .before .before .before .before .before .before .before .before .before .before .before .before .before .before .before .reduce-columns .ensures .most, c .before .before .before .before .before .before .before .before .before .before .before .before .before .before .before .before .before .before .before .before .before .fewer .ensures), omega (arith, c .before .before .before .before .before .before .before .before .before .before .before .before .before .before .before .before .before .before .before .before .before .before .before .before .before .before .before .before .before .before .before .before .before .before .before .before .pre .0, c .before .before .before .before .before .before .before .before .before .before .before .before .before .before .before .before .reduce-columns .kept .1 .1 .1 .1 .0), omega (arith, c .before .before .before .before .before .before .before .before .before .before .before .before .before .before .before .before .before .before .before .before .before .before .before .before .before .before .before .before .before .before .before .before .before .before .before .before .pre .0, c .before .before .before .before .before .before .before .before .before .before .before .before .before .before .before .before .before .before .before .before .before .before .before .before .count-up .kept .0, c .before .before .before .before .before .before .before .before .before .before .before .before .before .before .before .before .reduce-columns .kept .1 .1 .1 .1 .1 .0), omega (arith, c .before .before .before .before .before .before .before .before .before .before .before .before .before .before .before .before .before .before .before .before .before .before .before .before .before .before .before .before .before .before .before .before .before .before .before .before .pre .3), length-take-le _ _ (omega (arith, c .before .before .before .before .before .before .before .before .before .before .before .before .before .before .before .before .before .before .before .before .before .before .before .before .before .before .before .before .before .before .before .before .before .before .before .before .pre .2, c .before .before .before .before .before .before .before .before .before .before .before .before .before .before .before .before .reduce-columns .kept .1 .1 .1 .1 .1 .1 .0)), replicate-at _ _ _ _ (c .before .before .before .before .before .before .before .before .before .before .before .before .before .before .before .before .before .before .before .before .before .before .before .before .before .before .before .before .zero .ensures) (c .before .before .before .before .before .before .before .before .before .before .before .before .before .before .before .before .before .before .before .before .before .before .before .before .before .before .before .before .before .before .before .before .before .before .before .before .pre .1))
+solve-at-requires c κs = (omega (arith, c .before .before .before .before .before .before .before .before .before .before .before .before .before .before .before .before .before .before .before .before .before .before .before .before .before .before .before .before .before .before .before .before .pre .0, c .before .before .before .before .before .before .before .before .before .before .before .before .before .before .before .before .reduce-columns .kept .0), omega (arith, c .before .before .before .before .before .before .leading .ensures .1, c .before .before .before .before .before .before .before .before .before .before .before .before .before .before .before .before .reduce-columns .ensures .most, c .before .before .before .before .before .before .before .before .before .before .before .before .before .before .before .before .before .before .before .before .before .fewer .ensures), omega (arith, c .before .before .before .before .before .before .leading .ensures .1, c .before .before .before .before .before .before .before .before .before .before .before .before .before .before .before .before .reduce-columns .ensures .most, c .before .before .before .before .before .before .before .before .before .before .before .before .before .before .before .before .before .before .before .before .before .fewer .ensures), omega (arith, c .before .before .before .before .before .before .before .before .before .before .before .before .before .before .before .before .before .before .before .before .before .before .before .before .before .before .before .before .before .before .before .before .pre .0, c .before .before .before .before .before .before .before .before .before .before .before .before .before .before .before .before .reduce-columns .kept .1 .1 .1 .1 .0), omega (arith, c .before .before .before .before .before .before .before .before .before .before .before .before .before .before .before .before .before .before .before .before .before .before .before .before .before .before .before .before .before .before .before .before .pre .0, c .before .before .before .before .before .before .before .before .before .before .before .before .before .before .before .before .before .before .before .before .before .before .before .before .count-up .kept .0, c .before .before .before .before .before .before .before .before .before .before .before .before .before .before .before .before .reduce-columns .kept .1 .1 .1 .1 .1 .0), omega (arith, c .before .before .before .before .before .before .before .before .before .before .before .before .before .before .before .before .before .before .before .before .before .before .before .before .before .before .before .before .before .before .before .before .pre .3), length-take-le _ _ (omega (arith, c .before .before .before .before .before .before .before .before .before .before .before .before .before .before .before .before .before .before .before .before .before .before .before .before .before .before .before .before .before .before .before .before .pre .2, c .before .before .before .before .before .before .before .before .before .before .before .before .before .before .before .before .reduce-columns .kept .1 .1 .1 .1 .1 .1 .0)), c .before .before .before .before .before .before .before .before .before .before .before .before .before .before .before .before .before .before .before .before .before .before .before .before .before .before .before .before .before .before .before .before .pre .1, onto-run _ _ _ _ _ _ _ (c .before .before .before .before .before .before .before .before .before .before .before .before .before .before .before .before .reduce-columns .ensures) (omega (arith, c .before .before .before .before .before .before .before .before .before .before .before .before .before .before .before .before .before .before .before .before .before .fewer .ensures)))
 
 same-length : tie.Need-same-length
 same-length c = search needs
@@ -38,7 +36,7 @@ same-length-2 : tie.Need-same-length-2
 same-length-2 c = search needs
 
 same-length-3 : tie.Need-same-length-3
-same-length-3 c = c .before .before .before .before .before .before .before .before .solve-at .kept .1 .1 .1 .1 .0 ∙ c .before .before .before .before .before .before .before .before .before .before .before .before .before .before .before .before .before .before .before .before .before .before .before .before .before .before .before .before .before .before .before .before .before .before .before .before .before .zero .kept .0
+same-length-3 c = search needs
 
 same-length-4 : tie.Need-same-length-4
 same-length-4 c = search needs
@@ -50,13 +48,12 @@ same-length-6 : tie.Need-same-length-6
 same-length-6 c = search needs
 
 returns : tie.Need-returns
-returns c = (least-run _ _ _ _ _ _ _ _ _ _ (c .before .before .before .before .before .before .before .before .solve-at .ensures .0) (c .before .before .before .before .before .before .before .before .before .before .before .before .before .before .before .leading .ensures .0) (c .before .before .before .before .before .before .before .before .before .before .before .before .before .before .before .before .before .before .before .before .before .before .before .before .before .reduce-columns .ensures) (c .before .before .before .before .before .before .before .before .before .before .before .before .before .before .before .before .before .before .before .before .before .before .before .before .before .before .before .before .before .before .fewer .ensures), c .before .before .before .before .before .before .before .before .solve-at .ensures .1, omega (arith, c .before .before .before .before .before .before .before .before .before .before .before .before .before .before .before .leading .ensures .1, c .before .before .before .before .before .before .before .before .before .before .before .before .before .before .before .before .before .before .before .before .before .before .before .before .before .reduce-columns .ensures .most, c .before .before .before .before .before .before .before .before .before .before .before .before .before .before .before .before .before .before .before .before .before .before .before .before .before .before .before .before .before .before .fewer .ensures, c .before .before .before .before .before .before .before .before .before .before .before .before .before .before .before .before .before .before .before .before .before .before .before .before .before .before .before .before .before .before .before .before .before .before .before .before .before .before .before .before .before .before .before .before .before .pre .0))
+returns c = (least-run _ _ _ _ _ _ _ _ _ _ (c .before .before .before .before .before .before .before .before .solve-at .ensures .0) (c .before .before .before .before .before .before .before .before .before .before .before .before .before .before .before .leading .ensures .0) (c .before .before .before .before .before .before .before .before .before .before .before .before .before .before .before .before .before .before .before .before .before .before .before .before .before .reduce-columns .ensures) (c .before .before .before .before .before .before .before .before .before .before .before .before .before .before .before .before .before .before .before .before .before .before .before .before .before .before .before .before .before .before .fewer .ensures), c .before .before .before .before .before .before .before .before .solve-at .ensures .1, omega (arith, c .before .before .before .before .before .before .before .before .before .before .before .before .before .before .before .leading .ensures .1, c .before .before .before .before .before .before .before .before .before .before .before .before .before .before .before .before .before .before .before .before .before .before .before .before .before .reduce-columns .ensures .most, c .before .before .before .before .before .before .before .before .before .before .before .before .before .before .before .before .before .before .before .before .before .before .before .before .before .before .before .before .before .before .fewer .ensures, c .before .before .before .before .before .before .before .before .before .before .before .before .before .before .before .before .before .before .before .before .before .before .before .before .before .before .before .before .before .before .before .before .before .before .before .before .before .before .before .before .before .pre .0))
 
 pub least-norm-spec : {M : Type 1} → statement M
 least-norm-spec =
     tie.close
     (tie.spec
-    zero-requires
     count-up-requires
     fewer-requires
     reduce-columns-requires

@@ -7,6 +7,9 @@ use Rattle.least_norm.proofs.reduce.Tie as tie
 find-pivot-requires : tie.Need-find-pivot-requires
 find-pivot-requires c κs = search needs
 
+sqrt-rough-requires : tie.Need-sqrt-rough-requires
+sqrt-rough-requires c κs = search needs
+
 bring-requires : tie.Need-bring-requires
 bring-requires c κs = search needs
 
@@ -17,7 +20,7 @@ same-length-2 : tie.Need-same-length-2
 same-length-2 c = search needs
 
 returns : tie.Need-returns
-returns c = reduce-ended _ _ _ _ _ _ _ _ _ (c .before .before .before .before .before .before .bring .ensures) (c .if1 .taken) (c .before .before .before .before .before .before .before .before .before .find-pivot .ensures .0)
+returns c = reduce-ended _ _ _ _ _ _ _ _ _ (c .before .before .before .before .before .before .bring .ensures) (c .if1 .taken) (c .before .before .before .before .before .before .before .before .before .before .find-pivot .ensures .0)
 
 eliminate-requires : tie.Need-eliminate-requires
 eliminate-requires c κs = search needs
@@ -35,13 +38,14 @@ same-length-6 : tie.Need-same-length-6
 same-length-6 c = search needs
 
 returns-2 : tie.Need-returns-2
-returns-2 c = reduce-run _ _ _ _ _ _ _ _ _ _ _ (c .before .before .before .before .before .before .eliminate .ensures) (c .before .before .before .before .before .before .before .before .before .before .before .before .before .before .before .before .bring .ensures) (c .before .before .before .before .before .before .before .before .before .before .if1 .left) (c .before .before .before .before .before .before .before .before .before .before .before .before .before .before .before .before .before .before .before .find-pivot .ensures .0)
+returns-2 c = reduce-run _ _ _ _ _ _ _ _ _ _ _ (c .before .before .before .before .before .before .eliminate .ensures) (c .before .before .before .before .before .before .before .before .before .before .before .before .before .before .before .before .bring .ensures) (c .before .before .before .before .before .before .before .before .before .before .if1 .left) (c .before .before .before .before .before .before .before .before .before .before .before .before .before .before .before .before .before .before .before .before .find-pivot .ensures .0)
 
 pub reduce-spec : {M : Type 1} → statement M
 reduce-spec =
     tie.close
     (tie.spec
     find-pivot-requires
+    sqrt-rough-requires
     bring-requires
     same-length
     same-length-2

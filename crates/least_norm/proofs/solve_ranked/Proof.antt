@@ -1,8 +1,8 @@
 -- `least_norm::solve_ranked` meets its contract. Assumes nothing.
 use borrow.Author.Needs.{needs}
-use mathlib.Core.Path.{sym}
 use native.Mathlib.Omega.{arith}
-use Rattle.least_norm.proofs.Runs.{replicate-at, solved-run}
+use Rattle.least_norm.proofs.Runs.{solved-run}
+use Rattle.least_norm.proofs.Starts.{zeros-substituted, order-run}
 use Rattle.least_norm.proofs.solve_ranked.Statement.{statement}
 use Rattle.least_norm.proofs.solve_ranked.Tie as tie
 
@@ -10,13 +10,13 @@ clear-requires : tie.Need-clear-requires
 clear-requires c κs = search needs
 
 substitute-requires : tie.Need-substitute-requires
-substitute-requires c κs = (omega (arith, c .before .before .before .before .before .before .before .before .before .before .before .before .before .before .before .pre .0, c .before .before .before .before .before .before .clear .kept .0), omega arith, omega arith, omega arith, omega arith, c .before .before .before .before .before .before .before .before .before .before .before .before .before .before .before .pre .5)
+substitute-requires c κs = (omega (arith, c .before .before .before .before .before .before .before .before .before .before .before .before .before .before .before .pre .0, c .before .before .before .before .before .before .clear .kept .0), omega arith, omega arith, omega arith, omega arith)
 
 turn-back-requires : tie.Need-turn-back-requires
 turn-back-requires c κs = search needs
 
 unpermute-requires : tie.Need-unpermute-requires
-unpermute-requires c κs = (search needs, replicate-at _ _ _ _ (c .before .before .before .before .before .before .before .before .before .before .before .before .before .before .before .before .before .before .before .before .before .before .before .before .before .pre .6) (sym (c .before .before .before .before .before .before .before .before .before .before .before .before .before .before .before .before .before .before .before .before .before .before .before .before .before .pre .3)), search needs)
+unpermute-requires c κs = search needs
 
 same-length : tie.Need-same-length
 same-length c = search needs
@@ -31,7 +31,7 @@ same-length-4 : tie.Need-same-length-4
 same-length-4 c = search needs
 
 returns : tie.Need-returns
-returns c = solved-run _ _ _ _ _ _ _ _ _ _ (c .before .before .unpermute .ensures) (c .before .before .before .before .before .before .before .before .before .before .before .before .before .before .before .before .before .before .before .before .before .before .before .before .before .before .before .before .pre .3) (c .before .before .before .before .before .before .before .turn-back .ensures) (c .before .before .before .before .before .before .before .before .before .before .before .before .substitute .ensures) (c .before .before .before .before .before .before .before .before .before .before .before .before .before .before .before .before .before .before .before .clear .ensures) (c .before .before .before .before .before .before .before .before .before .before .before .before .before .before .before .before .before .before .before .before .before .before .before .before .before .before .before .before .pre .1)
+returns c = solved-run _ _ _ _ _ _ _ _ _ _ (order-run _ _ _ _ _ (c .before .before .unpermute .ensures) (c .before .before .before .before .before .before .before .before .before .before .before .before .before .before .before .before .before .before .before .before .before .before .before .before .before .before .before .before .pre .3) (c .before .before .before .before .before .before .before .before .before .before .before .before .before .before .before .before .before .before .before .before .before .before .before .before .before .before .before .before .pre .6) (c .before .before .before .before .before .before .before .before .before .before .before .before .before .before .before .before .before .before .before .before .before .before .before .before .before .before .before .before .pre .7)) (c .before .before .before .before .before .before .before .before .before .before .before .before .before .before .before .before .before .before .before .before .before .before .before .before .before .before .before .before .pre .3) (c .before .before .before .before .before .before .before .turn-back .ensures) (zeros-substituted _ _ _ _ _ _ (c .before .before .before .before .before .before .before .before .before .before .before .before .substitute .ensures) (c .before .before .before .before .before .before .before .before .before .before .before .before .before .before .before .before .before .before .before .before .before .before .before .before .before .before .before .before .pre .5)) (c .before .before .before .before .before .before .before .before .before .before .before .before .before .before .before .before .before .before .before .clear .ensures) (c .before .before .before .before .before .before .before .before .before .before .before .before .before .before .before .before .before .before .before .before .before .before .before .before .before .before .before .before .pre .1)
 
 pub solve-ranked-spec : {M : Type 1} → statement M
 solve-ranked-spec =

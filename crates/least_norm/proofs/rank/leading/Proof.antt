@@ -1,24 +1,29 @@
 -- `least_norm::rank::leading` meets its contract. Assumes nothing.
 use Prim.Native.Nat.{_-_, _≤_}
 use borrow.Author.Needs.{needs}
+use borrow.Author.Tests.{not-true, not-false}
 use mathlib.Core.Path.{_≡_}
 use Rattle.least_norm.specs.LeastNorm.{leading}
-use Rattle.loops.proofs.Turns.{turns-from, turns-again, turns-done}
+use Rattle.loops.proofs.Turns.{turns-from}
+use Rattle.least_norm.proofs.Runs.{leading-again, leading-ended, leading-done}
 use Rattle.least_norm.proofs.rank.leading.Statement.{statement}
 use Rattle.least_norm.proofs.rank.leading.Tie as tie
 
 abbrev Inv-loop : tie.InvT-loop
-Inv-loop a m n k r₀ i₀ r i = (i ≤ k) × (r ≤ i) × (r ≡ leading n a i)
+Inv-loop a m n k i₀ i = (i ≤ k) × (i ≡ leading n a i)
 
 abbrev μ-loop : tie.MeasureT-loop
-μ-loop a m n k r₀ i₀ r i = k - i
+μ-loop a m n k i₀ i = k - i
 
 loop-holds : tie.Need-loop-holds Inv-loop μ-loop
 unfolding leading
 loop-holds c = search (turns-from, needs)
 
-counted-requires : tie.Need-counted-requires Inv-loop μ-loop
-counted-requires c κs = search needs
+leads-requires : tie.Need-leads-requires Inv-loop μ-loop
+leads-requires c κs = search needs
+
+returns : tie.Need-returns Inv-loop μ-loop
+returns c = (leading-ended _ _ _ (c .before .before .before .loop .inv .1) (c .before .leads .result) (c .before .leads .ensures) _ (not-true _ (c .if1 .taken)) (c .before .before .loop-test .taken), search needs)
 
 add-i : tie.Need-add-i Inv-loop μ-loop
 add-i c = search needs
@@ -27,14 +32,12 @@ loop-less : tie.Need-loop-less Inv-loop μ-loop
 loop-less c = search needs
 
 loop-again : tie.Need-loop-again Inv-loop μ-loop
-unfolding leading
-loop-again c = search (turns-again, needs)
+loop-again c = (search needs, leading-again _ _ _ (c .before .before .before .loop .inv .1) (c .before .leads .result) (c .before .leads .ensures) (not-false _ (c .if1 .left)))
 
-returns : tie.Need-returns Inv-loop μ-loop
-unfolding leading
-returns c = search (turns-done, needs)
+returns-2 : tie.Need-returns-2 Inv-loop μ-loop
+returns-2 c = (leading-done _ _ _ _ (c .before .loop .inv .1) (c .before .loop .inv .0) (c .loop-test .left), search needs)
 
 pub leading-spec : {M : Type 1} → statement M
 leading-spec =
     tie.close
-    (tie.spec Inv-loop μ-loop loop-holds counted-requires add-i loop-less loop-again returns)
+    (tie.spec Inv-loop μ-loop loop-holds leads-requires returns add-i loop-less loop-again returns-2)

@@ -28,12 +28,12 @@ sqrt-near-requires c κs = search needs
 returns-2 : tie.Need-returns-2
 returns-2 c = search needs
 
-sqrt-requires : tie.Need-sqrt-requires
-sqrt-requires c κs = search needs
+sqrt-near-requires-2 : tie.Need-sqrt-near-requires-2
+sqrt-near-requires-2 c κs = search needs
 
 returns-3 : tie.Need-returns-3
 returns-3 c = search needs
 
 pub norm-spec : {M : Type 1} → statement M
 norm-spec =
-    tie.close (tie.spec abs-requires returns sqrt-near-requires returns-2 sqrt-requires returns-3)
+    tie.close (tie.spec abs-requires returns sqrt-near-requires returns-2 sqrt-near-requires-2 returns-3)

@@ -4,12 +4,12 @@ use borrow.Author.Needs.{needs}
 use lib.ListN.{length}
 use mathlib.Core.Path.{_≡_}
 use Rattle.least_norm.proofs.Steps.{substituted-from, substituted-again, substituted-done}
-use Rattle.least_norm.specs.LeastNorm.{substituted}
+use Rattle.least_norm.specs.Starts.{substituted}
 use Rattle.least_norm.proofs.solution.substitute.Statement.{statement}
 use Rattle.least_norm.proofs.solution.substitute.Tie as tie
 
 abbrev Inv-loop : tie.InvT-loop
-Inv-loop a m n rank b y₀ i₀ y i = (i ≤ rank) × (length y ≡ length y₀) × (y ≡ substituted n rank a b i)
+Inv-loop a m n rank b y₀ i₀ y i = (i ≤ rank) × (length y ≡ length y₀) × (y ≡ substituted y₀ n rank a b i)
 
 abbrev μ-loop : tie.MeasureT-loop
 μ-loop a m n rank b y₀ i₀ y i = i

@@ -5,12 +5,12 @@ use lib.ListN.{length}
 use mathlib.Core.Path.{_≡_}
 use native.Mathlib.Omega.{arith}
 use Rattle.least_norm.proofs.Steps.{unpermuted-from, unpermuted-again, unpermuted-done}
-use Rattle.least_norm.specs.LeastNorm.{unpermuted}
+use Rattle.least_norm.specs.Starts.{unpermuted}
 use Rattle.least_norm.proofs.solution.unpermute.Statement.{statement}
 use Rattle.least_norm.proofs.solution.unpermute.Tie as tie
 
 abbrev Inv-loop : tie.InvT-loop
-Inv-loop perm y x₀ n j₀ x j = (j ≤ n) × (n ≡ length perm) × (length x ≡ length x₀) × (x ≡ unpermuted (length perm) perm y j)
+Inv-loop perm y x₀ n j₀ x j = (j ≤ n) × (n ≡ length perm) × (length x ≡ length x₀) × (x ≡ unpermuted x₀ perm y j)
 
 abbrev μ-loop : tie.MeasureT-loop
 μ-loop perm y x₀ n j₀ x j = n - j
