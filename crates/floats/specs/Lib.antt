@@ -4,3 +4,4 @@ pub mod Sums
 pub mod Sqrt
 pub mod Nearest
 pub mod Examples
+pub mod Rough

@@ -1,6 +1,7 @@
 // Document 01's float helpers and the square root of an f64. Each call is total, and its contract is an equation with a definition of specs/.
 ghost use mathlib.Core.Path.{_≡_};
 ghost use Rattle.floats.specs.Helpers as helpers;
+ghost use Rattle.floats.specs.Rough as rough;
 ghost use Rattle.floats.specs.Sqrt as def;
 
 mod root;
@@ -103,8 +104,10 @@ pub fn sqrt_near(v: f64, near: f64) -> f64
     sqrt_guessed(v, 0)
 }
 
-// A rough square root of v for `sqrt_near`, or 0; nothing is promised of it. It can be found early, while what its near root is taken of is awaited.
-pub fn sqrt_rough(v: f64) -> f64 {
+// A rough square root of v for `sqrt_near`, or 0. It can be found early, while the value that it is near to is awaited.
+pub fn sqrt_rough(v: f64) -> f64
+    ensures { λ r. ⌜ r ≡ rough.rough v ⌝ }
+{
     if v > 0.0 {
         let b = f64::to_bits(v);
         if b < 0x7ff0_0000_0000_0000 {

@@ -3,6 +3,7 @@
 ghost use mathlib.Core.Path.{_≡_};
 ghost use Prim.Native.Nat.{_+_, _*_, _^_, _≤_, _<_};
 ghost use lib.Ieee.{binary64, ofBits};
+ghost use Rattle.floats.specs.Rough as rough;
 ghost use Rattle.floats.specs.Sqrt as def;
 
 // The whole part of √(s * 2^54), a binary digit a turn: r is the root of the digits taken so far, and rest what r * r leaves of them.
@@ -61,10 +62,11 @@ fn refine(s: u64, a: u64) -> u64
 }
 
 // A guess at the root of the value whose pattern is x: three steps of Newton's method for 1 / √x, each written so that its products do not wait for
-// each other. Nothing is promised of it; the constant of the last step is a little above 1.5 so that a root that is a whole number is not guessed one
+// each other. No root depends on it; the constant of the last step is a little above 1.5 so that a root that is a whole number is not guessed one
 // too low.
 pub fn approximate(x: u64) -> f64
     requires { ⌜ x < 0x7ff0_0000_0000_0000 ⌝ }
+    ensures { λ r. ⌜ r ≡ rough.approximate x ⌝ }
 {
     let v = f64::from_bits(x);
     let h = v * 0.5;
