@@ -9,6 +9,7 @@ ghost use Rattle.capi.specs.Reports as def;
 use least_norm::LeastNorm;
 use least_norm::Outcome;
 
+mod bend;
 mod reports;
 
 // The square root, rounded to nearest.
