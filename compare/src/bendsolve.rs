@@ -84,16 +84,18 @@ const SEED: u64 = 11;
 const EACH: usize = 24;
 const LENGTH: usize = 2_048;
 
-/// How many files may be longer.
-const LONG: usize = 8;
+/// How many files may be longer, and how long.
+const LONG: usize = 6;
+const LONGEST: usize = 30_000;
 
 const README: &str = "\
 # Bend files with what bendsolve must print
 
 NNN.bend is a bend file, whole or damaged, and NNN.txt what bendsolve prints
-for it. 000 is document 01's example. The answers are those of the original
-Rust, printed as document 01 says; refusals are document 01's own. Made, the
-same each time, by
+for it. 000 is document 01's example; 001 and 002 are the same with free bytes
+before it, as long as a bend file may be and one byte longer. The answers are
+those of the original Rust, printed as document 01 says; refusals are document
+01's own. Made, the same each time, by
 
     cargo run --release --offline -- files DIR
 
@@ -131,28 +133,33 @@ fn put(folder: &Path, name: &str, bytes: &[u8]) -> Result<(), String> {
     fs::write(&path, bytes).map_err(|e| format!("{}: {e}", path.display()))
 }
 
-/// Document 01's example, then files of every family until each first line has
-/// its share.
+/// Document 01's example, as it is and at the longest length and one past it;
+/// then files of every family until each first line has its share.
 fn chosen(counts: &mut BTreeMap<String, usize>) -> Vec<(Vec<u8>, Vec<u8>)> {
-    let example = file(&marked_problem(1), &[]);
-    let mut files = vec![example];
-    let mut long = 0;
+    let example = marked_problem(1);
+    let bare = file(&example, &[]);
+    let padded = |length: usize| file(&example, &vec![0; length - bare.len()]);
+    let mut files = vec![bare.clone(), padded(65_536), padded(65_537)];
+    let first_three = files.len();
     for index in 0..4_000 {
         let (family, make) = FAMILIES[index % FAMILIES.len()];
         files.push(make(&mut Rng::of_case(family, SEED, index as u64)));
     }
+    let mut long = 0;
     let mut chosen = Vec::new();
-    for file in files {
+    for (index, file) in files.into_iter().enumerate() {
         let answer = expected(&file);
         let first = String::from_utf8_lossy(&answer);
         let first = first.lines().next().unwrap_or_default().to_string();
-        let is_long = file.len() > LENGTH;
         let count = counts.entry(first).or_default();
-        if *count >= EACH || (is_long && long >= LONG) {
-            continue;
+        if index >= first_three {
+            let is_long = file.len() > LENGTH;
+            if *count >= EACH || file.len() > LONGEST || (is_long && long >= LONG) {
+                continue;
+            }
+            long += usize::from(is_long);
         }
         *count += 1;
-        long += usize::from(is_long);
         chosen.push((file, answer));
     }
     chosen
