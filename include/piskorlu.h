@@ -24,14 +24,35 @@ extern "C" {
 /* A call was taken. */
 #define PISKORLU_ACCEPTED 0u
 
+/* Solve: more than PISKORLU_MOST rows or PISKORLU_MOST_MOTION motion values. */
+#define PISKORLU_REFUSED_TOO_LARGE 5u
+/* Solve: w is not n by n. */
+#define PISKORLU_REFUSED_NOT_SQUARE 6u
+/* Solve: lo, hi, scale or nu has not one value for each row. */
+#define PISKORLU_REFUSED_UNEQUAL 7u
+/* Solve: a scale that is not finite and above 0. */
+#define PISKORLU_REFUSED_SCALE 8u
+/* Solve: motion is no whole number of rows of n values. */
+#define PISKORLU_REFUSED_MOTION 9u
+/* Solve: workspace, states, rows, counts or residual too short. */
+#define PISKORLU_REFUSED_SHORT 10u
+/* Tallied solve: the tally might not hold one solve more. */
+#define PISKORLU_REFUSED_TALLY 11u
+
 /* Least norm: lengths that do not agree, or are too large or too small. */
 #define PISKORLU_REFUSED_LEAST_NORM 12u
 
 /* Joins: a count's sum above 4,294,967,295, or a buffer too short. */
 #define PISKORLU_REFUSED_JOIN 13u
 
-/* The most rows, and the most columns, of a least-norm system. */
+/* The most rows of a problem; the most rows and columns of a least-norm system. */
 #define PISKORLU_MOST 32
+
+/* The most values of a problem's motion. */
+#define PISKORLU_MOST_MOTION 2048
+
+/* The fewest values of a workspace for piskorlu_solve. */
+#define PISKORLU_SOLVE_WORKSPACE 2304
 
 /* The fewest values of a workspace for piskorlu_least_norm. */
 #define PISKORLU_LEAST_NORM_WORKSPACE 1056
@@ -62,6 +83,60 @@ uint32_t piskorlu_least_norm(double *a, size_t a_len, size_t m, size_t n,
                              double *x, size_t x_len,
                              double *workspace, size_t workspace_len,
                              uint32_t *rank, size_t rank_len);
+
+/*
+ * The pads' loads: multipliers nu, each within its box, with W nu + u_free the
+ * motion at each row; n is u_free_len.
+ *
+ * w          W by rows, n rows of n values. A row whose diagonal is NaN or not
+ *            above 0 is Idle: it starts at 0 within its box and stays.
+ * u_free     the motion at each row without any load.
+ * lo, hi     the boxes: -INFINITY or INFINITY where there is no limit.
+ * scale      a load's size at each row, finite and above 0.
+ * motion     rows of n values, one for each coordinate that is watched; the
+ *            sweeps may stop where none moves by more than tolerance.
+ * nu         the multipliers to start from; receives the answer.
+ * states     receives each row's state: PISKORLU_INSIDE and so on. Later ones
+ *            are kept.
+ * rows       receives the rows that fight at its front, rising, if there is no
+ *            answer. Later ones are kept; at least n.
+ * workspace  at least PISKORLU_SOLVE_WORKSPACE values, of any contents. The
+ *            first that many are overwritten, later ones are kept.
+ * counts     receives PISKORLU_SOLVE_COUNTS counts: the outcome, sweeps, exact
+ *            passes, converged and exact (0 or 1), Idle rows, and how many
+ *            rows fight.
+ * residual   receives the largest natural residual in residual[0].
+ *
+ * Returns PISKORLU_ACCEPTED, or one of the numbers 5 to 10, the first that
+ * applies (10 at once where counts or residual is too short), and then nothing
+ * is written.
+ */
+#define PISKORLU_SOLVE_COUNTS 7
+
+/* The outcome: solved, or no motion meets every row, and how that was found. */
+#define PISKORLU_SOLVED 0u
+#define PISKORLU_FIGHT_BY_GROWTH 1u
+#define PISKORLU_FIGHT_IN_PASS 2u
+#define PISKORLU_FIGHT_AFTER_SWEEP 3u
+
+#define PISKORLU_INSIDE 0u
+#define PISKORLU_AT_LO 1u
+#define PISKORLU_AT_HI 2u
+#define PISKORLU_IDLE 3u
+
+uint32_t piskorlu_solve(const double *w, size_t w_len,
+                        const double *u_free, size_t u_free_len,
+                        const double *lo, size_t lo_len,
+                        const double *hi, size_t hi_len,
+                        const double *scale, size_t scale_len,
+                        const double *motion, size_t motion_len,
+                        double tolerance,
+                        double *nu, size_t nu_len,
+                        uint8_t *states, size_t states_len,
+                        size_t *rows, size_t rows_len,
+                        double *workspace, size_t workspace_len,
+                        size_t *counts, size_t counts_len,
+                        double *residual, size_t residual_len);
 
 /*
  * Reports of solves joined. A report is nine counts and a residual; the counts
@@ -98,6 +173,36 @@ uint32_t piskorlu_continued(const uint32_t *a, size_t a_len, double a_residual,
                             const uint32_t *b, size_t b_len, double b_residual,
                             uint32_t *counts, size_t counts_len,
                             double *residual, size_t residual_len);
+
+/*
+ * A solve whose report joins a tally, as one increment with its sweeps, exact
+ * passes, converged, exact and residual. Begin with the report of no solve.
+ *
+ * tally           the tally's counts, at least PISKORLU_REPORT_COUNTS; they
+ *                 are read, and receive the counts with this solve's.
+ * tally_residual  its residual in tally_residual[0], likewise.
+ *
+ * The others are those of piskorlu_solve. Returns PISKORLU_ACCEPTED, or one of
+ * the numbers 5 to 10 as piskorlu_solve (10 at once where tally or
+ * tally_residual is too short, too), or else PISKORLU_REFUSED_TALLY where the
+ * tally has 4,294,967,295 increments, more than 4,294,967,095 sweeps or more
+ * than 4,294,967,286 exact passes; and then nothing is written.
+ */
+uint32_t piskorlu_tallied(uint32_t *tally, size_t tally_len,
+                          double *tally_residual, size_t tally_residual_len,
+                          const double *w, size_t w_len,
+                          const double *u_free, size_t u_free_len,
+                          const double *lo, size_t lo_len,
+                          const double *hi, size_t hi_len,
+                          const double *scale, size_t scale_len,
+                          const double *motion, size_t motion_len,
+                          double tolerance,
+                          double *nu, size_t nu_len,
+                          uint8_t *states, size_t states_len,
+                          size_t *rows, size_t rows_len,
+                          double *workspace, size_t workspace_len,
+                          size_t *counts, size_t counts_len,
+                          double *residual, size_t residual_len);
 
 /* The fewest bytes of a buffer for piskorlu_bend. */
 #define PISKORLU_BEND_ROOM 2048

@@ -40,7 +40,7 @@ pub struct Lent<'a> {
     pub states: &'a mut [u8],
     pub rows: &'a mut [usize],
     pub workspace: &'a mut [f64],
-    pub counts: &'a mut [u32],
+    pub counts: &'a mut [usize],
     pub residual: &'a mut [f64],
 }
 
@@ -51,6 +51,17 @@ pub type Solve = fn(Lent) -> u32;
 pub const SOLVE: Option<Solve> = Some(solve);
 #[cfg(not(port_solve))]
 pub const SOLVE: Option<Solve> = None;
+
+/// The tally of a tallied solve: nine counts and its residual, in and out.
+pub type Tally<'a> = (&'a mut [u32], &'a mut [f64]);
+
+/// The tallied solve; 0, or the number of the refusal.
+pub type Tallied = fn(Tally, Lent) -> u32;
+
+#[cfg(port_tallied)]
+pub const TALLIED: Option<Tallied> = Some(tallied);
+#[cfg(not(port_tallied))]
+pub const TALLIED: Option<Tallied> = None;
 
 #[cfg(port_joins)]
 pub const JOINS: Option<Joins> = Some(Joins { and, continued });
@@ -196,7 +207,7 @@ extern "C" {
         rows_len: usize,
         workspace: *mut f64,
         workspace_len: usize,
-        counts: *mut u32,
+        counts: *mut usize,
         counts_len: usize,
         residual: *mut f64,
         residual_len: usize,
@@ -209,6 +220,79 @@ fn solve(lent: Lent) -> u32 {
     // SAFETY: as for least_norm.
     unsafe {
         piskorlu_solve(
+            lent.w.as_ptr(),
+            lent.w.len(),
+            lent.u_free.as_ptr(),
+            lent.u_free.len(),
+            lent.lo.as_ptr(),
+            lent.lo.len(),
+            lent.hi.as_ptr(),
+            lent.hi.len(),
+            lent.scale.as_ptr(),
+            lent.scale.len(),
+            lent.motion.as_ptr(),
+            lent.motion.len(),
+            lent.tolerance,
+            lent.nu.as_mut_ptr(),
+            lent.nu.len(),
+            lent.states.as_mut_ptr(),
+            lent.states.len(),
+            lent.rows.as_mut_ptr(),
+            lent.rows.len(),
+            lent.workspace.as_mut_ptr(),
+            lent.workspace.len(),
+            lent.counts.as_mut_ptr(),
+            lent.counts.len(),
+            lent.residual.as_mut_ptr(),
+            lent.residual.len(),
+        )
+    }
+}
+
+#[cfg(port_tallied)]
+extern "C" {
+    fn piskorlu_tallied(
+        tally: *mut u32,
+        tally_len: usize,
+        tally_residual: *mut f64,
+        tally_residual_len: usize,
+        w: *const f64,
+        w_len: usize,
+        u_free: *const f64,
+        u_free_len: usize,
+        lo: *const f64,
+        lo_len: usize,
+        hi: *const f64,
+        hi_len: usize,
+        scale: *const f64,
+        scale_len: usize,
+        motion: *const f64,
+        motion_len: usize,
+        tolerance: f64,
+        nu: *mut f64,
+        nu_len: usize,
+        states: *mut u8,
+        states_len: usize,
+        rows: *mut usize,
+        rows_len: usize,
+        workspace: *mut f64,
+        workspace_len: usize,
+        counts: *mut usize,
+        counts_len: usize,
+        residual: *mut f64,
+        residual_len: usize,
+    ) -> u32;
+}
+
+#[cfg(port_tallied)]
+fn tallied(tally: Tally, lent: Lent) -> u32 {
+    // SAFETY: as for least_norm.
+    unsafe {
+        piskorlu_tallied(
+            tally.0.as_mut_ptr(),
+            tally.0.len(),
+            tally.1.as_mut_ptr(),
+            tally.1.len(),
             lent.w.as_ptr(),
             lent.w.len(),
             lent.u_free.as_ptr(),

@@ -1,8 +1,10 @@
 #!/bin/sh
-# Compiles the C example against the static library with plain cc, runs it, and compares what it prints with what it must print.
+# Compiles the C examples against the static library with plain cc, runs them, and compares what they print with what they must print.
 set -eu
 cd "$(dirname "$0")/../.."
 [ -f target/staticlib/libcapi.a ] || rt staticlib capi
-cc -std=c99 -Wall -Wextra -Werror -I include examples/c/least_norm.c target/staticlib/libcapi.a -o target/least_norm
-target/least_norm | tee target/least_norm.txt
-diff examples/c/least_norm.txt target/least_norm.txt
+for name in least_norm solve; do
+    cc -std=c99 -Wall -Wextra -Werror -I include "examples/c/$name.c" target/staticlib/libcapi.a -o "target/$name"
+    "target/$name" | tee "target/$name.txt"
+    diff "examples/c/$name.txt" "target/$name.txt"
+done

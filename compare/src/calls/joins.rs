@@ -82,14 +82,14 @@ pub mod theirs {
 }
 
 /// The reports as the port's C interface has them, and back.
-mod ours {
+pub mod ours {
     use crate::port::Join;
     use crate::reference::report::SolveReport;
 
     /// What the slices hold before a join and past its answer.
     const GUARD: u32 = 0xA5A5_5A5A;
 
-    fn counts(r: &SolveReport) -> [u32; 9] {
+    pub fn counts(r: &SolveReport) -> [u32; 9] {
         [
             r.increments,
             r.iterations,
@@ -103,7 +103,7 @@ mod ours {
         ]
     }
 
-    fn back(counts: &[u32], residual: f64) -> SolveReport {
+    pub fn back(counts: &[u32], residual: f64) -> SolveReport {
         SolveReport {
             increments: counts[0],
             iterations: counts[1],

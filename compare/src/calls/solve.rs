@@ -111,16 +111,16 @@ pub fn original(case: &Case, reference: &Answer) -> Option<Answer> {
 }
 
 /// The number given to a port that writes past a lent buffer.
-const MARGINS_CHANGED: u32 = 98;
+pub const MARGINS_CHANGED: u32 = 98;
 
 /// The port's answer, each buffer lent between guard values.
-fn ported(case: &Case, call: port::Solve) -> Answer {
+pub fn ported(case: &Case, call: impl FnOnce(port::Lent) -> u32) -> Answer {
     let p = &case.problem;
     let mut nu = Guarded::of(&p.nu);
     let mut states = Guarded::filled(u8::GUARD, case.states_len);
     let mut rows = Guarded::filled(usize::GUARD, case.rows_len);
     let mut workspace = Guarded::of(&lent_workspace(case));
-    let mut counts = Guarded::filled(u32::GUARD, 7);
+    let mut counts = Guarded::filled(usize::GUARD, 7);
     let mut residual = Guarded::filled(f64::GUARD, 1);
     let number = call(port::Lent {
         w: &p.w,
@@ -169,7 +169,7 @@ fn ported(case: &Case, call: port::Solve) -> Answer {
 /// wrote them, no ending where the call was refused.
 fn port_ending(
     number: u32,
-    counts: &[u32],
+    counts: &[usize],
     residual: &[f64],
 ) -> Option<Option<(Outcome, BoxReport)>> {
     let &[outcome, sweeps, exact_passes, converged, exact, idle, listed] = counts else {
@@ -179,16 +179,18 @@ fn port_ending(
         return None;
     };
     if number != 0 {
-        let kept = counts.iter().all(|&c| c == u32::GUARD) && residual == f64::GUARD;
+        let kept = counts.iter().all(|&c| c == usize::GUARD) && residual == f64::GUARD;
         return kept.then_some(None);
     }
     let outcome = match outcome {
         0 => Outcome::Solved,
-        1 => Outcome::Infeasible(Cause::Growth, listed as usize),
-        2 => Outcome::Infeasible(Cause::Pass, listed as usize),
-        3 => Outcome::Infeasible(Cause::Sweep, listed as usize),
+        1 => Outcome::Infeasible(Cause::Growth, listed),
+        2 => Outcome::Infeasible(Cause::Pass, listed),
+        3 => Outcome::Infeasible(Cause::Sweep, listed),
         _ => return None,
     };
+    // a count that no u32 holds is not an answer's
+    let (sweeps, exact_passes) = (sweeps.try_into().ok()?, exact_passes.try_into().ok()?);
     Some(Some((
         outcome,
         BoxReport {
@@ -197,7 +199,7 @@ fn port_ending(
             converged: converged == 1,
             exact: exact == 1,
             residual,
-            idle,
+            idle: idle.try_into().ok()?,
         },
     )))
 }

@@ -1,11 +1,13 @@
 //! Lists of tallied solves.
 
-use super::joins::same_report;
+use super::guard::Guarded;
+use super::joins::{ours, same_report};
 use super::solve::{self, Answer as SolveAnswer};
 use super::{Call, Zeros};
 use crate::cases::random::Rng;
 use crate::cases::solve as cases;
 use crate::coverage::{Class, Coverage};
+use crate::port;
 use crate::reference::report::{tallied, SolveReport, NOTHING};
 use crate::reference::rule::{Place, Rule};
 
@@ -45,6 +47,48 @@ fn run(
         tally,
         answers: answers.into_iter().flatten().collect(),
     }
+}
+
+/// The refusal of slices too short.
+const SHORT: u32 = 10;
+
+/// Whether the port refuses a tally of eight counts and one of no residual,
+/// and writes nothing.
+fn refuses_short(case: &cases::Case, tally: &SolveReport, call: port::Tallied) -> bool {
+    let counts = ours::counts(tally);
+    let residual = [tally.residual];
+    [(8, 1), (9, 0)].into_iter().all(|(n, m)| {
+        let mut lent_counts = Guarded::of(&counts[..n]);
+        let mut lent_residual = Guarded::of(&residual[..m]);
+        let answer = solve::ported(case, |lent| {
+            call((lent_counts.lend(), lent_residual.lend()), lent)
+        });
+        let refused = solve::lend(case, |_| Err(SHORT));
+        solve::difference(&refused, &answer, Zeros::WithSign).is_none()
+            && lent_counts.kept().as_deref() == Some(&counts[..n])
+            && lent_residual.kept().as_deref() == Some(&residual[..m])
+    })
+}
+
+/// The port's answer, the tally lent between guard values, a flag in it any
+/// number but 0: where the port refuses, the tally must keep every bit.
+fn ported(case: &cases::Case, tally: &mut SolveReport, call: port::Tallied) -> SolveAnswer {
+    let mut before = ours::counts(tally);
+    before[7] *= 7;
+    before[8] *= 7;
+    let mut counts = Guarded::of(&before);
+    let mut residual = Guarded::of(&[tally.residual]);
+    let mut answer = solve::ported(case, |lent| call((counts.lend(), residual.lend()), lent));
+    let left = counts.kept().zip(residual.kept());
+    let (counts, residual) = left.unwrap_or((vec![0; 9], vec![f64::NAN]));
+    if !refuses_short(case, tally, call) {
+        answer.number = solve::MARGINS_CHANGED;
+    } else if answer.number == 0 {
+        *tally = ours::back(&counts, residual[0]);
+    } else if counts != before || residual[0].to_bits() != tally.residual.to_bits() {
+        answer.number = solve::MARGINS_CHANGED;
+    }
+    answer
 }
 
 /// A tally at and around the limits that 11 names.
@@ -172,8 +216,22 @@ impl Call for Tallied {
         }))
     }
 
-    fn port(_: &Case) -> Option<Answer> {
-        None
+    /// In the case's order, and from an empty tally front to back and back to
+    /// front as well; where one of these differs, that one.
+    fn port(case: &Case) -> Option<Answer> {
+        let call = port::TALLIED?;
+        let made = |order: &[usize]| run(case, order, |one, tally| ported(one, tally, call));
+        let first = made(&case.order);
+        if !case.empty {
+            return Some(first);
+        }
+        let onward: Vec<usize> = (0..case.solves.len()).collect();
+        let back: Vec<usize> = onward.iter().rev().copied().collect();
+        let other = [onward, back]
+            .iter()
+            .map(|order| made(order))
+            .find(|answer| Self::difference(&first, answer, Zeros::WithSign).is_some());
+        Some(other.unwrap_or(first))
     }
 
     fn difference(expected: &Answer, found: &Answer, zeros: Zeros) -> Option<&'static str> {

@@ -1,2 +1,4 @@
 pub mod LeastNorm
 pub mod Room
+pub mod Solving
+pub mod Entering

@@ -1,16 +1,22 @@
 // The solver's public calls for C and Rust, by plain numbers and slices: a slice passes as a pointer and then a length. include/piskorlu.h declares
 // them. Each call is total; one that cannot be taken answers document 01's number and writes nothing.
 ghost use mathlib.Core.Path.{_≡_};
-ghost use lib.ListN.{length};
+ghost use lib.ListN.{length, drop};
+ghost use Rattle.sweep.specs.Rows as box;
+ghost use Rattle.boxed.specs.Solves as watched;
 ghost use Rattle.floats.specs.Sqrt as root;
 ghost use Rattle.report.specs.Joins as join;
 ghost use Rattle.capi.specs.LeastNorm as least;
 ghost use Rattle.capi.specs.Reports as def;
+ghost use Rattle.capi.specs.Solves as solve;
+use boxed::BoxSolver;
 use least_norm::LeastNorm;
 use least_norm::Outcome;
 
 mod bend;
 mod reports;
+mod solves;
+mod tallying;
 
 // The square root, rounded to nearest.
 #[no_mangle]
@@ -82,4 +88,42 @@ pub extern "C" fn piskorlu_continued(
         return reports::leave(joined, counts, residual);
     }
     13
+}
+
+// BoxSolver::solve: 0, with seven counts and the residual of the answer; or document 01's number, and nothing is written.
+#[no_mangle]
+pub extern "C" fn piskorlu_solve(
+    w: &[f64],
+    u_free: &[f64],
+    lo: &[f64],
+    hi: &[f64],
+    scale: &[f64],
+    motion: &[f64],
+    tolerance: f64,
+    nu: &mut [f64],
+    states: &mut [u8],
+    rows: &mut [usize],
+    workspace: &mut [f64],
+    counts: &mut [usize],
+    residual: &mut [f64],
+) -> u32
+    ensures { λ r. ⌜ solve.Answered (solve.reply (solve.taken (now (counts .entry)) (now (residual .entry))) (box.problem (now (w .entry)) (now («u_free» .entry)) (now (lo .entry)) (now (hi .entry)) (now (scale .entry))) (watched.watch (now (motion .entry)) tolerance) (now (nu .entry)) (now (states .entry)) (now (rows .entry)) (length (now (workspace .entry)))) r (now (nu .exit)) (now (states .exit)) (now (rows .exit)) (now (counts .entry)) (now (counts .exit)) (now (residual .entry)) (now (residual .exit)) × (drop 2304 (now (workspace .exit)) ≡ drop 2304 (now (workspace .entry))) ⌝ }
+{
+    if solves::taken(counts, residual) {
+        let answer = BoxSolver::solve(
+            w,
+            u_free,
+            lo,
+            hi,
+            scale,
+            motion,
+            tolerance,
+            nu,
+            states,
+            rows,
+            workspace,
+        );
+        return solves::leave(answer, counts, residual);
+    }
+    10
 }

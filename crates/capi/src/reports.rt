@@ -7,7 +7,7 @@ ghost use Rattle.capi.specs.Reports as def;
 use report::Joined;
 use report::SolveReport;
 
-fn flag(b: bool) -> u32
+pub fn flag(b: bool) -> u32
     ensures { λ r. ⌜ r ≡ def.flag b ⌝ }
 {
     if b { 1 } else { 0 }
@@ -37,7 +37,7 @@ pub fn read(counts: &[u32], residual: f64) -> SolveReport
     }
 }
 
-fn write(r: SolveReport, counts: &mut [u32])
+pub fn write(r: SolveReport, counts: &mut [u32])
     requires { ⌜ 9 ≤ length (now counts) ⌝ }
     ensures { λ _. ⌜ now (counts .exit) ≡ def.written r (now (counts .entry)) ⌝ }
 {

@@ -3,3 +3,4 @@ pub mod Cases
 pub mod Marked
 pub mod Further
 pub mod Refusals
+pub mod Errors

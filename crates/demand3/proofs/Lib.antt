@@ -3,6 +3,7 @@ pub mod Words
 pub mod Boxes
 pub mod Rays
 pub mod Due
+pub mod Moved
 pub mod Trials
 pub mod Runs
 pub mod Made
@@ -10,3 +11,4 @@ pub mod Solves
 pub mod Orders
 pub mod Theorem
 pub mod Instance
+pub mod Called

@@ -16,11 +16,11 @@ use Rattle.loops.proofs.Gather.{getD-set, Gathered}
 use Rattle.floats.specs.Ops.{at, 1e-9}
 use Rattle.sweep.specs.Rows.{Problem, rows, state, acts, residual, sweptRow, sweptTo, swept, past, grown, way, idleRow, idleState, markedRow, markedTo, marked}
 use Rattle.ray.specs.Rays.{ray}
-use Rattle.exact_pass.specs.Headings.{Pass, moving, found, failed, fighting}
+use Rattle.exact_pass.specs.Headings.{trial, Pass, moving, found, failed, fighting}
 use Rattle.exact_pass.specs.Passes.{exactPass}
 use Rattle.boxed.specs.Solves.{Ending, exact, still, fight, Stand, stand, Run, going, ended, unless, checkpoint, passed, checked, Watch, stands, tested, unlessGrown, turn, run, SWEEP_CAP}
 use Rattle.boxed.specs.declared.Cause.the-variants as cause
-use Rattle.demand3.specs.Claims.{notAbove, sweptAlone}
+use Rattle.demand3.specs.Claims.{notAbove, sweptAlone, firstTried, LastMove}
 use Rattle.demand3.proofs.Rays.{grown-gathered, ray-gathered, Fights}
 use Rattle.demand3.proofs.Due.{due-next}
 use Rattle.demand3.proofs.Boxes.{Boxed, swept-boxed}
@@ -43,13 +43,18 @@ marked-at p st l =
     go i x h j d true e = sym (ap (λ (k : ℕ). idleState (idleRow p k)) (eqb-true j i e))
     go i x h j d false e = h j (lt-of-le-ne (le-of-suc-le-suc d) (eqb-false j i e))
 
+few : (b : Bool) → idleState b ≤ 3
+unfolding idleState
+few true = omega arith
+few false = omega arith
+
 code : (b : Bool) → eqb (idleState b) 3 ≡ b
 unfolding idleState
 code true = refl
 code false = refl
 
 pub marked-marks : (p : Problem) (st : List ℕ) → rows p ≤ length st → Marks p (marked p st (rows p))
-marked-marks p st l = let h = marked-at p st l in record { long = h .0; idle = λ i b. ap (λ (s : ℕ). eqb s 3) (h .1 i b) ∙ code (idleRow p i) }
+marked-marks p st l = let h = marked-at p st l in record { long = h .0; idle = λ i b. ap (λ (s : ℕ). eqb s 3) (h .1 i b) ∙ code (idleRow p i); known = λ i b. rw (h .1 i b) (few (idleRow p i)) }
 
 -- ---- a sweep reads of the states which rows are Idle, and nothing else
 
@@ -87,6 +92,9 @@ pub record Exact (p : Problem) (st₀ : List ℕ) (nu₀ : List Float) (j : ℕ)
   pub boxed : Boxed p (sweptAlone p st₀ nu₀ j)
   pub holds : Holds p (sweptAlone p st₀ nu₀ j) (s .states) (s .nu)
   pub gentle : (i : ℕ) → i < rows p → hard p (s .states) (s .nu) i ≡ false
+  pub start : List ℕ
+  pub pass : exactPass p start (sweptAlone p st₀ nu₀ j) ≡ found (trial (s .nu) (s .states))
+  pub last : LastMove p (firstTried p start (sweptAlone p st₀ nu₀ j)) (s .nu) (s .states)
 
 -- growth ends a sweep before its pass
 pub record Grew (p : Problem) (st₀ : List ℕ) (nu₀ : List Float) (j : ℕ) (s : Stand) (l : List ℕ) : Type 0 where
@@ -125,11 +133,11 @@ module _ (p : Problem) (m : Watch) (st₀ : List ℕ) (nu₀ : List Float) (firs
   due-no : checkpoint SWEEP_CAP (suc k) ≡ false → notAbove (suc k) ≡ notAbove k
   due-no e = due-next k few ∙ ap (λ (b : Bool). cond b (suc (notAbove k)) (notAbove k)) e
 
-  passed-runs : (s : Stand) (x : Pass) → checkpoint SWEEP_CAP (suc k) ≡ true → Stands p st₀ nu₀ k (suc k) s → Passing p (s .nu) x → Runs p st₀ nu₀ (suc k) (suc k) (passed (suc k) s x)
+  passed-runs : (s : Stand) (x : Pass) → exactPass p (s .states) (s .nu) ≡ x → checkpoint SWEEP_CAP (suc k) ≡ true → Stands p st₀ nu₀ k (suc k) s → Passing p (s .nu) (firstTried p (s .states) (s .nu)) x → Runs p st₀ nu₀ (suc k) (suc k) (passed (suc k) s x)
   unfolding passed
-  passed-runs s (moving t) e h g = record { marks = g .marks; boxed = h .boxed; passes = ap suc (h .passes) ∙ sym (due-yes e); alone = h .alone }
-  passed-runs s (failed t) e h g = record { marks = g .marks; boxed = h .boxed; passes = ap suc (h .passes) ∙ sym (due-yes e); alone = h .alone }
-  passed-runs s (found t) e h g = (
+  passed-runs s (moving t) q e h g = record { marks = g .marks; boxed = h .boxed; passes = ap suc (h .passes) ∙ sym (due-yes e); alone = h .alone }
+  passed-runs s (failed t) q e h g = record { marks = g .marks; boxed = h .boxed; passes = ap suc (h .passes) ∙ sym (due-yes e); alone = h .alone }
+  passed-runs s (found t) q e h g = (
     omega arith,
     omega arith,
     record {
@@ -138,9 +146,12 @@ module _ (p : Problem) (m : Watch) (st₀ : List ℕ) (nu₀ : List Float) (firs
       boxed = subst (Boxed p) (h .alone) (h .boxed);
       holds = subst (λ (v : List Float). Holds p v (t .states) (t .nu)) (h .alone) (g .0 .holds);
       gentle = g .1;
+      start = s .states;
+      pass = ap (exactPass p (s .states)) (sym (h .alone)) ∙ q;
+      last = subst (λ (v : List Float). LastMove p (firstTried p (s .states) v) (t .nu) (t .states)) (h .alone) (g .2);
     },
   )
-  passed-runs s (fighting l t) e h g =
+  passed-runs s (fighting l t) q e h g =
       (omega arith, omega arith, record { standing = record { marks = g .0 .marks; boxed = h .boxed; passes = ap suc (h .passes) ∙ sym (due-yes e); alone = h .alone }; fought = g .1 })
 
   checked-runs : (x : Run) → Runs p st₀ nu₀ (suc k) k x → Runs p st₀ nu₀ (suc k) (suc k) (checked SWEEP_CAP p (suc k) x)
@@ -149,7 +160,7 @@ module _ (p : Problem) (m : Watch) (st₀ : List ℕ) (nu₀ : List Float) (firs
   checked-runs (going s) h = go (checkpoint SWEEP_CAP (suc k)) refl
     where
       go : (b : Bool) → checkpoint SWEEP_CAP (suc k) ≡ b → Runs p st₀ nu₀ (suc k) (suc k) (cond b (passed (suc k) s (exactPass p (s .states) (s .nu))) (going s))
-      go true e = passed-runs s (exactPass p (s .states) (s .nu)) e h (exact-passing p (s .states) (s .nu) (h .marks) (h .boxed .long))
+      go true e = passed-runs s (exactPass p (s .states) (s .nu)) refl e h (exact-passing p (s .states) (s .nu) (h .marks) (h .boxed .long))
       go false e = record { marks = h .marks; boxed = h .boxed; passes = h .passes ∙ sym (due-no e); alone = h .alone }
 
   fell-runs : (s : Stand) (l : List ℕ) → Stands p st₀ nu₀ (suc k) (suc k) s → Gathered (Fights p (s .states)) (rows p) l → Runs p st₀ nu₀ (suc k) (suc k) (unless cause.Sweep (suc k) s l)

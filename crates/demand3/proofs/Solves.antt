@@ -1,19 +1,19 @@
 -- Every solve has the claims of demand 3, and every report is one that a tally can take.
-use Prim.Native.Nat.{ℕ, zero, suc, _-_, _*_, _%_, _≤_, _<_, zero-le}
+use Prim.Native.Nat.{ℕ, zero, suc, _-_, _≤_, _<_, zero-le}
 use mathlib.Core.Path.{_≡_, refl, sym, _∙_, ap, subst}
-use mathlib.Core.Bool.{Bool, true, false, not, cond, _&&_, _||_, true≢false, and-false}
-use mathlib.Core.List.{List, [], _∷_}
+use mathlib.Core.Bool.{Bool, true, false, cond, _&&_, _||_, true≢false, and-false}
+use mathlib.Core.List.{List}
 use native.Mathlib.Omega.{arith}
-use native.Mathlib.Nat.{not-suc-le-zero, le-of-eq, le-refl}
+use native.Mathlib.Nat.{not-suc-le-zero, le-of-suc-le-suc, le-of-eq, le-refl}
+use lib.Arith.{lt-of-le-ne}
 use lib.Dec.{ltb, eqb}
 use lib.ListN.{length, getD}
 use lib.Ieee.{Float, binary64, lt, le}
 use lib.Ieee.Bits.{ofBits-fits}
 use lib.Ieee.Fits.{div-fits}
-use borrow.Author.Tests.{eqb-true, ltb-false, not-false}
-use Rattle.loops.specs.Loops.{every, fronted}
+use borrow.Author.Tests.{eqb-true, eqb-false}
+use Rattle.loops.specs.Loops.{fronted}
 use Rattle.loops.proofs.Turns.{turns-keep}
-use Rattle.loops.proofs.Every.{both-true}
 use Rattle.loops.proofs.Gather.{each-at, Gathered}
 use Rattle.loops.proofs.Paste.{front-read}
 use Rattle.floats.specs.Ops.{at, Fits, 0ᶠ, 1e-9, 1e6, _⊖_, _⊗_, _⊘_}
@@ -25,14 +25,14 @@ use Rattle.floats.proofs.Bound.{nil, above, nil-lo, nil-hi, nil-abs, nil-div, n
 use Rattle.sweep.specs.Rows.{Problem, rows, W, state, acts, cannotAct, idleRow, idleState, idleRows, begun, marked, rowSum, update, updated, naturalResidual, residualRow, residual, past}
 use Rattle.sweep.specs.Rows as D
 use Rattle.moves.specs.Moves.{wrong}
-use Rattle.boxed.specs.Solves.{exact, still, fight, Stand, Run, going, ended, Watch, run, Outcome, refused, solved, infeasible, Result, reportOf, unfound, result, nothing, begin, solveFrom, solve, goodScaleAt, first, refusal, reply, solveReply, SWEEP_CAP}
+use Rattle.boxed.specs.Solves.{exact, still, fight, Stand, Run, going, ended, Watch, run, Outcome, refused, solved, infeasible, Result, reportOf, unfound, result, nothing, begin, solveFrom, solve, reply, solveReply, SWEEP_CAP}
 use Rattle.boxed.proofs.Accepting.{Accepted, accepted}
 use Rattle.boxed.specs.declared.BoxReport.{BoxReport}
 use Rattle.boxed.specs.declared.Cause.{Cause}
 use Rattle.boxed.specs.declared.Cause.the-variants as cause
 use Rattle.tally.specs.Tally.{Call, number, alone}
 use Rattle.demand3.specs.Claims.{sweptAlone, Upright, NaNOrInBox, acting, notAbove, below, afterSweeps, goesOn, passesMade, passesIn, bySweeps, OnBound, Sound, Reason, Listed, Claims}
-use Rattle.demand3.proofs.Words.{lt-abs, acts-above, idle-not-above, diagonal, own-is, rising-at, gathered-few}
+use Rattle.demand3.proofs.Words.{lt-abs, acts-above, above-acts, idle-not-above, diagonal, own-is, rising-at, gathered-few}
 use Rattle.demand3.proofs.Boxes.{Boxed, Inside, begun-boxed}
 use Rattle.demand3.proofs.Rays.{Fights}
 use Rattle.demand3.proofs.Due.{due-zero, due-most, below-is}
@@ -75,6 +75,9 @@ gentle s u r h k = go (wrong s u) refl (lt 1e-9 r) refl h
 acts-is-above : (d : Float) → cannotAct d ≡ false → above d ≡ true
 unfolding cannotAct isNaN
 acts-is-above d h = acting-above d h
+
+not-last : (s : ℕ) → s ≤ 3 → (s ≡ 3 → ⊥) → s ≤ 2
+not-last s h k = le-of-suc-le-suc (lt-of-le-ne h k)
 
 -- ---- what is known of a report
 
@@ -119,6 +122,12 @@ module _ (c : Call) (zeroth : number c ≡ 0) (fair : Upright (c .problem)) (ok 
   idle-is : (i : ℕ) → i < rows p → acting p i ≡ false → idleRow p i ≡ true
   idle-is i b h = idle-not-above (W p i i) (rw (diagonal p (ok .few) (ok .square) i b) h)
 
+  acting-state : (st : List ℕ) (i : ℕ) → Marks p st → i < rows p → acting p i ≡ true → state st i ≤ 2
+  acting-state st i m b h =
+      let few = m .known i b in
+      let other = eqb-false (state st i) 3 (m .idle i b ∙ above-acts (W p i i) (rw (diagonal p (ok .few) (ok .square) i b) h)) in
+      not-last (state st i) few other
+
   -- it goes on until sweep k, which is its last, and has counted the passes that it made
   abbrev Sweeps : ℕ → Stand → Type 0
   Sweeps k s = ((i : ℕ) → i < k → goesOn (afterSweeps c i) ≡ true) × (goesOn (afterSweeps c k) && ltb k 200 ≡ false) × (s .passes ≡ passesIn c k)
@@ -135,6 +144,7 @@ module _ (c : Call) (zeroth : number c ≡ 0) (fair : Upright (c .problem)) (ok 
         fewSweeps = h;
         passes = q;
         leftBySweeps = λ z. e ∙ w;
+        written = λ z. absurd (true≢false (sym z));
         idleLeft = λ i d z. ap (λ (nu : List Float). at nu i) (e ∙ w);
         inBoxes = λ z i d. rw e (in-box (s .nu) i (b .boxes (fair .ordered) i d));
         idleInBoxes = λ i d z. rw e (in-box (s .nu) i (b .boxes (fair .ordered) i d));
@@ -183,6 +193,14 @@ module _ (c : Call) (zeroth : number c ≡ 0) (fair : Upright (c .problem)) (ok 
         fewSweeps = h;
         passes = x .passes;
         leftBySweeps = λ z. absurd (true≢false z);
+        written = λ z y. record {
+          given = x .start;
+          pass = rw (e, i) (x .pass);
+          states = λ j d f. rw i (acting-state (s .states) j (x .marks) d f);
+          last = rw (e, i) (x .last);
+          low = λ j d f. rw e (x .holds .low j d (rw i at f));
+          high = λ j d f. rw e (x .holds .high j d (rw i at f));
+        };
         inBoxes = λ z. absurd (true≢false z);
         idleLeft = λ j d z. ap (λ (nu : List Float). at nu j) e ∙ rest j d z;
         idleInBoxes = λ j d z. rw (e, rest j d z) (in-box (bySweeps c k) j (x .boxed .boxes (fair .ordered) j d));
@@ -303,6 +321,7 @@ still-claims c z fair ok idle =
         fewSweeps = zero-le;
         passes = sym due-zero;
         leftBySweeps = λ y. absurd (true≢false y);
+        written = λ y h. absurd (not-suc-le-zero h);
         idleLeft = λ i d y. refl;
         inBoxes = λ y. absurd (true≢false y);
         idleInBoxes = λ i d y. s .boxed .boxes (fair .ordered) i d;

@@ -1,4 +1,4 @@
--- What holds through an exact pass: Idle rows keep their state and multiplier, and a row on a bound holds exactly that bound.
+-- What holds through an exact pass: Idle rows keep their state and multiplier, a row on a bound holds exactly that bound, and a pass that finds an answer has moved every row inside last.
 use Prim.Native.Nat.{ℕ, suc, _≤_, _<_}
 use mathlib.Core.Path.{_≡_, refl, sym, _∙_, ap, subst}
 use mathlib.Core.Bool.{Bool, true, false, cond, _&&_, _||_, true≢false}
@@ -11,7 +11,7 @@ use lib.ListN.{length, getD, set, length-set}
 use lib.Seq.{getD-set-other, set-getD}
 use lib.Ieee.{Float, nan, lt}
 use borrow.Author.Tests.{eqb-true, eqb-false, eq-eqb, ne-eqb, not-true}
-use Rattle.loops.proofs.Turns.{turns-keep}
+use Rattle.loops.proofs.Turns.{turns-keep, turns-start, turns-step}
 use Rattle.loops.proofs.Gather.{Gathered, those-gathered, getD-set, each-at}
 use Rattle.floats.specs.Ops.{_⊕_, _⊖_, _⊗_, _⊘_, at, 0ᶠ, 1ᶠ, 1e-9, ∞}
 use Rattle.floats.specs.Helpers.{isFinite, larger}
@@ -20,27 +20,35 @@ use Rattle.ray.specs.Rays.{ray}
 use Rattle.moves.specs.Moves.{heldRow, heldTo, held, inside, inconsistent, toTarget, narrowed, narrow, roomRow, roomTo, room, unblocked, movedRow, moved, wrong, harder, pushedRow, unpushed, pushed}
 use Rattle.moves.specs.declared.Blocking.{Blocking}
 use Rattle.moves.specs.declared.Hardest.{Hardest}
-use Rattle.exact_pass.specs.Headings.{Trial, trial, Pass, moving, found, failed, fighting, released, release, stopped, fought, wentTo, went, headedBy, headed}
+use Rattle.exact_pass.specs.Headings.{Trial, trial, Pass, boundAt, moving, found, failed, fighting, released, release, stopped, fought, wentTo, went, headedBy, headed}
 use Rattle.exact_pass.specs.Passes.{aimed, towardBy, toward, step, stuck, move, moves, limit, passFrom, exactPass}
+use Rattle.demand3.specs.Claims.{firstTried, LastMove}
 use Rattle.demand3.proofs.Rays.{Fights, ray-gathered}
+use Rattle.demand3.proofs.Moved.{moved-at, none-inside}
 
 -- ---- states: Idle exactly where the row is
 
 pub record Marks (p : Problem) (st : List ℕ) : Type 0 where
   pub long : rows p ≤ length st
   pub idle : (i : ℕ) → i < rows p → eqb (state st i) 3 ≡ idleRow p i
+  pub known : (i : ℕ) → i < rows p → state st i ≤ 3
 
-set-marks : (p : Problem) (st : List ℕ) (i v : ℕ) → i < rows p → eqb v 3 ≡ idleRow p i → Marks p st → Marks p (set st i v)
-set-marks p st i v b e m =
+set-marks : (p : Problem) (st : List ℕ) (i v : ℕ) → i < rows p → v ≤ 3 → eqb v 3 ≡ idleRow p i → Marks p st → Marks p (set st i v)
+set-marks p st i v b few e m =
     let h = m .long in
     record {
       long = rw (length-set st i v) (m .long);
       idle = λ j c. rw (getD-set st i j v 0 (omega arith)) (go j c (eqb j i) refl);
+      known = λ j c. rw (getD-set st i j v 0 (omega arith)) (one j c (eqb j i));
     }
   where
     go : (j : ℕ) → j < rows p → (b : Bool) → eqb j i ≡ b → eqb (cond b v (state st j)) 3 ≡ idleRow p j
     go j c true k = e ∙ sym (ap (idleRow p) (eqb-true j i k))
     go j c false k = m .idle j c
+
+    one : (j : ℕ) → j < rows p → (b : Bool) → cond b v (state st j) ≤ 3
+    one j c true = few
+    one j c false = m .known j c
 
 -- a row that acts is not Idle
 pub acts-not-idle : (p : Problem) (st : List ℕ) (i : ℕ) → Marks p st → i < rows p → acts st i ≡ true → idleRow p i ≡ false
@@ -58,6 +66,15 @@ stateOf-acts lo hi s v = go (near lo (v ⊖ lo) s) (near hi (hi ⊖ v) s)
     go false true = refl
     go false false = refl
 
+stateOf-few : (lo hi s v : Float) → stateOf lo hi s v ≤ 3
+unfolding stateOf
+stateOf-few lo hi s v = go (near lo (v ⊖ lo) s) (near hi (hi ⊖ v) s)
+  where
+    go : (a b : Bool) → cond a 1 (cond b 2 0) ≤ 3
+    go true b = omega arith
+    go false true = omega arith
+    go false false = omega arith
+
 shown-marks : (p : Problem) (nu : List Float) (st : List ℕ) → Marks p st → Marks p (shown p nu st (rows p))
 unfolding shownTo shownRow
 shown-marks p nu st m = turns-keep (shownRow (p .lo) (p .hi) (p .scale) nu) st (λ i st. Marks p st) (rows p) m λ i x b h. go i x b h (acts x i) refl
@@ -67,7 +84,7 @@ shown-marks p nu st m = turns-keep (shownRow (p .lo) (p .hi) (p .scale) nu) st (
 
     go : (i : ℕ) (x : List ℕ) → i < rows p → Marks p x → (a : Bool) → acts x i ≡ a
         → Marks p (cond a (set x i (stateOf (at (p .lo) i) (at (p .hi) i) (at (p .scale) i) (at nu i))) x)
-    go i x b h true e = set-marks p x i (v i) b (stateOf-acts (at (p .lo) i) (at (p .hi) i) (at (p .scale) i) (at nu i) ∙ sym (acts-not-idle p x i h b e)) h
+    go i x b h true e = set-marks p x i (v i) b (stateOf-few (at (p .lo) i) (at (p .hi) i) (at (p .scale) i) (at nu i)) (stateOf-acts (at (p .lo) i) (at (p .hi) i) (at (p .scale) i) (at nu i) ∙ sym (acts-not-idle p x i h b e)) h
     go i x b h false e = h
 
 -- ---- multipliers: a row on a bound holds it
@@ -272,11 +289,12 @@ pub record Fought (p : Problem) (st : List ℕ) (l : List ℕ) : Type 0 where
   pub some : 0 < length l
   pub these : Gathered (Fights p st) (rows p) l
 
-abbrev pub Passing : Problem → List Float → Pass → Type 0
-Passing p base (moving t) = Tries p base t
-Passing p base (failed t) = Tries p base t
-Passing p base (found t) = Tries p base t × ((i : ℕ) → i < rows p → hard p (t .states) (t .nu) i ≡ false)
-Passing p base (fighting l t) = Tries p base t × Fought p (t .states) l
+-- `first` is what it tries first
+abbrev pub Passing : Problem → List Float → Trial → Pass → Type 0
+Passing p base first (moving t) = Tries p base t
+Passing p base first (failed t) = Tries p base t
+Passing p base first (found t) = Tries p base t × ((i : ℕ) → i < rows p → hard p (t .states) (t .nu) i ≡ false) × LastMove p first (t .nu) (t .states)
+Passing p base first (fighting l t) = Tries p base t × Fought p (t .states) l
 
 -- a row set to a state, its multiplier to a value
 set-holds : {base : List Float} (p : Problem) (st : List ℕ) (nu : List Float) (i s : ℕ) (v : Float) → i < rows p → (s ≡ 3 → ⊥) → (s ≡ 1 → v ≡ at (p .lo) i) → (s ≡ 2 → v ≡ at (p .hi) i)
@@ -316,78 +334,139 @@ wrong-acts s u h = go (eqb s 1) refl (eqb s 2) refl h
     go false e true f k = ap (λ (x : ℕ). eqb x 3) (eqb-true s 2 f)
     go false e false f k = absurd (true≢false (sym k))
 
-release-passing : {base : List Float} (p : Problem) (t : Trial) → Tries p base t → Passing p base (release p t)
+-- a move has come to the multipliers nu, the rows inside written
+record Wrote (p : Problem) (first : Trial) (nu : List Float) (st : List ℕ) : Type 0 where
+  before : ℕ
+  from : List Float
+  tried : moves p first before ≡ moving (trial from st)
+  way : List Float
+  far : Float
+  written : (i : ℕ) → i < rows p → state st i ≡ 0 → at nu i ≡ at from i ⊕ far ⊗ at way i
+
+release-passing : {base : List Float} (p : Problem) (first t : Trial) → Tries p base t → (w : Wrote p first (t .nu) (t .states)) → moves p first (suc (w .before)) ≡ release p t
+    → Passing p base first (release p t)
 unfolding release released
-release-passing {base} p t h = go (pushed p (t .states) (t .nu) (rows p)) (pushed-released p (t .states) (t .nu))
+release-passing {base} p first t h w came = go (pushed p (t .states) (t .nu) (rows p)) (pushed-released p (t .states) (t .nu)) came
   where
     go : (b : Hardest) → Released p (t .states) (t .nu) (rows p) b
-        → Passing p base (cond (eqb (b .row) (rows p)) (found t) (moving (trial (t .nu) (set (t .states) (b .row) 0))))
-    go b (nothing e w f) = rw (eq-eqb (b .row) (rows p) e) (h, f)
-    go b (this c w) =
+        → moves p first (suc (w .before)) ≡ cond (eqb (b .row) (rows p)) (found t) (moving (trial (t .nu) (set (t .states) (b .row) 0)))
+        → Passing p base first (cond (eqb (b .row) (rows p)) (found t) (moving (trial (t .nu) (set (t .states) (b .row) 0))))
+    go b (nothing e d f) q =
+        let last : LastMove p first (t .nu) (t .states)
+        = record { before = w .before; from = w .from; tried = w .tried; came = rw (eq-eqb (b .row) (rows p) e) at q; way = w .way; far = w .far; written = w .written } in
+        rw (eq-eqb (b .row) (rows p) e) (h, f, last)
+    go b (this c w) q =
         rw (ne-eqb (b .row) (rows p) (λ e. omega arith))
         (record {
-          marks = set-marks p (t .states) (b .row) 0 c (sym (sym (h .marks .idle (b .row) c) ∙ wrong-acts (state (t .states) (b .row)) (rowSum p (t .nu) (b .row)) w)) (h .marks);
+          marks = set-marks p (t .states) (b .row) 0 c (omega arith) (sym (sym (h .marks .idle (b .row) c) ∙ wrong-acts (state (t .states) (b .row)) (rowSum p (t .nu) (b .row)) w)) (h .marks);
           holds = free-holds p (t .states) (t .nu) (b .row) c (h .marks) (h .holds);
         })
 
-stopped-passing : {base : List Float} (p : Problem) (t : Trial) (r : Blocking) → Tries p base t → Stops p (t .states) r → Passing p base (stopped p t r)
+stopped-passing : {base : List Float} (p : Problem) (first t : Trial) (r : Blocking) → Tries p base t → (w : Wrote p first (t .nu) (t .states)) → Stops p (t .states) r
+    → moves p first (suc (w .before)) ≡ stopped p t r → Passing p base first (stopped p t r)
 unfolding stopped
-stopped-passing p t r h (nowhere e) = rw e (release-passing p t h)
-stopped-passing p t r h (onLo e b z) =
+stopped-passing p first t r h w (nowhere e) came =
+    let q : moves p first (suc (w .before))
+    ≡ cond (eqb (r .stop) 0) (release p t) (moving (trial (set (t .nu) (r .row) (boundAt (p .lo) (p .hi) (r .stop) (r .row))) (set (t .states) (r .row) (r .stop)))) = came in
+    rw e (release-passing p first t h w (rw e at q))
+stopped-passing p first t r h w (onLo e b z) came =
     rw e
     (record {
-      marks = set-marks p (t .states) (r .row) 1 b (sym (state-not-idle p (t .states) (r .row) 0 (h .marks) b z refl)) (h .marks);
+      marks = set-marks p (t .states) (r .row) 1 b (omega arith) (sym (state-not-idle p (t .states) (r .row) 0 (h .marks) b z refl)) (h .marks);
       holds = set-holds p (t .states) (t .nu) (r .row) 1 (at (p .lo) (r .row)) b (λ q. omega arith) (λ q. refl) (λ q. absurd (omega arith)) (h .marks) (h .holds);
     })
-stopped-passing p t r h (onHi e b z) =
+stopped-passing p first t r h w (onHi e b z) came =
     rw e
     (record {
-      marks = set-marks p (t .states) (r .row) 2 b (sym (state-not-idle p (t .states) (r .row) 0 (h .marks) b z refl)) (h .marks);
+      marks = set-marks p (t .states) (r .row) 2 b (omega arith) (sym (state-not-idle p (t .states) (r .row) 0 (h .marks) b z refl)) (h .marks);
       holds = set-holds p (t .states) (t .nu) (r .row) 2 (at (p .hi) (r .row)) b (λ q. omega arith) (λ q. absurd (omega arith)) (λ q. refl) (h .marks) (h .holds);
     })
 
-fought-passing : {base : List Float} (p : Problem) (t : Trial) (l : List ℕ) → Tries p base t → Gathered (Fights p (t .states)) (rows p) l → Passing p base (fought t l)
+fought-passing : {base : List Float} (p : Problem) (first t : Trial) (l : List ℕ) → Tries p base t → Gathered (Fights p (t .states)) (rows p) l → Passing p base first (fought t l)
 unfolding fought
-fought-passing p t [] h g = h
-fought-passing p t (a ∷ l) h g = (h, record { some = omega arith; these = g })
+fought-passing p first t [] h g = h
+fought-passing p first t (a ∷ l) h g = (h, record { some = omega arith; these = g })
 
-went-passing : {base : List Float} (p : Problem) (t : Trial) (l : List ℕ) (y : List Float) (alpha : Float) → Tries p base t → Insides p (t .states) l → Passing p base (went p t l y alpha)
+-- t stands in the pass after some moves, and l are its rows inside
+record Stood (p : Problem) (first t : Trial) (l : List ℕ) : Type 0 where
+  after : ℕ
+  tried : moves p first after ≡ moving t
+  listed : l ≡ stuck (t .states) (rows p)
+
+-- the rows inside, moved
+abbrev moved-wrote : {base : List Float} (p : Problem) (first t : Trial) (l : List ℕ) (y : List Float) (alpha : Float) → Tries p base t → Stood p first t l
+    → Wrote p first (moved l y alpha (t .nu) (length l)) (t .states)
+moved-wrote p first t l y alpha h e =
+    record {
+      before = e .after;
+      from = t .nu;
+      tried = e .tried;
+      way = y;
+      far = alpha;
+      written = λ i b z. rw (e .listed) (moved-at (t .states) (rows p) y alpha (t .nu) (h .holds .long) i b z);
+    }
+
+went-passing : {base : List Float} (p : Problem) (first t : Trial) (l : List ℕ) (y : List Float) (alpha : Float) → Tries p base t → (here : Stood p first t l) → Insides p (t .states) l
+    → moves p first (suc (here .after)) ≡ went p t l y alpha → Passing p base first (went p t l y alpha)
 unfolding went wentTo
-went-passing {base} p t l y alpha h s = go (room p l (t .nu) y alpha (length l)) (room-stops p (t .states) l (t .nu) y alpha s)
+went-passing {base} p first t l y alpha h here s came = go (room p l (t .nu) y alpha (length l)) (room-stops p (t .states) l (t .nu) y alpha s) came
   where
     go : (r : Blocking) → Stops p (t .states) r
-        → Passing p base (cond (isFinite (r .alpha)) (stopped p (trial (moved l y (r .alpha) (t .nu) (length l)) (t .states)) r) (fought t (ray p (t .states) y)))
-    go r k = pick (isFinite (r .alpha))
+        → moves p first (suc (here .after)) ≡ cond (isFinite (r .alpha)) (stopped p (trial (moved l y (r .alpha) (t .nu) (length l)) (t .states)) r) (fought t (ray p (t .states) y))
+        → Passing p base first (cond (isFinite (r .alpha)) (stopped p (trial (moved l y (r .alpha) (t .nu) (length l)) (t .states)) r) (fought t (ray p (t .states) y)))
+    go r k q = pick (isFinite (r .alpha)) q
       where
-        pick : (b : Bool) → Passing p base (cond b (stopped p (trial (moved l y (r .alpha) (t .nu) (length l)) (t .states)) r) (fought t (ray p (t .states) y)))
-        pick true =
-            stopped-passing p (trial (moved l y (r .alpha) (t .nu) (length l)) (t .states)) r
-            (record { marks = h .marks; holds = moved-holds p (t .states) l y (r .alpha) (t .nu) s (h .holds) }) k
-        pick false = fought-passing p t (ray p (t .states) y) h (ray-gathered p (t .states) y)
+        pick : (b : Bool) → moves p first (suc (here .after)) ≡ cond b (stopped p (trial (moved l y (r .alpha) (t .nu) (length l)) (t .states)) r) (fought t (ray p (t .states) y))
+            → Passing p base first (cond b (stopped p (trial (moved l y (r .alpha) (t .nu) (length l)) (t .states)) r) (fought t (ray p (t .states) y)))
+        pick true c =
+            stopped-passing p first (trial (moved l y (r .alpha) (t .nu) (length l)) (t .states)) r
+            (record { marks = h .marks; holds = moved-holds p (t .states) l y (r .alpha) (t .nu) s (h .holds) }) (moved-wrote p first t l y (r .alpha) h here) k c
+        pick false c = fought-passing p first t (ray p (t .states) y) h (ray-gathered p (t .states) y)
 
-headed-passing : {base : List Float} (p : Problem) (t : Trial) (l : List ℕ) (z r y : List Float) → Tries p base t → Insides p (t .states) l → Passing p base (headedBy p t l z r y)
+headed-passing : {base : List Float} (p : Problem) (first t : Trial) (l : List ℕ) (z r y : List Float) → Tries p base t → (here : Stood p first t l) → Insides p (t .states) l
+    → moves p first (suc (here .after)) ≡ headedBy p t l z r y → Passing p base first (headedBy p t l z r y)
 unfolding headedBy
-headed-passing {base} p t l z r y h s = pick (inconsistent (p .w) (rows p) (p .scale) l r (length l)) (toTarget (p .scale) l z (t .nu) y (length l))
+headed-passing {base} p first t l z r y h here s came = pick (inconsistent (p .w) (rows p) (p .scale) l r (length l)) (toTarget (p .scale) l z (t .nu) y (length l)) came
   where
-    pick : (b : Bool) (x : List Float) → Passing p base (cond b (went p t l y ∞) (went p t l x 1ᶠ))
-    pick true x = went-passing p t l y ∞ h s
-    pick false x = went-passing p t l x 1ᶠ h s
+    pick : (b : Bool) (x : List Float) → moves p first (suc (here .after)) ≡ cond b (went p t l y ∞) (went p t l x 1ᶠ) → Passing p base first (cond b (went p t l y ∞) (went p t l x 1ᶠ))
+    pick true x c = went-passing p first t l y ∞ h here s c
+    pick false x c = went-passing p first t l x 1ᶠ h here s c
 
-step-passing : {base : List Float} (p : Problem) (t : Trial) (l : List ℕ) → Tries p base t → Insides p (t .states) l → Passing p base (step p t l)
+-- where no row is inside, none is left to write
+abbrev none-wrote : (p : Problem) (first t : Trial) → Stood p first t [] → Wrote p first (t .nu) (t .states)
+none-wrote p first t e =
+    record {
+      before = e .after;
+      from = t .nu;
+      tried = e .tried;
+      way = t .nu;
+      far = 0ᶠ;
+      written = λ i b z. absurd (none-inside (t .states) (rows p) i (sym (e .listed)) b z);
+    }
+
+step-passing : {base : List Float} (p : Problem) (first t : Trial) (l : List ℕ) → Tries p base t → (here : Stood p first t l) → Insides p (t .states) l
+    → moves p first (suc (here .after)) ≡ step p t l → Passing p base first (step p t l)
 unfolding step toward towardBy aimed headed
-step-passing p t [] h s = release-passing p t h
-step-passing p t (a ∷ l) h s = headed-passing p t (a ∷ l) _ _ _ h s
+step-passing p first t [] h here s came = release-passing p first t h (none-wrote p first t here) came
+step-passing p first t (a ∷ l) h here s came = headed-passing p first t (a ∷ l) _ _ _ h here s came
 
-move-passing : (p : Problem) (base : List Float) (k : ℕ) (x : Pass) → Passing p base x → Passing p base (move p k x)
+move-passing : (p : Problem) (base : List Float) (first : Trial) (k : ℕ) (x : Pass) → moves p first k ≡ x → moves p first (suc k) ≡ move p k x → Passing p base first x
+    → Passing p base first (move p k x)
 unfolding move
-move-passing p base k (moving t) h = step-passing p t (stuck (t .states) (rows p)) h (stuck-insides p (t .states))
-move-passing p base k (found t) h = h
-move-passing p base k (failed t) h = h
-move-passing p base k (fighting l t) h = h
+move-passing p base first k (moving t) e came h =
+    step-passing p first t (stuck (t .states) (rows p)) h (record { after = k; tried = e; listed = refl }) (stuck-insides p (t .states)) came
+move-passing p base first k (found t) e came h = h
+move-passing p base first k (failed t) e came h = h
+move-passing p base first k (fighting l t) e came h = h
 
-pub exact-passing : (p : Problem) (st : List ℕ) (nu : List Float) → Marks p st → rows p ≤ length nu → Passing p nu (exactPass p st nu)
-unfolding exactPass passFrom moves
+moves-passing : (p : Problem) (base : List Float) (first : Trial) → Tries p base first → (k : ℕ) → Passing p base first (moves p first k)
+unfolding moves
+moves-passing p base first h k =
+    turns-keep (move p) (moving first) (λ i x. (moves p first i ≡ x) × Passing p base first x) k (turns-start (moving first) (move p), h)
+    (λ i x c g. let q = turns-step (moving first) (move p) i ∙ ap (move p i) (g .0) in (q, move-passing p base first i x (g .0) q (g .1))) .1
+
+pub exact-passing : (p : Problem) (st : List ℕ) (nu : List Float) → Marks p st → rows p ≤ length nu → Passing p nu (firstTried p st nu) (exactPass p st nu)
+unfolding exactPass passFrom
 exact-passing p st nu m b =
     let t = shown p nu st (rows p) in
-    turns-keep (move p) (moving (trial (held p t nu (rows p)) t)) (λ i. Passing p nu) (limit t (rows p))
-    (record { marks = shown-marks p nu st m; holds = held-holds p t nu b }) λ i x c h. move-passing p nu i x h
+    moves-passing p nu (firstTried p st nu) (record { marks = shown-marks p nu st m; holds = held-holds p t nu b }) (limit t (rows p))

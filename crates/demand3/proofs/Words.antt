@@ -17,7 +17,7 @@ use Rattle.floats.specs.Ops.{_⊕_, _⊖_, _⊗_, _⊘_, at, 0ᶠ}
 use Rattle.floats.specs.Helpers.{abs, clamp, isNaN}
 use Rattle.floats.proofs.Maximum.{not-zero}
 use Rattle.floats.proofs.Meaning.{unsigned, abs-is}
-use Rattle.floats.proofs.Order.{total}
+use Rattle.floats.proofs.Order.{total, not-above, lt-right}
 use Rattle.sweep.specs.Rows.{Problem, rows, row, cannotAct, rowSumTo, rowSum, fewer, update, naturalResidual}
 use Rattle.sweep.specs.Rows as D
 use Rattle.sweep.proofs.Matrix.{row-at, row-length}
@@ -87,6 +87,14 @@ acts-above d h = go (eq d d) refl (lt 0ᶠ d) refl h
     go false i b j g = absurd (true≢false g)
     go true i true j g = refl
     go true i false j g = absurd (true≢false (sym (total 0ᶠ d (unfold eq ofBits in refl) i j) ∙ g))
+
+pub above-acts : (d : Float) → lt 0ᶠ d ≡ true → cannotAct d ≡ false
+unfolding cannotAct isNaN ne
+above-acts d h = rw (lt-right 0ᶠ d h) (go (le d 0ᶠ) refl)
+  where
+    go : (b : Bool) → le d 0ᶠ ≡ b → le d 0ᶠ ≡ false
+    go true e = absurd (true≢false (sym h ∙ not-above 0ᶠ d e))
+    go false e = e
 
 pub idle-not-above : (d : Float) → lt 0ᶠ d ≡ false → cannotAct d ≡ true
 unfolding cannotAct isNaN ne

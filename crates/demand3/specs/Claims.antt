@@ -8,7 +8,10 @@ use lib.Dec.{leb, ltb}
 use lib.ListN.{length, getD, take}
 use lib.Ieee.{Float, nan, inf, fin, lt, le, eq, ne}
 use Rattle.floats.specs.Ops.{_⊕_, _⊖_, _⊗_, _⊘_, at, Fits, 0ᶠ, 1e6, 1e-9, ∞, −∞}
-use Rattle.sweep.specs.Rows.{Problem, rows, swept, grown, begun, marked}
+use Rattle.sweep.specs.Rows.{Problem, rows, swept, grown, begun, marked, shown}
+use Rattle.moves.specs.Moves.{held}
+use Rattle.exact_pass.specs.Headings.{Trial, trial, moving, found}
+use Rattle.exact_pass.specs.Passes.{moves, exactPass}
 use Rattle.boxed.specs.Solves.{Stand, Run, going, ended, Watch, checkpoint, run, begin, SWEEP_CAP, Outcome, refused, solved, infeasible, Result}
 use Rattle.boxed.specs.declared.BoxReport.{BoxReport}
 use Rattle.boxed.specs.declared.Cause.{Cause}
@@ -115,6 +118,34 @@ abbrev pub bySweeps : Call → ℕ → List Float
 bySweeps c k =
     sweptAlone (c .problem) (marked (c .problem) (c .states) (rows (c .problem))) (begun (c .problem) (c .nu) (rows (c .problem))) k
 
+-- ---- an exact pass that finds the answer, by the names of its definition
+
+-- what the pass tries first: the states that the multipliers show, and rows at a bound put on it
+abbrev pub firstTried : Problem → List ℕ → List Float → Trial
+firstTried p st nu = trial (held p (shown p nu st (rows p)) nu (rows p)) (shown p nu st (rows p))
+
+-- Its last move, from what it had tried after the moves before to what it found: every row inside (state 0) was at `from`, and was written `far` along its way.
+pub record LastMove (p : Problem) (first : Trial) (nu : List Float) (st : List ℕ) : Type 0 where
+  pub before : ℕ
+  pub from : List Float
+  pub tried : moves p first before ≡ moving (trial from st)
+  pub came : moves p first (suc before) ≡ found (trial nu st)
+  pub way : List Float
+  pub far : Float
+  pub written : (i : ℕ) → i < rows p → getD st i 0 ≡ 0 → at nu i ≡ at from i ⊕ far ⊗ at way i
+
+-- An answer that the pass of sweep k found, from the multipliers that the sweeps left: it has written every row that acts.
+pub record FoundByPass (c : Call) (a : Result) (k : ℕ) : Type 0 where
+  -- the states that the pass was given; the answer has the multipliers and states that it ended with
+  pub given : List ℕ
+  pub pass : exactPass (c .problem) given (bySweeps c k) ≡ found (trial (a .nu) (a .states))
+  -- a row that acts is inside or on a bound
+  pub states : (i : ℕ) → i < rows (c .problem) → acting (c .problem) i ≡ true → getD (a .states) i 0 ≤ 2
+  -- inside, the last move wrote it; on a bound, a move wrote that bound
+  pub last : LastMove (c .problem) (firstTried (c .problem) given (bySweeps c k)) (a .nu) (a .states)
+  pub low : (i : ℕ) → i < rows (c .problem) → getD (a .states) i 0 ≡ 1 → at (a .nu) i ≡ at (c .problem .lo) i
+  pub high : (i : ℕ) → i < rows (c .problem) → getD (a .states) i 0 ≡ 2 → at (a .nu) i ≡ at (c .problem .hi) i
+
 -- ---- an accepted solve
 
 -- a row on a bound: the multiplier equals it as a number, and its own residual is not above 1e-9, as no NaN is
@@ -136,7 +167,9 @@ pub record Sound (c : Call) (a : Result) (grew : Bool) (r : BoxReport) : Type 0 
   pub passes : r .«exact_passes» ≡ cond grew (below (r .sweeps)) (notAbove (r .sweeps))
   -- Left by sweeps are, in an answer that is not exact, all multipliers: only the pass that finds an exact answer writes the multipliers of an answer.
   pub leftBySweeps : r .exact ≡ false → a .nu ≡ bySweeps c (r .sweeps)
-  -- In an exact answer they are those of the Idle rows: that pass has written every row that acts, and no other.
+  -- In an exact answer they are those of the Idle rows: that pass has written every row that acts (no row acts where there was no sweep),
+  pub written : r .exact ≡ true → 0 < r .sweeps → FoundByPass c a (r .sweeps)
+  -- and no other.
   pub idleLeft : (i : ℕ) → i < rows (c .problem) → acting (c .problem) i ≡ false → at (a .nu) i ≡ at (bySweeps c (r .sweeps)) i
   -- Multipliers left by sweeps are NaN or in their boxes.
   pub inBoxes : r .exact ≡ false → (i : ℕ) → i < rows (c .problem) → NaNOrInBox (c .problem) (a .nu) i

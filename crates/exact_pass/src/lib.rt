@@ -375,8 +375,9 @@ fn pass_from(
     )
 }
 
-// The pass over scratch of its own: small lists, for which the lent workspace has no parts to spare while the least-norm call holds it.
-fn pass(
+// The pass from the states shown, of at most 8 rows. Its scratch is its own, since the lent workspace has no parts to spare while the least-norm call holds
+// it; that for 32 rows would take longer to clear than a pass of one row takes.
+fn pass_small(
     w: &[f64],
     u_free: &[f64],
     lo: &[f64],
@@ -384,16 +385,54 @@ fn pass(
     scale: &[f64],
     states: &mut [u8],
     nu: &mut [f64],
-    m: &mut [f64],
     rows: &mut [usize],
     work: &mut [f64],
 ) -> Exact
-    requires { ⌜ (length (now «u_free») ≤ 32) × (length (now «u_free») * length (now «u_free») ≤ length (now m)) × (1056 ≤ length (now work)) ⌝ }
-    ensures { λ e. ⌜ head.Passed (def.exactPass (box.problem (now (w .entry)) (now («u_free» .entry)) (now (lo .entry)) (now (hi .entry)) (now (scale .entry))) (now (states .entry)) (now (nu .entry))) (now (rows .entry)) e (now (nu .exit)) (now (states .exit)) (now (rows .exit)) × (drop 1056 (now (work .exit)) ≡ drop 1056 (now (work .entry))) ⌝ }
+    requires { ⌜ (length (now «u_free») ≤ 8) × (1056 ≤ length (now work)) ⌝ }
+    ensures { λ e. ⌜ head.Passed (def.passFrom (box.problem (now (w .entry)) (now («u_free» .entry)) (now (lo .entry)) (now (hi .entry)) (now (scale .entry))) (now (states .entry)) (now (nu .entry))) (now (rows .entry)) e (now (nu .exit)) (now (states .exit)) (now (rows .exit)) × (drop 1056 (now (work .exit)) ≡ drop 1056 (now (work .entry))) ⌝ }
 {
-    let n = u_free.len();
-    sweep::show(lo, hi, scale, nu, states, n);
+    let mut list = [0usize; 8];
+    let mut m = [0.0f64; 64];
+    let mut rhs = [0.0f64; 8];
+    let mut b = [0.0f64; 8];
+    let mut z = [0.0f64; 8];
+    let mut y = [0.0f64; 8];
+    pass_from(
+        w,
+        u_free,
+        lo,
+        hi,
+        scale,
+        states,
+        nu,
+        &mut list,
+        &mut m,
+        &mut rhs,
+        &mut b,
+        &mut z,
+        &mut y[..u_free.len()],
+        rows,
+        work,
+    )
+}
+
+// The same of at most 32 rows.
+fn pass_large(
+    w: &[f64],
+    u_free: &[f64],
+    lo: &[f64],
+    hi: &[f64],
+    scale: &[f64],
+    states: &mut [u8],
+    nu: &mut [f64],
+    rows: &mut [usize],
+    work: &mut [f64],
+) -> Exact
+    requires { ⌜ (length (now «u_free») ≤ 32) × (1056 ≤ length (now work)) ⌝ }
+    ensures { λ e. ⌜ head.Passed (def.passFrom (box.problem (now (w .entry)) (now («u_free» .entry)) (now (lo .entry)) (now (hi .entry)) (now (scale .entry))) (now (states .entry)) (now (nu .entry))) (now (rows .entry)) e (now (nu .exit)) (now (states .exit)) (now (rows .exit)) × (drop 1056 (now (work .exit)) ≡ drop 1056 (now (work .entry))) ⌝ }
+{
     let mut list = [0usize; 32];
+    let mut m = [0.0f64; 1024];
     let mut rhs = [0.0f64; 32];
     let mut b = [0.0f64; 32];
     let mut z = [0.0f64; 32];
@@ -407,18 +446,17 @@ fn pass(
         states,
         nu,
         &mut list,
-        m,
+        &mut m,
         &mut rhs,
         &mut b,
         &mut z,
-        &mut y[..n],
+        &mut y[..u_free.len()],
         rows,
         work,
     )
 }
 
-// From the multipliers nu, within their boxes, the exact solution, in their place. The workspace has room for 1,056 values. The matrix of the moves is
-// the pass's own, in two sizes: a small problem does not clear the room of a large one.
+// From the multipliers nu, within their boxes, the exact solution, in their place. The workspace has room for 1,056 values.
 pub fn exact_pass(
     w: &[f64],
     u_free: &[f64],
@@ -439,10 +477,9 @@ pub fn exact_pass(
     if work.len() < 1056 {
         return Exact::Refused(10);
     }
+    sweep::show(lo, hi, scale, nu, states, n);
     if n > 8 {
-        let mut large = [0.0f64; 1024];
-        return pass(w, u_free, lo, hi, scale, states, nu, &mut large, rows, work);
+        return pass_large(w, u_free, lo, hi, scale, states, nu, rows, work);
     }
-    let mut small = [0.0f64; 64];
-    pass(w, u_free, lo, hi, scale, states, nu, &mut small, rows, work)
+    pass_small(w, u_free, lo, hi, scale, states, nu, rows, work)
 }

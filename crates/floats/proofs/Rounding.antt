@@ -197,13 +197,13 @@ up-mp f m e k b h p = go (ltb (m * up e * k) b) (ltb b (m * up e * k))
 -- ---- a zero added
 
 -- x + ±0, in each sign
-add-zero-pp : (f : Format) (m : ℕ) (e : ℤ) (k b : ℕ) → 0 < k → b ≡ 0 → T (fits f (fin false m e)) → sum f false (m * up e * k) true b (down e * k) ≡ fin false m e
+pub add-zero-pp : (f : Format) (m : ℕ) (e : ℤ) (k b : ℕ) → 0 < k → b ≡ 0 → T (fits f (fin false m e)) → sum f false (m * up e * k) true b (down e * k) ≡ fin false m e
 unfolding sum
 add-zero-pp f m e k b h z p =
     let g : m * up e * k - b ≡ m * up e * k = omega arith in
     rw (le-ltb (m * up e * k) b (omega arith), g) (round-self f false m e k h p)
 
-same-zero : (f : Format) (s : Bool) (m : ℕ) (e : ℤ) (k b : ℕ) → 0 < k → b ≡ 0 → T (fits f (fin s m e)) → round f s (m * up e * k + b) (down e * k) ≡ fin s m e
+pub same-zero : (f : Format) (s : Bool) (m : ℕ) (e : ℤ) (k b : ℕ) → 0 < k → b ≡ 0 → T (fits f (fin s m e)) → round f s (m * up e * k + b) (down e * k) ≡ fin s m e
 same-zero f s m e k b h z p = let g : m * up e * k + b ≡ m * up e * k = omega arith in rw g (round-self f s m e k h p)
 
 -- -x + +0 is not above -x: it is -x, or +0 where x is zero

@@ -6,3 +6,4 @@ pub mod Patterns
 pub mod Normal
 pub mod Branches
 pub mod Midpoint
+pub mod Square

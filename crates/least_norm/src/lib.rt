@@ -10,6 +10,7 @@ ghost use Rattle.least_norm.specs.Promise as promise;
 
 mod columns;
 mod lanes;
+mod one;
 mod pivoting;
 mod place;
 mod rank;
@@ -213,6 +214,10 @@ impl LeastNorm {
         }
         if workspace.len() < 1056 {
             return Outcome::Refused;
+        }
+        if a.len() == 1 {
+            let rank = one::solve(a, b, x);
+            return Outcome::Rank(rank);
         }
         let mut perm = [0u8; 32];
         let mut v = [0.0f64; 32];

@@ -8,12 +8,19 @@ ghost use Rattle.least_norm.specs.Reflector as def;
 ghost use Rattle.least_norm.specs.Promise.{Part, Strided};
 use crate::vector;
 
-// The root of alpha² + sigma. Where sigma is 0, as in a square system's last step, it is near alpha's magnitude.
+// The root of alpha² + sigma. Where sigma is 0, as in a square system's last step, it is alpha's magnitude, unless the square leaves the
+// range in which that is so.
 fn norm(alpha: f64, sigma: f64) -> f64
     ensures { λ r. ⌜ r ≡ sqrt (alpha ⊗ alpha ⊕ sigma) ⌝ }
 {
     if sigma == 0.0 {
-        return floats::sqrt_near(alpha * alpha + sigma, floats::abs(alpha));
+        let size = floats::abs(alpha);
+        if size > 1e-140 {
+            if size < 1e140 {
+                return size;
+            }
+        }
+        return floats::sqrt_near(alpha * alpha + sigma, size);
     }
     floats::sqrt(alpha * alpha + sigma)
 }

@@ -25,20 +25,20 @@ use Rattle.floats.proofs.SquareRoot.Branches.{Z, finite-bits, bits-pos,
 
 -- ---- the units of a pattern
 
-abbrev val : ℕ → ℕ
+abbrev pub val : ℕ → ℕ
 val b = unitsOf (ofBits binary64 b)
 
-val-normal : (k q : ℕ) → H ≤ q → q < 2 * H → suc k < 2047 → val (k * H + q) ≡ q * 2 ^ k
+pub val-normal : (k q : ℕ) → H ≤ q → q < 2 * H → suc k < 2047 → val (k * H + q) ≡ q * 2 ^ k
 val-normal k q lo hi h = ap unitsOf (normal k q lo hi h) ∙ units-odd q k
 
 val-low : (b : ℕ) → b < H → val b ≡ b
 val-low b h = ap unitsOf (subnormal b h) ∙ units-odd b 0 ∙ mul-one b
 
-twice : (k : ℕ) → 2 ^ suc k ≡ 2 * 2 ^ k
+pub twice : (k : ℕ) → 2 ^ suc k ≡ 2 * 2 ^ k
 twice k = pow-succ' 2 k
 
 -- one pattern up from q * 2 ^ k is (q + 1) * 2 ^ k, with a carry too
-val-up : (k q : ℕ) → H ≤ q → q < 2 * H → k * H + q + 1 < I → val (k * H + q + 1) ≡ (q + 1) * 2 ^ k
+pub val-up : (k q : ℕ) → H ≤ q → q < 2 * H → k * H + q + 1 < I → val (k * H + q + 1) ≡ (q + 1) * 2 ^ k
 val-up k q lo hi h = go (leb (2 * H) (q + 1)) (leb→le (2 * H) (q + 1)) (nleb→lt (2 * H) (q + 1))
   where
     go : (t : Bool) → (T t → 2 * H ≤ q + 1) → (T (not t) → q + 1 < 2 * H) → val (k * H + q + 1) ≡ (q + 1) * 2 ^ k
@@ -55,14 +55,14 @@ val-up k q lo hi h = go (leb (2 * H) (q + 1)) (leb→le (2 * H) (q + 1)) (nleb�
         ap val b ∙ val-normal k (q + 1) l (c tt) m
 
 -- one pattern down is (q - 1) * 2 ^ k, but below a power of two the steps are half as wide
-val-down : (k q : ℕ) → H < q → q < 2 * H → suc k < 2047 → val (k * H + q - 1) ≡ (q - 1) * 2 ^ k
+pub val-down : (k q : ℕ) → H < q → q < 2 * H → suc k < 2047 → val (k * H + q - 1) ≡ (q - 1) * 2 ^ k
 val-down k q lo hi h =
     let b : k * H + q - 1 ≡ k * H + (q - 1) = omega arith in
     let l : H ≤ q - 1 = omega arith in
     let m : q - 1 < 2 * H = omega arith in
     ap val b ∙ val-normal k (q - 1) l m h
 
-val-down-power : (k : ℕ) → suc (suc k) < 2047 → val (suc k * H + H - 1) ≡ (2 * H - 1) * 2 ^ k
+pub val-down-power : (k : ℕ) → suc (suc k) < 2047 → val (suc k * H + H - 1) ≡ (2 * H - 1) * 2 ^ k
 val-down-power k h =
     let b : suc k * H + H - 1 ≡ k * H + (2 * H - 1) = omega arith in
     let m : suc k < 2047 = omega arith in
@@ -100,7 +100,7 @@ val-mono-by (suc d) b h =
     let m : b + d < I = omega arith in
     le-trans (val-mono-by d b m) (le-trans (val-step (b + d) l) (le-of-eq (ap val (sym e))))
 
-val-mono : (a b : ℕ) → a ≤ b → b < I → val a ≤ val b
+pub val-mono : (a b : ℕ) → a ≤ b → b < I → val a ≤ val b
 val-mono a b h l =
     let e : a + (b - a) ≡ b = omega arith in
     subst (λ (x : ℕ). val a ≤ val x) e (val-mono-by (b - a) a (subst (λ (x : ℕ). x < I) (sym e) l))
@@ -142,7 +142,7 @@ down-side : (X r u : ℕ) → 0 < u → (2 * r + 1) * (2 * r + 1) < X → (r * (
 down-side X r u U h = let c : (2 * r + 1) * (2 * r + 1) * (u * u) < X * (u * u) = mul-lt-mul-of-pos-right h (mul-pos U U) in omega arith
 
 -- below a power of two the midpoint is nearer
-power-side : (X u g : ℕ) → 0 < u → (g + 1) * (g + 1) * 4 ≤ X → ((2 * g + 1) * u + (g + 1) * (2 * u)) * ((2 * g + 1) * u + (g + 1) * (2 * u)) < 4 * (X * (u * u))
+pub power-side : (X u g : ℕ) → 0 < u → (g + 1) * (g + 1) * 4 ≤ X → ((2 * g + 1) * u + (g + 1) * (2 * u)) * ((2 * g + 1) * u + (g + 1) * (2 * u)) < 4 * (X * (u * u))
 power-side X u g U h =
     let a : (4 * g + 3) * (4 * g + 3) < 4 * X = omega arith in
     let c : (4 * g + 3) * (4 * g + 3) * (u * u) < 4 * X * (u * u) = mul-lt-mul-of-pos-right a (mul-pos U U) in
@@ -153,7 +153,7 @@ power-side X u g U h =
 
 -- ---- both sides, for the root q * 2 ^ (j + 1) of x * 2 ^ 54 * 4 ^ j
 
-abbrev Sides : ℕ → ℕ → Type 0
+abbrev pub Sides : ℕ → ℕ → Type 0
 Sides w R = ((val (R - 1) + val R) * (val (R - 1) + val R) < 4 * w) × (4 * w < (val R + val (R + 1)) * (val R + val (R + 1)))
 
 module _ (j x p : ℕ) (X-lo : H ≤ x) (w : Whole (x * 2 ^ 54) p) (r : (2 ^ 53 ≤ p) × (p ≤ 2 ^ 54 - 2)) (J : j < 2000) where
@@ -250,7 +250,7 @@ found b P B =
 sides-clash : (w a b c d : ℕ) → 4 * w < (a + b) * (a + b) → a ≤ c → b ≤ d → (c + d) * (c + d) < 4 * w → ⊥
 sides-clash w a b c d h p q k = lt-irrefl (4 * w) (lt-trans h (lt-of-le-of-lt (mul-le-mul (add-le-add p q) (add-le-add p q)) k))
 
-only-sides : (w R c : ℕ) → 0 < R → R < I → 0 < c → c < I → Sides w R → Sides w c → c ≡ R
+pub only-sides : (w R c : ℕ) → 0 < R → R < I → 0 < c → c < I → Sides w R → Sides w c → c ≡ R
 only-sides w R c P B Q C s t = go (leb c R) (leb→le c R) (nleb→lt c R)
   where
     smaller : (a b : ℕ) → 0 < b → b < I → a < b → Sides w a → Sides w b → ⊥
@@ -277,7 +277,7 @@ above-zero (fin false m e) p =
 no-inf : T (positive (inf false)) → ⊥
 no-inf p = p
 
-bits-in : (v : Float) → T (fits binary64 v) → T (positive v) → (0 < toBits binary64 v) × (toBits binary64 v < I)
+pub bits-in : (v : Float) → T (fits binary64 v) → T (positive v) → (0 < toBits binary64 v) × (toBits binary64 v < I)
 bits-in v f p = (
   bits-pos v f (above-zero v p),
   lt-of-not-le (λ (k : I ≤ toBits binary64 v). no-inf (subst (λ (x : Float). T (positive x)) (inf-only v f (above-zero v p) k) p)),

@@ -1,0 +1,39 @@
+-- From what BoxSolver::solve promises to what the exported call answers and leaves.
+use Prim.Native.Nat.{ℕ, _≤_}
+use mathlib.Core.Path.{_≡_, refl, _∙_, ap}
+use mathlib.Core.Bool.{true, false}
+use mathlib.Core.List.{List}
+use lib.Dec.{leb}
+use lib.ListN.{length}
+use lib.Ieee.{Float}
+use borrow.Author.Tests.{leb-true}
+use Rattle.loops.proofs.Every.{both-true}
+use Rattle.sweep.specs.Rows.{Problem}
+use Rattle.boxed.specs.Solves as box
+use Rattle.boxed.specs.Progresses.{Left}
+use Rattle.boxed.specs.declared.BoxAnswer.{BoxAnswer}
+use Rattle.capi.specs.Solves as def
+
+pub room : (counts : List ℕ) (residual : List Float) → def.taken counts residual ≡ true → (7 ≤ length counts) × (1 ≤ length residual)
+unfolding def.taken
+room counts residual h =
+    let x = both-true (leb 7 (length counts)) (leb 1 (length residual)) h in
+    (leb-true 7 (length counts) (x .0), leb-true 1 (length residual) (x .1))
+
+module _ (p : Problem) (m : box.Watch) (nu : List Float) (st q : List ℕ) (room : ℕ) (counts : List ℕ) (residual : List Float) where
+  pub no-room : def.taken counts residual ≡ false → def.Answered (def.reply (def.taken counts residual) p m nu st q room) 10 nu st q counts counts residual residual
+  unfolding def.reply
+  no-room h = rw h (record { number-is = refl; nu-is = refl; states-are = refl; rows-are = refl; counts-are = refl; residual-is = refl })
+
+  pub answered : (a : BoxAnswer) (r : ℕ) (nu′ : List Float) (st′ q′ counts′ : List ℕ) (residual′ : List Float) → def.taken counts residual ≡ true → Left (box.solveReply p m nu st q room) a nu′ st′ q′ → r ≡ def.number a → counts′ ≡ def.countsLeft a counts → residual′ ≡ def.residualLeft a residual
+      → def.Answered (def.reply (def.taken counts residual) p m nu st q room) r nu′ st′ q′ counts counts′ residual residual′
+  unfolding def.reply
+  answered a r nu′ st′ q′ counts′ residual′ h l e c s =
+      rw h (record {
+        number-is = e ∙ ap def.number (l .answer);
+        nu-is = l .multipliers;
+        states-are = l .states;
+        rows-are = l .listed;
+        counts-are = c ∙ ap (λ (x : BoxAnswer). def.countsLeft x counts) (l .answer);
+        residual-is = s ∙ ap (λ (x : BoxAnswer). def.residualLeft x residual) (l .answer);
+      })

@@ -1,0 +1,65 @@
+use mathlib.Core.Path.{refl, sym, _∙_}
+use Rattle.capi.proofs.Solving.{room, no-room, answered}
+use native.Mathlib.Omega.{arith}
+use borrow.Author.Needs.{needs}
+use Rattle.capi.proofs.piskorlu_solve.Statement.{statement}
+use Rattle.capi.proofs.piskorlu_solve.Tie as tie
+use Rattle.capi.proofs.piskorlu_solve.Reads as reads
+use Rattle.capi.proofs.piskorlu_solve.Lts as lts
+
+taken-requires : tie.Need-taken-requires
+taken-requires c κs = search needs
+
+solve-requires : tie.Need-solve-requires
+solve-requires c κs = search needs
+
+leave-requires : tie.Need-leave-requires
+leave-requires c κs = room _ _ (sym (c .before .before .before .before .before .before .before .before .before .before .before .before .before .before .before .before .taken .ensures) ∙ c .before .before .before .before .before .before .before .before .before .before .before .before .before .before .before .if1 .taken)
+
+same-length : tie.Need-same-length
+same-length c = search needs
+
+same-length-2 : tie.Need-same-length-2
+same-length-2 c = search needs
+
+same-length-3 : tie.Need-same-length-3
+same-length-3 c = search needs
+
+same-length-4 : tie.Need-same-length-4
+same-length-4 c = search needs
+
+same-length-5 : tie.Need-same-length-5
+same-length-5 c = search needs
+
+same-length-6 : tie.Need-same-length-6
+same-length-6 c = search needs
+
+returns : tie.Need-returns
+returns c = (answered _ _ _ _ _ _ _ _ _ _ _ _ _ _ _ (sym (c .before .before .before .before .before .before .before .before .before .before .before .before .before .before .before .before .before .before .before .before .before .taken .ensures) ∙ c .before .before .before .before .before .before .before .before .before .before .before .before .before .before .before .before .before .before .before .before .if1 .taken) (c .before .before .before .before .before .before .before .before .before .before .before .before .before .before .before .solve .ensures .0) (c .before .before .before .before .leave .ensures .0) (c .before .before .before .before .leave .ensures .1) (c .before .before .before .before .leave .ensures .2), c .before .before .before .before .before .before .before .before .before .before .before .before .before .before .before .solve .ensures .1)
+
+same-length-7 : tie.Need-same-length-7
+same-length-7 c = search needs
+
+same-length-8 : tie.Need-same-length-8
+same-length-8 c = search needs
+
+returns-2 : tie.Need-returns-2
+returns-2 c = (no-room _ _ _ _ _ _ _ _ (sym (c .before .taken .ensures) ∙ c .if1 .left), refl)
+
+pub piskorlu-solve-spec : {M : Type 1} → statement M
+piskorlu-solve-spec =
+    tie.close
+    (tie.spec
+    taken-requires
+    solve-requires
+    leave-requires
+    same-length
+    same-length-2
+    same-length-3
+    same-length-4
+    same-length-5
+    same-length-6
+    returns
+    same-length-7
+    same-length-8
+    returns-2)

@@ -1,0 +1,92 @@
+-- `capi::tallying::piskorlu_tallied` meets its contract. Assumes nothing.
+use mathlib.Core.Path.{refl, sym, _∙_}
+use Rattle.capi.proofs.Entering.{nine, one, room, no-room, answered}
+use native.Mathlib.Omega.{arith}
+use borrow.Author.Needs.{needs}
+use Rattle.capi.proofs.tallying.piskorlu_tallied.Statement.{statement}
+use Rattle.capi.proofs.tallying.piskorlu_tallied.Tie as tie
+
+taken-requires : tie.Need-taken-requires
+taken-requires c κs = search needs
+
+slice-read-read : tie.Need-slice-read-read
+slice-read-read c = omega (arith, one _ _ _ _ (sym (c .before .before .before .taken .ensures) ∙ c .before .before .if1 .taken))
+
+read-requires : tie.Need-read-requires
+read-requires c κs = nine _ _ _ _ (sym (c .before .before .before .taken .ensures) ∙ c .before .before .if1 .taken)
+
+tallied-solve-requires : tie.Need-tallied-solve-requires
+tallied-solve-requires c κs = search needs
+
+leave-requires : tie.Need-leave-requires
+leave-requires c κs = room _ _ _ _ (sym (c .before .before .before .before .before .before .before .before .before .before .before .before .before .before .before .before .before .before .before .taken .ensures) ∙ c .before .before .before .before .before .before .before .before .before .before .before .before .before .before .before .before .before .before .if1 .taken)
+
+keep-requires : tie.Need-keep-requires
+keep-requires c κs = (nine _ _ _ _ (sym (c .before .before .before .before .before .before .before .before .before .before .before .before .before .before .before .before .before .before .before .before .before .before .before .before .before .before .taken .ensures) ∙ c .before .before .before .before .before .before .before .before .before .before .before .before .before .before .before .before .before .before .before .before .before .before .before .before .before .if1 .taken), one _ _ _ _ (sym (c .before .before .before .before .before .before .before .before .before .before .before .before .before .before .before .before .before .before .before .before .before .before .before .before .before .before .taken .ensures) ∙ c .before .before .before .before .before .before .before .before .before .before .before .before .before .before .before .before .before .before .before .before .before .before .before .before .before .if1 .taken))
+
+same-length : tie.Need-same-length
+same-length c = search needs
+
+same-length-2 : tie.Need-same-length-2
+same-length-2 c = search needs
+
+same-length-3 : tie.Need-same-length-3
+same-length-3 c = search needs
+
+same-length-4 : tie.Need-same-length-4
+same-length-4 c = search needs
+
+same-length-5 : tie.Need-same-length-5
+same-length-5 c = search needs
+
+same-length-6 : tie.Need-same-length-6
+same-length-6 c = search needs
+
+same-length-7 : tie.Need-same-length-7
+same-length-7 c = search needs
+
+same-length-8 : tie.Need-same-length-8
+same-length-8 c = search needs
+
+returns : tie.Need-returns
+returns c = (answered _ _ _ _ _ _ _ _ _ _ _ _ _ _ _ _ _ (sym (c .before .before .before .before .before .before .before .before .before .before .before .before .before .before .before .before .before .before .before .before .before .before .before .before .before .before .before .before .before .before .before .taken .ensures) ∙ c .before .before .before .before .before .before .before .before .before .before .before .before .before .before .before .before .before .before .before .before .before .before .before .before .before .before .before .before .before .before .if1 .taken) (c .before .before .before .before .before .before .before .before .before .before .before .before .before .before .before .before .before .before .before .before .before .before .before .before .before .before .before .read .ensures) (c .before .before .before .before .before .before .before .before .before .before .before .before .before .before .before .before .before .before .before .before .before .before .tallied-solve .ensures .0) (c .before .before .before .before .before .before .before .before .before .before .before .leave .ensures .0) (c .before .before .before .before .before .before .before .before .before .before .before .leave .ensures .1) (c .before .before .before .before .before .before .before .before .before .before .before .leave .ensures .2) (c .before .before .before .before .keep .ensures .0) (c .before .before .before .before .keep .ensures .1) (c .before .before .before .before .keep .ensures .2), c .before .before .before .before .before .before .before .before .before .before .before .before .before .before .before .before .before .before .before .before .before .before .tallied-solve .ensures .1)
+
+same-length-9 : tie.Need-same-length-9
+same-length-9 c = search needs
+
+same-length-10 : tie.Need-same-length-10
+same-length-10 c = search needs
+
+same-length-11 : tie.Need-same-length-11
+same-length-11 c = search needs
+
+same-length-12 : tie.Need-same-length-12
+same-length-12 c = search needs
+
+returns-2 : tie.Need-returns-2
+returns-2 c = (no-room _ _ _ _ _ _ (sym (c .before .taken .ensures) ∙ c .if1 .left), refl)
+
+pub piskorlu-tallied-spec : {M : Type 1} → statement M
+piskorlu-tallied-spec =
+    tie.close
+    (tie.spec
+    taken-requires
+    slice-read-read
+    read-requires
+    tallied-solve-requires
+    leave-requires
+    keep-requires
+    same-length
+    same-length-2
+    same-length-3
+    same-length-4
+    same-length-5
+    same-length-6
+    same-length-7
+    same-length-8
+    returns
+    same-length-9
+    same-length-10
+    same-length-11
+    same-length-12
+    returns-2)

@@ -1,0 +1,59 @@
+-- A solve by plain numbers: seven counts (outcome, sweeps, exact passes, converged, exact, Idle rows, rows listed) and the residual beside them. Definitions only.
+use Prim.Native.Nat.{ℕ}
+use mathlib.Core.Path.{_≡_}
+use mathlib.Core.Bool.{Bool, true, false, cond, _&&_}
+use mathlib.Core.List.{List}
+use lib.Dec.{leb}
+use lib.ListN.{set, length}
+use lib.Ieee.{Float}
+use Rattle.sweep.specs.Rows.{Problem}
+use Rattle.boxed.specs.Solves as box
+use Rattle.boxed.specs.declared.Cause.{Cause}
+use Rattle.boxed.specs.declared.Cause.the-variants as cause
+use Rattle.boxed.specs.declared.BoxReport.{BoxReport}
+use Rattle.boxed.specs.declared.BoxAnswer.{BoxAnswer}
+use Rattle.boxed.specs.declared.BoxAnswer.the-variants.{Solved, Infeasible, Refused}
+use Rattle.capi.specs.Reports.{flag}
+
+-- the outcome of an infeasible solve, by its cause; 0 is a solved one's
+abbrev pub causeNumber : Cause → ℕ
+causeNumber cause.Growth = 1
+causeNumber cause.Pass = 2
+causeNumber cause.Sweep = 3
+
+-- the list with the seven counts in its first places
+unfoldable pub written : ℕ → BoxReport → ℕ → List ℕ → List ℕ
+written outcome r listed l =
+    set (set (set (set (set (set (set l 0 outcome) 1 (r .sweeps)) 2 (r .«exact_passes»)) 3 (flag (r .converged))) 4 (flag (r .exact))) 5 (r .idle)) 6 listed
+
+abbrev pub number : BoxAnswer → ℕ
+number (Solved r) = 0
+number (Infeasible c k r) = 0
+number (Refused k) = k
+
+abbrev pub countsLeft : BoxAnswer → List ℕ → List ℕ
+countsLeft (Solved r) l = written 0 r 0 l
+countsLeft (Infeasible c k r) l = written (causeNumber c) r k l
+countsLeft (Refused k) l = l
+
+abbrev pub residualLeft : BoxAnswer → List Float → List Float
+residualLeft (Solved r) l = set l 0 (r .residual)
+residualLeft (Infeasible c k r) l = set l 0 (r .residual)
+residualLeft (Refused k) l = l
+
+-- ---- the call: 10 too where there is no room for seven counts or the residual
+
+unfoldable pub taken : List ℕ → List Float → Bool
+taken counts residual = leb 7 (length counts) && leb 1 (length residual)
+
+unfoldable pub reply : Bool → Problem → box.Watch → List Float → List ℕ → List ℕ → ℕ → box.Result
+reply true p m nu st q room = box.solveReply p m nu st q room
+reply false p m nu st q room = record { outcome = box.refused 10; nu = nu; states = st; listed = q }
+
+pub record Answered (x : box.Result) (r : ℕ) (nu : List Float) (st q counts counts' : List ℕ) (residual residual' : List Float) : Type 0 where
+  pub number-is : r ≡ number (box.answerOf (x .outcome))
+  pub nu-is : nu ≡ x .nu
+  pub states-are : st ≡ x .states
+  pub rows-are : q ≡ x .listed
+  pub counts-are : counts' ≡ countsLeft (box.answerOf (x .outcome)) counts
+  pub residual-is : residual' ≡ residualLeft (box.answerOf (x .outcome)) residual

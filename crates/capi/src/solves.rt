@@ -1,0 +1,62 @@
+// A solve's answer by plain numbers.
+ghost use mathlib.Core.Path.{_≡_};
+ghost use Prim.Native.Nat.{_≤_};
+ghost use lib.ListN.{length, set};
+ghost use Rattle.capi.specs.Solves as def;
+use crate::reports;
+use boxed::BoxAnswer;
+use boxed::BoxReport;
+use boxed::Cause;
+
+fn cause_number(c: Cause) -> usize
+    ensures { λ r. ⌜ r ≡ def.causeNumber c ⌝ }
+{
+    match c {
+        Cause::Growth => 1,
+        Cause::Pass => 2,
+        Cause::Sweep => 3,
+    }
+}
+
+fn write(outcome: usize, r: BoxReport, listed: usize, counts: &mut [usize])
+    requires { ⌜ 7 ≤ length (now counts) ⌝ }
+    ensures { λ _. ⌜ now (counts .exit) ≡ def.written outcome r listed (now (counts .entry)) ⌝ }
+{
+    counts[0] = outcome;
+    counts[1] = r.sweeps as usize;
+    counts[2] = r.exact_passes as usize;
+    counts[3] = reports::flag(r.converged) as usize;
+    counts[4] = reports::flag(r.exact) as usize;
+    counts[5] = r.idle as usize;
+    counts[6] = listed;
+}
+
+// An answer left in the lent slices: 0, or the number of a refusal and nothing written.
+pub fn leave(answer: BoxAnswer, counts: &mut [usize], residual: &mut [f64]) -> u32
+    requires { ⌜ (7 ≤ length (now counts)) × (1 ≤ length (now residual)) ⌝ }
+    ensures { λ r. ⌜ (r ≡ def.number answer) × (now (counts .exit) ≡ def.countsLeft answer (now (counts .entry))) × (now (residual .exit) ≡ def.residualLeft answer (now (residual .entry))) ⌝ }
+{
+    match answer {
+        BoxAnswer::Solved(r) => {
+            write(0, r, 0, counts);
+            residual[0] = r.residual;
+            0
+        }
+        BoxAnswer::Infeasible(cause, count, r) => {
+            write(cause_number(cause), r, count, counts);
+            residual[0] = r.residual;
+            0
+        }
+        BoxAnswer::Refused(number) => number,
+    }
+}
+
+// Whether the slices hold seven counts and one residual.
+pub fn taken(counts: &[usize], residual: &[f64]) -> bool
+    ensures { λ r. ⌜ r ≡ def.taken (now (counts .entry)) (now (residual .entry)) ⌝ }
+{
+    if counts.len() < 7 {
+        return false;
+    }
+    1 <= residual.len()
+}

@@ -1,0 +1,45 @@
+-- Demand 3 of the code: lists of calls of `tallied_solve` or `solve_into`, of which nothing is known but what their contract says. Definitions only.
+use Prim.Native.Nat.{ℕ, _≤_}
+use mathlib.Core.Path.{_≡_}
+use mathlib.Core.List.{List, [], _∷_, map, List·Permᴰ}
+use lib.ListN.{length}
+use lib.Ieee.{Float}
+use Rattle.report.specs.Joins.{NOTHING}
+use Rattle.report.specs.declared.SolveReport.{SolveReport}
+use Rattle.boxed.specs.Solves.{Result, answerOf}
+use Rattle.boxed.specs.declared.BoxAnswer.{BoxAnswer}
+use Rattle.tally.specs.Tally.{Call, number, tallied, all}
+use Rattle.tallied.specs.Joining.{Entered}
+use Rattle.demand3.specs.Claims.{Upright}
+use Rattle.demand3.specs.Demand.{Every, Demanded}
+
+-- what a call answers and leaves in the multipliers, the states and the row list
+pub record Told : Type 0 where
+  pub answer : BoxAnswer
+  pub nu : List Float
+  pub states : List ℕ
+  pub listed : List ℕ
+
+abbrev pub toldOf : Result → Told
+toldOf x = record { answer = answerOf (x .outcome); nu = x .nu; states = x .states; listed = x .listed }
+
+-- Calls one after another from the tally t to the tally u: each is given the tally that the one before left, and nothing else writes it. Of each call what its contract says.
+abbrev pub Made : SolveReport → List Call → List Told → SolveReport → Type 0
+Made t [] [] u = u ≡ t
+Made t [] (a ∷ r) u = ⊥
+Made t (c ∷ l) [] u = ⊥
+Made t (c ∷ l) (a ∷ r) u = (s : SolveReport) × Entered (tallied t c) s (a .answer) (a .nu) (a .states) (a .listed) × Made s l r u
+
+-- the code made the list l, telling r and leaving u, and the list k, telling s and leaving v
+pub record Kept (l k : List Call) (r s : List Told) (u v : SolveReport) : Type 0 where
+  pub same : u ≡ v
+  pub demanded : Demanded l k
+  -- the tallies and answers that `Demanded` speaks of are the code's
+  pub tallyOne : u ≡ all NOTHING l .tally
+  pub toldOne : r ≡ map toldOf (all NOTHING l .answers)
+  pub tallyOther : v ≡ all NOTHING k .tally
+  pub toldOther : s ≡ map toldOf (all NOTHING k .answers)
+
+abbrev pub DemandOfCode : Type 0
+DemandOfCode = (l k : List Call) → List·Permᴰ l k → length l ≤ 20000000 → Every (λ c. number c ≡ 0 → Upright (c .problem)) l
+    → (r s : List Told) (u v : SolveReport) → Made NOTHING l r u → Made NOTHING k s v → Kept l k r s u v

@@ -1,0 +1,25 @@
+-- `tallied::full` meets its contract. Assumes nothing.
+use borrow.Author.Tests.{lt-ltb, le-ltb, eq-eqb, ne-eqb}
+use Rattle.tally.specs.Tally as def
+use Rattle.tallied.proofs.full.Statement.{statement}
+use Rattle.tallied.proofs.full.Tie as tie
+
+returns : tie.Need-returns
+unfolding def.full
+returns c = rw (eq-eqb _ _ (c .if1 .taken))
+
+returns-2 : tie.Need-returns-2
+unfolding def.full
+returns-2 c = rw (ne-eqb _ _ (c .before .before .if1 .left), lt-ltb _ _ (c .if2 .taken))
+
+returns-3 : tie.Need-returns-3
+unfolding def.full
+returns-3 c = rw (ne-eqb _ _ (c .before .before .before .if1 .left), le-ltb _ _ (c .before .if2 .left))
+
+pub full-spec : {M : Type 1} → statement M
+full-spec =
+    tie.close
+    (tie.spec
+    returns
+    returns-2
+    returns-3)

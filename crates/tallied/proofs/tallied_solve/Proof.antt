@@ -1,0 +1,67 @@
+-- `tallied::tallied_solve` meets its contract. Assumes nothing.
+use mathlib.Core.Path.{refl, sym, _∙_}
+use Rattle.tallied.proofs.Entering.{on-full, on-room}
+use borrow.Author.Needs.{needs}
+use Rattle.tallied.proofs.tallied_solve.Statement.{statement}
+use Rattle.tallied.proofs.tallied_solve.Tie as tie
+
+full-requires : tie.Need-full-requires
+full-requires c κs = search needs
+
+refusal-requires : tie.Need-refusal-requires
+refusal-requires c κs = search needs
+
+or-eleven-requires : tie.Need-or-eleven-requires
+or-eleven-requires c κs = search needs
+
+same-length : tie.Need-same-length
+same-length c = search needs
+
+same-length-2 : tie.Need-same-length-2
+same-length-2 c = search needs
+
+same-length-3 : tie.Need-same-length-3
+same-length-3 c = search needs
+
+returns : tie.Need-returns
+returns c = (on-full _ _ (sym (c .before .before .before .before .before .before .full .ensures) ∙ c .before .before .before .before .before .if1 .taken) _ (rw (← c .before .refusal .ensures) (c .or-eleven .ensures)), refl)
+
+solve-requires : tie.Need-solve-requires
+solve-requires c κs = search needs
+
+joined-by-requires : tie.Need-joined-by-requires
+joined-by-requires c κs = search needs
+
+same-length-4 : tie.Need-same-length-4
+same-length-4 c = search needs
+
+same-length-5 : tie.Need-same-length-5
+same-length-5 c = search needs
+
+same-length-6 : tie.Need-same-length-6
+same-length-6 c = search needs
+
+same-length-7 : tie.Need-same-length-7
+same-length-7 c = search needs
+
+returns-2 : tie.Need-returns-2
+returns-2 c = (on-room _ _ (sym (c .before .before .before .before .before .before .before .before .before .before .before .before .before .before .before .full .ensures) ∙ c .before .before .before .before .before .before .before .before .before .before .before .before .before .before .if1 .left) _ _ _ _ _ (c .before .before .before .before .before .before .before .before .before .solve .ensures .0) (c .joined-by .ensures), c .before .before .before .before .before .before .before .before .before .solve .ensures .1)
+
+pub tallied-solve-spec : {M : Type 1} → statement M
+tallied-solve-spec =
+    tie.close
+    (tie.spec
+    full-requires
+    refusal-requires
+    or-eleven-requires
+    same-length
+    same-length-2
+    same-length-3
+    returns
+    solve-requires
+    joined-by-requires
+    same-length-4
+    same-length-5
+    same-length-6
+    same-length-7
+    returns-2)

@@ -1,0 +1,171 @@
+// The tallied solve of document 01: a solve whose report is joined to a tally, by value and then by reference. specs/Tally.antt of crate tally defines it.
+ghost use mathlib.Core.Path.{_≡_};
+ghost use mathlib.Core.Bool.{cond};
+ghost use lib.Dec.{eqb};
+ghost use lib.ListN.{length, drop};
+ghost use Rattle.sweep.specs.Rows as box;
+ghost use Rattle.boxed.specs.Solves as solver;
+ghost use Rattle.report.specs.Joins as join;
+ghost use Rattle.tally.specs.Tally as def;
+ghost use Rattle.tallied.specs.Joining as said;
+use boxed::BoxAnswer;
+use boxed::BoxReport;
+use boxed::BoxSolver;
+use report::Joined;
+use report::SolveReport;
+
+// The tally that a solve leaves, and its answer.
+pub struct Tallied {
+    pub tally: SolveReport,
+    pub answer: BoxAnswer,
+}
+
+// Whether the tally might not hold one solve more: 200 sweeps and 9 passes at most.
+pub fn full(tally: SolveReport) -> bool
+    ensures { λ r. ⌜ r ≡ def.full tally ⌝ }
+{
+    if tally.increments == 4294967295 {
+        return true;
+    }
+    if tally.sweeps > 4294967095 {
+        return true;
+    }
+    tally.exact_passes > 4294967286
+}
+
+// The SolveReport that a BoxReport is turned into.
+pub fn turned(report: BoxReport) -> SolveReport
+    ensures { λ r. ⌜ r ≡ def.turned report ⌝ }
+{
+    SolveReport {
+        increments: 1,
+        iterations: 0,
+        most_iterations: 0,
+        rejected: 0,
+        anchors: 0,
+        sweeps: report.sweeps,
+        exact_passes: report.exact_passes,
+        converged: report.converged,
+        exact: report.exact,
+        residual: report.residual,
+    }
+}
+
+// What a join leaves of the tally: a refused one all. Number 11 is there so that none is.
+fn kept(tally: SolveReport, joined: Joined) -> SolveReport
+    ensures { λ r. ⌜ r ≡ def.kept tally (join.answer joined) ⌝ }
+{
+    match joined {
+        Joined::Refused(_) => tally,
+        Joined::Report(both) => both,
+    }
+}
+
+// A solve's report joined to the tally.
+fn added(tally: SolveReport, report: BoxReport) -> SolveReport
+    ensures { λ r. ⌜ r ≡ said.added tally report ⌝ }
+{
+    kept(tally, tally.and(turned(report)))
+}
+
+// The tally after such an answer.
+fn joined_by(tally: SolveReport, answer: BoxAnswer) -> SolveReport
+    ensures { λ r. ⌜ r ≡ said.joinedBy tally answer ⌝ }
+{
+    match answer {
+        BoxAnswer::Refused(_) => tally,
+        BoxAnswer::Solved(report) => added(tally, report),
+        BoxAnswer::Infeasible(_, _, report) => added(tally, report),
+    }
+}
+
+// The number of a solve on a full tally: its own, or 11.
+fn or_eleven(number: u32) -> u32
+    ensures { λ r. ⌜ r ≡ cond (eqb number 0) 11 number ⌝ }
+{
+    if number == 0 {
+        return 11;
+    }
+    number
+}
+
+// BoxSolver::solve on a tally, which goes in and comes back with the solve's report joined to it. 5 to 10 are tested first, then 11; a refused solve joins
+// nothing and changes nothing.
+pub fn tallied_solve(
+    tally: SolveReport,
+    w: &[f64],
+    u_free: &[f64],
+    lo: &[f64],
+    hi: &[f64],
+    scale: &[f64],
+    motion: &[f64],
+    tolerance: f64,
+    nu: &mut [f64],
+    states: &mut [u8],
+    rows: &mut [usize],
+    workspace: &mut [f64],
+) -> Tallied
+    ensures { λ r. ⌜ said.Entered (def.tallied tally (said.call (box.problem (now (w .entry)) (now («u_free» .entry)) (now (lo .entry)) (now (hi .entry)) (now (scale .entry))) (solver.watch (now (motion .entry)) tolerance) (now (nu .entry)) (now (states .entry)) (now (rows .entry)) (length (now (workspace .entry))))) (r .tally) (r .answer) (now (nu .exit)) (now (states .exit)) (now (rows .exit)) × (drop 2304 (now (workspace .exit)) ≡ drop 2304 (now (workspace .entry))) ⌝ }
+{
+    if full(tally) {
+        let room = workspace.len();
+        let number = BoxSolver::refusal(w, u_free, lo, hi, scale, motion, nu, states, rows, room);
+        return Tallied {
+            tally,
+            answer: BoxAnswer::Refused(or_eleven(number)),
+        };
+    }
+    let answer = BoxSolver::solve(
+        w,
+        u_free,
+        lo,
+        hi,
+        scale,
+        motion,
+        tolerance,
+        nu,
+        states,
+        rows,
+        workspace,
+    );
+    Tallied {
+        tally: joined_by(tally, answer),
+        answer,
+    }
+}
+
+// The same on a tally that is lent: it is updated in its place. One that is refused leaves it as it was.
+pub fn solve_into(
+    tally: &mut SolveReport,
+    w: &[f64],
+    u_free: &[f64],
+    lo: &[f64],
+    hi: &[f64],
+    scale: &[f64],
+    motion: &[f64],
+    tolerance: f64,
+    nu: &mut [f64],
+    states: &mut [u8],
+    rows: &mut [usize],
+    workspace: &mut [f64],
+) -> BoxAnswer
+    ensures { λ r. ⌜ said.Entered (def.tallied (now (tally .entry)) (said.call (box.problem (now (w .entry)) (now («u_free» .entry)) (now (lo .entry)) (now (hi .entry)) (now (scale .entry))) (solver.watch (now (motion .entry)) tolerance) (now (nu .entry)) (now (states .entry)) (now (rows .entry)) (length (now (workspace .entry))))) (now (tally .exit)) r (now (nu .exit)) (now (states .exit)) (now (rows .exit)) × (drop 2304 (now (workspace .exit)) ≡ drop 2304 (now (workspace .entry))) ⌝ }
+{
+    let t = *tally;
+    let s = tallied_solve(
+        t,
+        w,
+        u_free,
+        lo,
+        hi,
+        scale,
+        motion,
+        tolerance,
+        nu,
+        states,
+        rows,
+        workspace,
+    );
+    *tally = s.tally;
+    s.answer
+}
