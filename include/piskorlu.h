@@ -204,6 +204,23 @@ uint32_t piskorlu_tallied(uint32_t *tally, size_t tally_len,
                           size_t *counts, size_t counts_len,
                           double *residual, size_t residual_len);
 
+/* The fewest bytes of a buffer for piskorlu_bend. */
+#define PISKORLU_BEND_ROOM 2048
+
+/*
+ * What the program bendsolve writes for a bend file.
+ *
+ * file       the file's bytes; any bytes and any length will do, a file that
+ *            cannot be taken is answered by a line "refused N".
+ * out        receives the lines, at least PISKORLU_BEND_ROOM bytes. What lies
+ *            past them is kept.
+ *
+ * Returns how many bytes of out the lines take; no zero byte ends them. An out
+ * that is too short gets nothing, and 0 is returned.
+ */
+size_t piskorlu_bend(const uint8_t *file, size_t file_len,
+                     uint8_t *out, size_t out_len);
+
 #ifdef __cplusplus
 }
 #endif

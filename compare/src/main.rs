@@ -2,6 +2,7 @@
 //! original Rust. See `compare help`.
 
 mod bench;
+mod bendsolve;
 mod calls;
 mod cases;
 mod coverage;
@@ -32,7 +33,9 @@ compare COMMAND
   long [CASES]            solves by default 10,000,000, and a third as many of each other call
   sqrt [COUNT]            the square root on 100,000,000 patterns, and its time
   mutations [EACH [RULE]] each error (or one) put into the reference: is it caught?
+  bend [EACH [RUNS]]      bend files: the call on EACH (30,000) of a family, the program on RUNS (2,000)
   vectors DIR             writes the original's answers for replay
+  files DIR               writes bend files with what bendsolve must print for each
   bench [--write]         times of port and original; --write: docs/PERFORMANCE.md and performance.svg
   one FAMILY SEED INDEX   one case in full, with every answer to it
   families                the names of the families";
@@ -129,6 +132,13 @@ fn main() -> ExitCode {
             number(each).map_or_else(usage, |each| exit(mutations::print(each, Some(rule))))
         }
         ["vectors", folder] => outcome(vectors::write(folder.as_ref())),
+        ["bend"] => bend(30_000, 2_000),
+        ["bend", each] => number(each).map_or_else(usage, |each| bend(each, 2_000)),
+        ["bend", each, runs] => match (number(each), number(runs)) {
+            (Some(each), Some(runs)) => bend(each, runs),
+            _ => usage(),
+        },
+        ["files", folder] => outcome(bendsolve::write(folder.as_ref())),
         ["bench"] => outcome(bench::run(false)),
         ["bench", "--write"] => outcome(bench::run(true)),
         ["one", family, seed, index] => one(family, number(seed), number(index)),
@@ -216,6 +226,23 @@ fn long(cases: u64) -> ExitCode {
     differing += long_call::<Bend>(&mut checks, seed, each(Bend::families().len(), cases / 30));
     println!("{:.0} s", start.elapsed().as_secs_f64());
     println!("differing {differing}");
+    checks.end()
+}
+
+/// Bend files: the call, and the program itself.
+fn bend(each: u64, runs: u64) -> ExitCode {
+    let mut checks = Checks::default();
+    if port::BEND.is_none() {
+        checks.note(false, "bend files: the static library has no such call");
+    }
+    long_call::<Bend>(&mut checks, 3, each);
+    match bendsolve::runs(3, runs) {
+        Ok(found) => {
+            checks.note(found.differing == 0, &found.line());
+            found.first.iter().for_each(|which| println!("  {which}"));
+        }
+        Err(message) => checks.note(false, &message),
+    }
     checks.end()
 }
 

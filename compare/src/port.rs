@@ -321,3 +321,22 @@ fn tallied(tally: Tally, lent: Lent) -> u32 {
         )
     }
 }
+
+/// A bend file's output: how many bytes of the buffer it takes.
+pub type Bend = fn(&[u8], &mut [u8]) -> usize;
+
+#[cfg(port_bend)]
+pub const BEND: Option<Bend> = Some(bend);
+#[cfg(not(port_bend))]
+pub const BEND: Option<Bend> = None;
+
+#[cfg(port_bend)]
+extern "C" {
+    fn piskorlu_bend(file: *const u8, file_len: usize, out: *mut u8, out_len: usize) -> usize;
+}
+
+#[cfg(port_bend)]
+fn bend(file: &[u8], out: &mut [u8]) -> usize {
+    // SAFETY: as for least_norm.
+    unsafe { piskorlu_bend(file.as_ptr(), file.len(), out.as_mut_ptr(), out.len()) }
+}

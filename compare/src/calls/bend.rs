@@ -1,13 +1,22 @@
 //! Bend files: the whole output of bendsolve.
 
+use super::guard::Guarded;
 use super::{Call, Zeros};
 use crate::cases::files::FAMILIES;
 use crate::cases::random::Rng;
 use crate::coverage::{Class, Coverage};
+use crate::port;
 use crate::reference::print::bendsolve;
 use crate::reference::rule::{Place, Rule};
 
 pub struct Bend;
+
+/// What bendsolve must print for a file: the original's answer as document 01
+/// prints it, or where the original has none, a refusal, the reference's.
+pub fn expected(file: &Vec<u8>) -> Vec<u8> {
+    let reference = Bend::reference(file, Rule::None);
+    Bend::original(file, &reference).unwrap_or(reference)
+}
 
 impl Call for Bend {
     /// The file's bytes.
@@ -55,8 +64,19 @@ impl Call for Bend {
         original(file)
     }
 
-    fn port(_: &Vec<u8>) -> Option<Vec<u8>> {
-        None
+    fn port(file: &Vec<u8>) -> Option<Vec<u8>> {
+        let call = port::BEND?;
+        let lost = || Some(b"a buffer is not as it was".to_vec());
+        if lend(call, file, ROOM - 1).is_none_or(|(count, left)| count > 0 || !kept(&left)) {
+            return lost();
+        }
+        let Some((count, left)) = lend(call, file, ROOM + file.len() % 3) else {
+            return lost();
+        };
+        match left.split_at_checked(count) {
+            Some((answer, rest)) if kept(rest) => Some(answer.to_vec()),
+            _ => lost(),
+        }
     }
 
     fn difference(expected: &Vec<u8>, found: &Vec<u8>, _: Zeros) -> Option<&'static str> {
@@ -85,6 +105,24 @@ impl Call for Bend {
     fn show_answer(answer: &Vec<u8>) -> String {
         String::from_utf8_lossy(answer).into_owned()
     }
+}
+
+/// What a lent buffer holds at first.
+const FILL: u8 = 0x6E;
+
+/// The fewest bytes of a buffer that the port fills.
+const ROOM: usize = 2_048;
+
+/// The port's count and what it leaves in a buffer of so many bytes, if it
+/// wrote nothing past it.
+fn lend(call: port::Bend, file: &[u8], length: usize) -> Option<(usize, Vec<u8>)> {
+    let mut out = Guarded::filled(FILL, length);
+    let count = call(file, out.lend());
+    Some((count, out.kept()?))
+}
+
+fn kept(bytes: &[u8]) -> bool {
+    bytes.iter().all(|&byte| byte == FILL)
 }
 
 /// The original has no reader and no printer: it solves what the reference

@@ -13,6 +13,7 @@ use boxed::BoxSolver;
 use least_norm::LeastNorm;
 use least_norm::Outcome;
 
+mod bend;
 mod reports;
 mod solves;
 mod tallying;
