@@ -1,3 +1,4 @@
 pub mod Headway
 pub mod Systems
 pub mod Turning
+pub mod Periods

@@ -20,14 +20,14 @@ use Rattle.exact_pass.specs.Headings.{Passed, Trial, trial, Pass, moving
 use Rattle.exact_pass.specs.Passes as D
 
 -- a pass that is still moving
-going-on : (c : Pass) (q : List ℕ) (e : Exact) (nu : List Float) (st q′ : List ℕ) → Passed c q e nu st q′ → D.isMoving e ≡ true → (c ≡ moving (trial nu st)) × (q′ ≡ q)
+pub going-on : (c : Pass) (q : List ℕ) (e : Exact) (nu : List Float) (st q′ : List ℕ) → Passed c q e nu st q′ → D.isMoving e ≡ true → (c ≡ moving (trial nu st)) × (q′ ≡ q)
 going-on (moving t) q e nu st q′ h f = (ap moving (sym (h .tried)), h .listed)
 going-on (found t) q e nu st q′ h f = absurd (true≢false (sym (rw (h .answer) at f)))
 going-on (failed t) q e nu st q′ h f = absurd (true≢false (sym (rw (h .answer) at f)))
 going-on (fighting l t) q e nu st q′ h f = absurd (true≢false (sym (rw (h .answer) at f)))
 
 -- a pass that has ended stays as it is
-ended-stays : (p : Problem) (c : Pass) (q : List ℕ) (e : Exact) (nu : List Float) (st q′ : List ℕ) → Passed c q e nu st q′ → D.isMoving e ≡ false → (i : ℕ) → D.move p i c ≡ c
+pub ended-stays : (p : Problem) (c : Pass) (q : List ℕ) (e : Exact) (nu : List Float) (st q′ : List ℕ) → Passed c q e nu st q′ → D.isMoving e ≡ false → (i : ℕ) → D.move p i c ≡ c
 unfolding D.move
 ended-stays p (moving t) q e nu st q′ h f i = absurd (true≢false (rw (h .answer) at f))
 ended-stays p (found t) q e nu st q′ h f i = refl

@@ -10,6 +10,8 @@ ghost use Rattle.exact_pass.specs.Passes as def;
 ghost use Rattle.moves.specs.Moves as part;
 ghost use Rattle.least_norm.specs.LeastNorm.{leastNorm};
 
+mod rounds;
+
 // How a pass goes on, or ended: with the rows that fight at the front of the row list, so many of them, or refused with document 01's number.
 pub enum Exact {
     Moving,
@@ -332,6 +334,235 @@ fn run(
     Exact::Moving
 }
 
+// The same with whole rounds left out. The multipliers and states are marked every 16 moves.
+fn run_rounds(
+    w: &[f64],
+    u_free: &[f64],
+    lo: &[f64],
+    hi: &[f64],
+    scale: &[f64],
+    states: &mut [u8],
+    nu: &mut [f64],
+    list: &mut [usize],
+    m: &mut [f64],
+    rhs: &mut [f64],
+    b: &mut [f64],
+    z: &mut [f64],
+    y: &mut [f64],
+    rows: &mut [usize],
+    work: &mut [f64],
+    marked: &mut [f64],
+    marks: &mut [u8],
+    most: usize,
+) -> Exact
+    requires { ⌜ def.Roomy (length (now «u_free»)) (now list) (now m) (now rhs) (now b) (now z) (now y) (now work) × (length (now marked) ≡ length (now nu)) × (length (now marks) ≡ length (now states)) ⌝ }
+    ensures { λ e. ⌜ head.Passed (def.moves (box.problem (now (w .entry)) (now («u_free» .entry)) (now (lo .entry)) (now (hi .entry)) (now (scale .entry))) (head.trial (now (nu .entry)) (now (states .entry))) most) (now (rows .entry)) e (now (nu .exit)) (now (states .exit)) (now (rows .exit)) × (drop 1056 (now (work .exit)) ≡ drop 1056 (now (work .entry))) ⌝ }
+{
+    rounds::mark(nu, states, marked, marks);
+    let mut made = 0;
+    let mut left = most;
+    while left > 0 {
+        let e = step(
+            w,
+            u_free,
+            lo,
+            hi,
+            scale,
+            states,
+            nu,
+            list,
+            m,
+            rhs,
+            b,
+            z,
+            y,
+            rows,
+            work,
+        );
+        if !is_moving(e) {
+            return e;
+        }
+        made += 1;
+        left = rounds::cut(nu, states, marked, marks, made, left - 1);
+        if made >= 16 {
+            rounds::mark(nu, states, marked, marks);
+            made = 0;
+        }
+    }
+    Exact::Moving
+}
+
+// The moves after the first: with a look at rounds, where the lists are not longer than the room to mark them.
+fn run_on(
+    w: &[f64],
+    u_free: &[f64],
+    lo: &[f64],
+    hi: &[f64],
+    scale: &[f64],
+    states: &mut [u8],
+    nu: &mut [f64],
+    list: &mut [usize],
+    m: &mut [f64],
+    rhs: &mut [f64],
+    b: &mut [f64],
+    z: &mut [f64],
+    y: &mut [f64],
+    rows: &mut [usize],
+    work: &mut [f64],
+    most: usize,
+) -> Exact
+    requires { ⌜ def.Roomy (length (now «u_free»)) (now list) (now m) (now rhs) (now b) (now z) (now y) (now work) ⌝ }
+    ensures { λ e. ⌜ head.Passed (def.moves (box.problem (now (w .entry)) (now («u_free» .entry)) (now (lo .entry)) (now (hi .entry)) (now (scale .entry))) (head.trial (now (nu .entry)) (now (states .entry))) most) (now (rows .entry)) e (now (nu .exit)) (now (states .exit)) (now (rows .exit)) × (drop 1056 (now (work .exit)) ≡ drop 1056 (now (work .entry))) ⌝ }
+{
+    let k = nu.len();
+    let s = states.len();
+    if k > 32 {
+        return run(
+            w,
+            u_free,
+            lo,
+            hi,
+            scale,
+            states,
+            nu,
+            list,
+            m,
+            rhs,
+            b,
+            z,
+            y,
+            rows,
+            work,
+            most,
+        );
+    }
+    if s > 32 {
+        return run(
+            w,
+            u_free,
+            lo,
+            hi,
+            scale,
+            states,
+            nu,
+            list,
+            m,
+            rhs,
+            b,
+            z,
+            y,
+            rows,
+            work,
+            most,
+        );
+    }
+    let mut marked = [0.0f64; 32];
+    let mut marks = [0u8; 32];
+    run_rounds(
+        w,
+        u_free,
+        lo,
+        hi,
+        scale,
+        states,
+        nu,
+        list,
+        m,
+        rhs,
+        b,
+        z,
+        y,
+        rows,
+        work,
+        &mut marked[..k],
+        &mut marks[..s],
+        most,
+    )
+}
+
+// At most so many moves. Nearly every pass ends within the first 16, so nothing is marked before.
+fn run_all(
+    w: &[f64],
+    u_free: &[f64],
+    lo: &[f64],
+    hi: &[f64],
+    scale: &[f64],
+    states: &mut [u8],
+    nu: &mut [f64],
+    list: &mut [usize],
+    m: &mut [f64],
+    rhs: &mut [f64],
+    b: &mut [f64],
+    z: &mut [f64],
+    y: &mut [f64],
+    rows: &mut [usize],
+    work: &mut [f64],
+    most: usize,
+) -> Exact
+    requires { ⌜ def.Roomy (length (now «u_free»)) (now list) (now m) (now rhs) (now b) (now z) (now y) (now work) ⌝ }
+    ensures { λ e. ⌜ head.Passed (def.moves (box.problem (now (w .entry)) (now («u_free» .entry)) (now (lo .entry)) (now (hi .entry)) (now (scale .entry))) (head.trial (now (nu .entry)) (now (states .entry))) most) (now (rows .entry)) e (now (nu .exit)) (now (states .exit)) (now (rows .exit)) × (drop 1056 (now (work .exit)) ≡ drop 1056 (now (work .entry))) ⌝ }
+{
+    if most < 16 {
+        return run(
+            w,
+            u_free,
+            lo,
+            hi,
+            scale,
+            states,
+            nu,
+            list,
+            m,
+            rhs,
+            b,
+            z,
+            y,
+            rows,
+            work,
+            most,
+        );
+    }
+    let e = run(
+        w,
+        u_free,
+        lo,
+        hi,
+        scale,
+        states,
+        nu,
+        list,
+        m,
+        rhs,
+        b,
+        z,
+        y,
+        rows,
+        work,
+        16,
+    );
+    if !is_moving(e) {
+        return e;
+    }
+    run_on(
+        w,
+        u_free,
+        lo,
+        hi,
+        scale,
+        states,
+        nu,
+        list,
+        m,
+        rhs,
+        b,
+        z,
+        y,
+        rows,
+        work,
+        most - 16,
+    )
+}
+
 fn pass_from(
     w: &[f64],
     u_free: &[f64],
@@ -355,7 +586,7 @@ fn pass_from(
     let n = u_free.len();
     let most = 8 * moves::acting(states, n) + 8;
     moves::hold(lo, hi, states, nu, n);
-    run(
+    run_all(
         w,
         u_free,
         lo,

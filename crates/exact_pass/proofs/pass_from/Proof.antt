@@ -8,9 +8,6 @@ use Rattle.exact_pass.proofs.pass_from.Statement.{statement}
 use Rattle.exact_pass.proofs.pass_from.Tie as tie
 use Rattle.exact_pass.proofs.pass_from.Reads as reads
 use Rattle.exact_pass.proofs.pass_from.Lts as lts
-use Rattle.exact_pass.proofs.run.Reads as run-reads
-use Rattle.moves.proofs.acting.Reads as acting-reads
-use Rattle.moves.proofs.hold.Reads as hold-reads
 
 acting-requires : tie.Need-acting-requires
 acting-requires c κs = search needs
@@ -24,8 +21,8 @@ add-most c = omega (arith, c .acting .ensures, those-le (box.acts (c .before .be
 hold-requires : tie.Need-hold-requires
 hold-requires c κs = search needs
 
-run-requires : tie.Need-run-requires
-run-requires c κs = search needs
+run-all-requires : tie.Need-run-all-requires
+run-all-requires c κs = search needs
 
 same-length : tie.Need-same-length
 same-length c = search needs
@@ -58,7 +55,7 @@ same-length-10 : tie.Need-same-length-10
 same-length-10 c = search needs
 
 returns : tie.Need-returns
-returns c = (pass-is _ _ _ _ _ _ _ _ _ _ (c .before .before .before .before .before .before .before .before .before .before .before .before .before .before .before .before .before .before .before .before .before .before .before .before .before .before .before .before .before .before .before .before .before .before .before .before .acting .ensures) (c .before .before .before .before .before .before .before .before .before .before .before .before .before .before .before .before .before .before .before .before .before .before .before .before .before .before .before .before .before .before .before .before .before .hold .ensures) (c .before .before .before .before .before .before .before .before .before .before .before .before .before .before .before .before .before .before .before .before .run .ensures .0), c .before .before .before .before .before .before .before .before .before .before .before .before .before .before .before .before .before .before .before .before .run .ensures .1)
+returns c = (pass-is _ _ _ _ _ _ _ _ _ _ (c .before .before .before .before .before .before .before .before .before .before .before .before .before .before .before .before .before .before .before .before .before .before .before .before .before .before .before .before .before .before .before .before .before .before .before .before .acting .ensures) (c .before .before .before .before .before .before .before .before .before .before .before .before .before .before .before .before .before .before .before .before .before .before .before .before .before .before .before .before .before .before .before .before .before .hold .ensures) (c .before .before .before .before .before .before .before .before .before .before .before .before .before .before .before .before .before .before .before .before .run-all .ensures .0), c .before .before .before .before .before .before .before .before .before .before .before .before .before .before .before .before .before .before .before .before .run-all .ensures .1)
 
 pub pass-from-spec : {M : Type 1} → statement M
 pass-from-spec =
@@ -68,7 +65,7 @@ pass-from-spec =
     mul-most
     add-most
     hold-requires
-    run-requires
+    run-all-requires
     same-length
     same-length-2
     same-length-3
