@@ -1,5 +1,5 @@
--- A case for each single error that a solve's answer can show: above each case stand the errors that it shows and no case before it. Errors of refusals are in Refusals.antt. What must come
--- out is what the Rust answers; the errors are those that the comparison puts into its reference one by one (compare/src/reference/rule.rs).
+-- A case for each single error of a solve that the comparison puts into its reference (compare/src/reference/rule.rs), but those of refusals, which are in Refusals.antt, and two that write past
+-- n states or past the workspace's front, which no case here lends. Above each case stand the errors that it shows and no case before it. What must come out is what the Rust answers.
 use mathlib.Core.Path.{_≡_, refl}
 use mathlib.Core.Bool.{true, false}
 use mathlib.Core.List.{List, [], _∷_}

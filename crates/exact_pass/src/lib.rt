@@ -480,7 +480,7 @@ fn run_on(
     )
 }
 
-// At most so many moves. Nearly every pass ends within the first 16, so nothing is marked before.
+// At most so many moves. A pass that ends within 16 marks nothing.
 fn run_all(
     w: &[f64],
     u_free: &[f64],
@@ -607,7 +607,7 @@ fn pass_from(
 }
 
 // The pass from the states shown, of at most 8 rows. Its scratch is its own, since the lent workspace has no parts to spare while the least-norm call holds
-// it; that for 32 rows would take longer to clear than a pass of one row takes.
+// it, and a small pass does not clear what 32 rows need.
 fn pass_small(
     w: &[f64],
     u_free: &[f64],

@@ -9,7 +9,7 @@ ghost use Rattle.sweep.specs.Rows.{Problem};
 ghost use Rattle.exact_pass.specs.Headings as head;
 ghost use Rattle.exact_pass.specs.Passes as def;
 
-// Whether x and y are one value, all NaNs being one.
+// Whether x and y are one value, all NaNs being one. Only true is promised to mean that: false costs time and no answer.
 fn same(x: f64, y: f64) -> bool
     ensures { λ r. ⌜ (r ≡ true → x ≡ y) ⌝ }
 {
