@@ -20,7 +20,7 @@ use Rattle.bend_file.proofs.Values.{values-length}
 use Rattle.bend_file.proofs.Accepted.{accepted-is-bend-file}
 use Rattle.sweep.specs.Rows as row
 use Rattle.boxed.specs.Solves as box
-use Rattle.boxed.specs.Progresses.{Left}
+use Rattle.boxed.specs.Solves.{Left}
 use Rattle.boxed.specs.declared.BoxAnswer.{BoxAnswer}
 use Rattle.printer.specs.Output as print
 use Rattle.printer.specs.Writing.{Wrote}
@@ -46,9 +46,9 @@ pub front-few : (n : ℕ) (l : List ℕ) → length l ≤ 32 → length (take n 
 front-few n l h = omega (arith, length-take n l)
 
 -- the lines of what a solve answered and left
-pub left-laid : (x : box.Result) (r : BoxAnswer) (nu : List Float) (st q a b : List ℕ) (n : ℕ) → Left x r nu st q → def.Laid a b n (def.lines r st nu q) → def.Laid a b n (def.printed x)
+pub left-laid : (x : box.Result) (r : BoxAnswer) (nu : List Float) (st q a b : List ℕ) (n : ℕ) (w w′ : List Float) → Left x r nu st q w w′ → def.Laid a b n (def.lines r st nu q) → def.Laid a b n (def.printed x)
 unfolding def.printed
-left-laid x r nu st q a b n h p = rw (h .answer, h .multipliers, h .states, h .listed) at p
+left-laid x r nu st q a b n w w′ h p = rw (h .answer, h .multipliers, h .states, h .listed) at p
 
 -- ---- reading
 

@@ -5,7 +5,7 @@ use mathlib.Core.Bool.{true, false}
 use mathlib.Core.List.{List}
 use native.Mathlib.Omega.{arith}
 use native.Mathlib.Numerals.{add-one}
-use lib.ListN.{length}
+use lib.ListN.{length, drop}
 use lib.Ieee.{Float}
 use Rattle.loops.specs.Loops.{pasted}
 use Rattle.loops.proofs.Paste.{front-whole}
@@ -18,8 +18,8 @@ use Rattle.boxed.specs.declared.Standing.the-variants as stands
 use Rattle.boxed.specs.declared.Progress.{Progress}
 use Rattle.boxed.specs.Solves as D
 use Rattle.boxed.specs.Solves.{stand, Stand, going}
-use Rattle.boxed.specs.Progresses as S
-use Rattle.boxed.specs.Progresses.{Ran}
+use Rattle.boxed.specs.Private as S
+use Rattle.boxed.specs.Private.{Ran}
 
 -- the states left are those of the trial, and so are the multipliers
 states-are : {nu : List Float} {st : List ℕ} {t : Trial} → trial nu st ≡ t → st ≡ t .states
@@ -45,11 +45,11 @@ settled-is k passes nu st (fighting r t) q e nu₁ st′ q′ g nu′ l h f n =
     record { standing = rw (f, h .answer); stood = rw (f, x, states-are (h .tried)); listed = h .listed }
 
 -- a pass from a copy of the multipliers
-pub attempt-is : (p : Problem) (k passes : ℕ) (nu : List Float) (st : List ℕ) (tried tried₁ tried₂ : List Float) (room : ℕ) (e : Exact) (q st′ q′ : List ℕ) (g : Progress) (nu′ : List Float) → length tried ≡ length nu → rows p ≤ 32 → 1056 ≤ room → tried₁ ≡ pasted nu tried → length tried₂ ≡ length tried₁ → E.PassReplied (E.passNumber (rows p) room) (E.exactPass p st tried₁) e tried₁ tried₂ st st′ q q′ → g ≡ S.settledOf e k (passes + 1) → nu′ ≡ S.settledNu e tried₂ nu → Ran (D.passed k (stand nu st passes) (E.exactPass p st nu)) q g nu′ st′ q′
-attempt-is p k passes nu st tried tried₁ tried₂ room e q st′ q′ g nu′ l few rm c same r f n =
+pub attempt-is : (p : Problem) (k passes : ℕ) (nu : List Float) (st : List ℕ) (tried tried₁ tried₂ : List Float) (room : ℕ) (e : Exact) (q st′ q′ : List ℕ) (w w′ : List Float) (g : Progress) (nu′ : List Float) → length tried ≡ length nu → rows p ≤ 32 → 1056 ≤ room → tried₁ ≡ pasted nu tried → length tried₂ ≡ length tried₁ → E.PassReplied (E.passNumber (rows p) room) (E.exactPass p st tried₁) e tried₁ tried₂ st st′ q q′ w w′ → g ≡ S.settledOf e k (passes + 1) → nu′ ≡ S.settledNu e tried₂ nu → Ran (D.passed k (stand nu st passes) (E.exactPass p st nu)) q g nu′ st′ q′ × (drop 1056 w′ ≡ drop 1056 w)
+attempt-is p k passes nu st tried tried₁ tried₂ room e q st′ q′ w w′ g nu′ l few rm c same r f n =
     let x : tried₁ ≡ nu = c ∙ front-whole nu tried l in
-    let y : Passed (E.exactPass p st tried₁) q e tried₂ st′ q′ = rw (number-none (rows p) room few rm) at r in
-    settled-is k passes nu st (E.exactPass p st nu) q e tried₂ st′ q′ g nu′ (same ∙ ap length x) (rw x at y) (rw (add-one passes) at f) n
+    let y : Passed (E.exactPass p st tried₁) q e tried₂ st′ q′ × (drop 1056 w′ ≡ drop 1056 w) = rw (number-none (rows p) room few rm) at r in
+    (settled-is k passes nu st (E.exactPass p st nu) q e tried₂ st′ q′ g nu′ (same ∙ ap length x) (rw x at (y .0)) (rw (add-one passes) at f) n, y .1)
 
 module _ (cap : ℕ) (p : Problem) (k : ℕ) (nu : List Float) (st : List ℕ) (passes : ℕ) (q : List ℕ) where
   pub check-tried : (g : Progress) (nu′ : List Float) (st′ q′ : List ℕ) → D.checkpoint cap k ≡ true → Ran (D.passed k (stand nu st passes) (E.exactPass p st nu)) q g nu′ st′ q′ → Ran (D.checked cap p k (going (stand nu st passes))) q g nu′ st′ q′

@@ -14,8 +14,8 @@ use Rattle.boxed.specs.declared.Progress.{Progress}
 use Rattle.boxed.specs.declared.Standing.the-variants as stands
 use Rattle.boxed.specs.Solves as D
 use Rattle.boxed.specs.Solves.{Run, going, ended, stand, Stand, Watch}
-use Rattle.boxed.specs.Progresses as S
-use Rattle.boxed.specs.Progresses.{Ran}
+use Rattle.boxed.specs.Private as S
+use Rattle.boxed.specs.Private.{Ran}
 use Rattle.boxed.proofs.Turning.{goes-on}
 
 -- a run that has ended stays as it is

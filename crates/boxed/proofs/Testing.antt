@@ -8,7 +8,7 @@ use lib.ListN.{length}
 use lib.Ieee.{Float, le}
 use borrow.Author.Tests.{ne-eqb, le-ltb}
 use Rattle.loops.specs.Loops.{fronted}
-use Rattle.loops.proofs.Gather.{Gathering}
+use Rattle.loops.specs.Gathering.{Gathering}
 use Rattle.floats.specs.Ops.{1e-9}
 use Rattle.sweep.specs.Rows as box
 use Rattle.sweep.specs.Rows.{Problem, rows}
@@ -20,8 +20,8 @@ use Rattle.boxed.specs.declared.Standing.the-variants as stands
 use Rattle.boxed.specs.declared.Progress.{Progress}
 use Rattle.boxed.specs.Solves as D
 use Rattle.boxed.specs.Solves.{stand, watch, going}
-use Rattle.boxed.specs.Progresses as S
-use Rattle.boxed.specs.Progresses.{Ran}
+use Rattle.boxed.specs.Private as S
+use Rattle.boxed.specs.Private.{Ran}
 
 unless-is : (c : Cause) (k : ℕ) (nu : List Float) (st : List ℕ) (passes n : ℕ) (l : List ℕ) (g : Progress) (q q′ : List ℕ) → n ≡ length l → q′ ≡ fronted l q → g ≡ S.unlessOf c k n passes → Ran (D.unless c k (stand nu st passes) l) q g nu st q′
 unfolding D.unless

@@ -13,8 +13,8 @@ use Rattle.sweep.specs.Rows.{Problem, rows, swept}
 use Rattle.boxed.specs.declared.Progress.{Progress}
 use Rattle.boxed.specs.Solves as D
 use Rattle.boxed.specs.Solves.{Run, going, ended, exact, still, fight, stand, Stand, Watch}
-use Rattle.boxed.specs.Progresses as S
-use Rattle.boxed.specs.Progresses.{Ran}
+use Rattle.boxed.specs.Private as S
+use Rattle.boxed.specs.Private.{Ran}
 
 -- a run that goes on
 pub goes-on : (r : Run) (q : List ℕ) (g : Progress) (nu : List Float) (st q′ : List ℕ) → Ran r q g nu st q′ → S.isGoing (g .standing) ≡ true → (r ≡ going (stand nu st (g .passes))) × (q′ ≡ q)

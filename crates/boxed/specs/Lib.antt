@@ -1,2 +1,2 @@
 pub mod Solves
-pub mod Progresses
+pub mod Private

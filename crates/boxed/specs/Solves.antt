@@ -1,9 +1,10 @@
 -- The box solver of document 01 (`BoxSolver::solve` of boxed.rs): the sweeps with their tests, the ending, what is left. Definitions only.
 use Prim.Native.Nat.{ℕ, zero, suc, _+_, _*_, _/_, _%_}
+use mathlib.Core.Path.{_≡_}
 use mathlib.Core.Bool.{Bool, true, false, not, cond, _&&_, _||_}
 use mathlib.Core.List.{List, [], _∷_, _++_}
 use lib.Dec.{ltb, eqb}
-use lib.ListN.{length}
+use lib.ListN.{length, drop}
 use lib.Ieee.{Float, lt, le}
 use Rattle.loops.specs.Loops.{turns, every, fronted}
 use Rattle.floats.specs.Ops.{at, 0ᶠ, 1e-9}
@@ -182,3 +183,19 @@ SWEEP_CAP = 200
 
 unfoldable pub solveReply : Problem → Watch → List Float → List ℕ → List ℕ → ℕ → Result
 solveReply p m nu st l room = reply SWEEP_CAP p m nu st l (refusal p (m .motion) nu st l room)
+
+-- ---- what the call promises
+
+-- how many values at the workspace's front are free afterwards: none where the call is refused
+abbrev pub used : Outcome → ℕ
+used (refused k) = 0
+used (solved r) = 2304
+used (infeasible c l r) = 2304
+
+-- The answer r of a call is that of the result x, and so are the multipliers, the states and the row list that it leaves. The workspace held w before the call and w′ after it.
+pub record Left (x : Result) (r : BoxAnswer) (nu : List Float) (st q : List ℕ) (w w′ : List Float) : Type 0 where
+  pub answer : r ≡ answerOf (x .outcome)
+  pub multipliers : nu ≡ x .nu
+  pub states : st ≡ x .states
+  pub listed : q ≡ x .listed
+  pub workspace : drop (used (x .outcome)) w′ ≡ drop (used (x .outcome)) w

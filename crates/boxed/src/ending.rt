@@ -4,7 +4,7 @@ ghost use mathlib.Core.Bool.{false};
 ghost use lib.ListN.{length};
 ghost use Rattle.sweep.specs.Rows as box;
 ghost use Rattle.boxed.specs.Solves as def;
-ghost use Rattle.boxed.specs.Progresses as progress;
+ghost use Rattle.boxed.specs.Private as private;
 ghost use Rattle.boxed.specs.declared.BoxAnswer.the-variants as answers;
 use crate::BoxAnswer;
 use crate::BoxReport;
@@ -85,7 +85,7 @@ pub fn finish(
     passes: u32,
     idle: u32,
 ) -> BoxAnswer
-    ensures { λ r. ⌜ (r ≡ progress.finishedAnswer cap (box.problem (now (w .entry)) (now («u_free» .entry)) (now (lo .entry)) (now (hi .entry)) (now (scale .entry))) idle standing (def.stand (now (nu .entry)) (now (states .entry)) passes)) × (now (states .exit) ≡ progress.finishedStates (box.problem (now (w .entry)) (now («u_free» .entry)) (now (lo .entry)) (now (hi .entry)) (now (scale .entry))) standing (def.stand (now (nu .entry)) (now (states .entry)) passes)) ⌝ }
+    ensures { λ r. ⌜ (r ≡ private.finishedAnswer cap (box.problem (now (w .entry)) (now («u_free» .entry)) (now (lo .entry)) (now (hi .entry)) (now (scale .entry))) idle standing (def.stand (now (nu .entry)) (now (states .entry)) passes)) × (now (states .exit) ≡ private.finishedStates (box.problem (now (w .entry)) (now («u_free» .entry)) (now (lo .entry)) (now (hi .entry)) (now (scale .entry))) standing (def.stand (now (nu .entry)) (now (states .entry)) passes)) ⌝ }
 {
     match standing {
         Standing::Going => unfound(

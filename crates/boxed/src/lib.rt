@@ -4,7 +4,7 @@ ghost use Prim.Native.Nat.{_≤_};
 ghost use lib.ListN.{length, drop, take};
 ghost use Rattle.sweep.specs.Rows as box;
 ghost use Rattle.boxed.specs.Solves as def;
-ghost use Rattle.boxed.specs.Progresses as progress;
+ghost use Rattle.boxed.specs.Private as private;
 
 // The steps of a solve.
 mod checkpoints;
@@ -106,7 +106,7 @@ fn sweeps_from(
     idle: u32,
 ) -> BoxAnswer
     requires { ⌜ (length (now «u_free») ≤ 32) × (length (now nu) ≡ length (now «u_free»)) × (1056 ≤ length (now work)) ⌝ }
-    ensures { λ r. ⌜ progress.Left (def.result def.SWEEP_CAP (box.problem (now (w .entry)) (now («u_free» .entry)) (now (lo .entry)) (now (hi .entry)) (now (scale .entry))) idle (now (rows .entry)) (def.run def.SWEEP_CAP (box.problem (now (w .entry)) (now («u_free» .entry)) (now (lo .entry)) (now (hi .entry)) (now (scale .entry))) (def.watch (now (motion .entry)) tolerance) (def.stand (now (nu .entry)) (now (states .entry)) 0) def.SWEEP_CAP)) r (now (nu .exit)) (now (states .exit)) (now (rows .exit)) × (drop 1056 (now (work .exit)) ≡ drop 1056 (now (work .entry))) ⌝ }
+    ensures { λ r. ⌜ private.Finished (def.result def.SWEEP_CAP (box.problem (now (w .entry)) (now («u_free» .entry)) (now (lo .entry)) (now (hi .entry)) (now (scale .entry))) idle (now (rows .entry)) (def.run def.SWEEP_CAP (box.problem (now (w .entry)) (now («u_free» .entry)) (now (lo .entry)) (now (hi .entry)) (now (scale .entry))) (def.watch (now (motion .entry)) tolerance) (def.stand (now (nu .entry)) (now (states .entry)) 0) def.SWEEP_CAP)) r (now (nu .exit)) (now (states .exit)) (now (rows .exit)) × (drop 1056 (now (work .exit)) ≡ drop 1056 (now (work .entry))) ⌝ }
 {
     let n = u_free.len();
     let mut before = [0.0f64; 32];
@@ -160,7 +160,7 @@ fn solve_in(
     work: &mut [f64],
 ) -> BoxAnswer
     requires { ⌜ (length (now «u_free») ≤ 32) × (length (now nu) ≡ length (now «u_free»)) × (1056 ≤ length (now work)) ⌝ }
-    ensures { λ r. ⌜ progress.Left (def.solve def.SWEEP_CAP (box.problem (now (w .entry)) (now («u_free» .entry)) (now (lo .entry)) (now (hi .entry)) (now (scale .entry))) (def.watch (now (motion .entry)) tolerance) (now (nu .entry)) (now (states .entry)) (now (rows .entry))) r (now (nu .exit)) (now (states .exit)) (now (rows .exit)) × (drop 1056 (now (work .exit)) ≡ drop 1056 (now (work .entry))) ⌝ }
+    ensures { λ r. ⌜ private.Finished (def.solve def.SWEEP_CAP (box.problem (now (w .entry)) (now («u_free» .entry)) (now (lo .entry)) (now (hi .entry)) (now (scale .entry))) (def.watch (now (motion .entry)) tolerance) (now (nu .entry)) (now (states .entry)) (now (rows .entry))) r (now (nu .exit)) (now (states .exit)) (now (rows .exit)) × (drop 1056 (now (work .exit)) ≡ drop 1056 (now (work .entry))) ⌝ }
 {
     let n = u_free.len();
     let idle = start(w, n, lo, hi, states, nu);
@@ -186,7 +186,7 @@ fn solve_in(
 pub struct BoxSolver {}
 
 impl BoxSolver {
-    // The number with which `solve` refuses such a call, 5 to 10, or 0 where it takes it. So much room has the workspace.
+    // The number with which `solve` refuses such a call, 5 to 10, or 0 where it takes it. `room` is the workspace's length.
     pub fn refusal(
         w: &[f64],
         u_free: &[f64],
@@ -205,7 +205,7 @@ impl BoxSolver {
     }
 
     // From the multipliers in nu, those that solve the problem, in their place, with a state for each row; or the rows that fight at the front of the row
-    // list; or document 01's number, and nothing is changed. The first 2,304 values of the workspace are free afterwards.
+    // list; or document 01's number, and nothing is changed. The first 2,304 values of the workspace are free after a call that is not refused.
     pub fn solve(
         w: &[f64],
         u_free: &[f64],
@@ -219,7 +219,13 @@ impl BoxSolver {
         rows: &mut [usize],
         workspace: &mut [f64],
     ) -> BoxAnswer
-        ensures { λ r. ⌜ progress.Left (def.solveReply (box.problem (now (w .entry)) (now («u_free» .entry)) (now (lo .entry)) (now (hi .entry)) (now (scale .entry))) (def.watch (now (motion .entry)) tolerance) (now (nu .entry)) (now (states .entry)) (now (rows .entry)) (length (now (workspace .entry)))) r (now (nu .exit)) (now (states .exit)) (now (rows .exit)) × (drop 2304 (now (workspace .exit)) ≡ drop 2304 (now (workspace .entry))) ⌝ }
+        ensures { λ r. ⌜
+            def.Left
+            (def.solveReply
+            (box.problem (now (w .entry)) (now («u_free» .entry)) (now (lo .entry)) (now (hi .entry)) (now (scale .entry)))
+            (def.watch (now (motion .entry)) tolerance)
+            (now (nu .entry)) (now (states .entry)) (now (rows .entry)) (length (now (workspace .entry))))
+            r (now (nu .exit)) (now (states .exit)) (now (rows .exit)) (now (workspace .entry)) (now (workspace .exit)) ⌝ }
     {
         let room = workspace.len();
         let number = refusal::refusal(w, u_free, lo, hi, scale, motion, nu, states, rows, room);

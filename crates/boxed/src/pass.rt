@@ -5,14 +5,14 @@ ghost use lib.ListN.{length, drop};
 ghost use Rattle.exact_pass.specs.Passes as pass;
 ghost use Rattle.sweep.specs.Rows as box;
 ghost use Rattle.boxed.specs.Solves as def;
-ghost use Rattle.boxed.specs.Progresses as progress;
+ghost use Rattle.boxed.specs.Private as private;
 use crate::Cause;
 use crate::Progress;
 use crate::Standing;
 use crate::checkpoints;
 
 fn is_found(e: exact_pass::Exact) -> bool
-    ensures { λ r. ⌜ r ≡ progress.isFound e ⌝ }
+    ensures { λ r. ⌜ r ≡ private.isFound e ⌝ }
 {
     match e {
         exact_pass::Exact::Moving => false,
@@ -25,7 +25,7 @@ fn is_found(e: exact_pass::Exact) -> bool
 
 // How the solve stands after a pass that found no answer.
 fn unfound(e: exact_pass::Exact, k: u32) -> Standing
-    ensures { λ r. ⌜ r ≡ progress.unfoundOf e k ⌝ }
+    ensures { λ r. ⌜ r ≡ private.unfoundOf e k ⌝ }
 {
     match e {
         exact_pass::Exact::Moving => Standing::Going,
@@ -38,7 +38,7 @@ fn unfound(e: exact_pass::Exact, k: u32) -> Standing
 
 // The multipliers that a pass found take the place of those that the sweep left; other passes leave these as they are.
 fn settle(e: exact_pass::Exact, k: u32, trial: &[f64], nu: &mut [f64], passes: u32) -> Progress
-    ensures { λ r. ⌜ (r ≡ progress.settledOf e k passes) × (now (nu .exit) ≡ progress.settledNu e (now (trial .entry)) (now (nu .entry))) ⌝ }
+    ensures { λ r. ⌜ (r ≡ private.settledOf e k passes) × (now (nu .exit) ≡ private.settledNu e (now (trial .entry)) (now (nu .entry))) ⌝ }
 {
     if is_found(e) {
         cells::copy(trial, nu);
@@ -68,8 +68,8 @@ fn attempt(
     k: u32,
     passes: u32,
 ) -> Progress
-    requires { ⌜ progress.Passable (length (now «u_free»)) (now nu) (now trial) (now work) passes ⌝ }
-    ensures { λ r. ⌜ progress.Ran (def.passed k (def.stand (now (nu .entry)) (now (states .entry)) passes) (pass.exactPass (box.problem (now (w .entry)) (now («u_free» .entry)) (now (lo .entry)) (now (hi .entry)) (now (scale .entry))) (now (states .entry)) (now (nu .entry)))) (now (rows .entry)) r (now (nu .exit)) (now (states .exit)) (now (rows .exit)) × (r .passes ≤ passes + 1) × (drop 1056 (now (work .exit)) ≡ drop 1056 (now (work .entry))) ⌝ }
+    requires { ⌜ private.Passable (length (now «u_free»)) (now nu) (now trial) (now work) passes ⌝ }
+    ensures { λ r. ⌜ private.Ran (def.passed k (def.stand (now (nu .entry)) (now (states .entry)) passes) (pass.exactPass (box.problem (now (w .entry)) (now («u_free» .entry)) (now (lo .entry)) (now (hi .entry)) (now (scale .entry))) (now (states .entry)) (now (nu .entry)))) (now (rows .entry)) r (now (nu .exit)) (now (states .exit)) (now (rows .exit)) × (r .passes ≤ passes + 1) × (drop 1056 (now (work .exit)) ≡ drop 1056 (now (work .entry))) ⌝ }
 {
     cells::copy(nu, trial);
     let e = exact_pass::exact_pass(w, u_free, lo, hi, scale, states, trial, rows, work);
@@ -92,8 +92,8 @@ pub fn check(
     k: u32,
     passes: u32,
 ) -> Progress
-    requires { ⌜ progress.Passable (length (now «u_free»)) (now nu) (now trial) (now work) passes ⌝ }
-    ensures { λ r. ⌜ progress.Ran (def.checked cap (box.problem (now (w .entry)) (now («u_free» .entry)) (now (lo .entry)) (now (hi .entry)) (now (scale .entry))) k (def.going (def.stand (now (nu .entry)) (now (states .entry)) passes))) (now (rows .entry)) r (now (nu .exit)) (now (states .exit)) (now (rows .exit)) × (r .passes ≤ passes + 1) × (drop 1056 (now (work .exit)) ≡ drop 1056 (now (work .entry))) ⌝ }
+    requires { ⌜ private.Passable (length (now «u_free»)) (now nu) (now trial) (now work) passes ⌝ }
+    ensures { λ r. ⌜ private.Ran (def.checked cap (box.problem (now (w .entry)) (now («u_free» .entry)) (now (lo .entry)) (now (hi .entry)) (now (scale .entry))) k (def.going (def.stand (now (nu .entry)) (now (states .entry)) passes))) (now (rows .entry)) r (now (nu .exit)) (now (states .exit)) (now (rows .exit)) × (r .passes ≤ passes + 1) × (drop 1056 (now (work .exit)) ≡ drop 1056 (now (work .entry))) ⌝ }
 {
     if checkpoints::checkpoint(cap, k) {
         return attempt(

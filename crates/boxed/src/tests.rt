@@ -5,14 +5,14 @@ ghost use Prim.Native.Nat.{ℕ, _≤_};
 ghost use lib.ListN.{length};
 ghost use Rattle.sweep.specs.Rows as box;
 ghost use Rattle.boxed.specs.Solves as def;
-ghost use Rattle.boxed.specs.Progresses as progress;
+ghost use Rattle.boxed.specs.Private as private;
 use crate::Cause;
 use crate::Progress;
 use crate::Standing;
 
 // So many rows fight, or the solve goes on.
 fn unless(cause: Cause, k: u32, count: usize, passes: u32) -> Progress
-    ensures { λ r. ⌜ r ≡ progress.unlessOf cause k count passes ⌝ }
+    ensures { λ r. ⌜ r ≡ private.unlessOf cause k count passes ⌝ }
 {
     if count == 0 {
         return Progress {
@@ -35,7 +35,7 @@ pub fn grow(
     k: u32,
     passes: u32,
 ) -> Progress
-    ensures { λ r. ⌜ ((st : List ℕ) → progress.Ran (def.unlessGrown (now (scale .entry)) n k (def.stand (now (nu .entry)) st passes)) (now (rows .entry)) r (now (nu .entry)) st (now (rows .exit))) × (r .passes ≡ passes) ⌝ }
+    ensures { λ r. ⌜ ((st : List ℕ) → private.Ran (def.unlessGrown (now (scale .entry)) n k (def.stand (now (nu .entry)) st passes)) (now (rows .entry)) r (now (nu .entry)) st (now (rows .exit))) × (r .passes ≡ passes) ⌝ }
 {
     unless(Cause::Growth, k, sweep::grown(nu, scale, n, rows), passes)
 }
@@ -58,7 +58,7 @@ pub fn test(
     passes: u32,
 ) -> Progress
     requires { ⌜ (length (now «u_free») ≤ 32) × (length (now y) ≡ length (now «u_free»)) ⌝ }
-    ensures { λ r. ⌜ progress.Ran (def.tested (box.problem (now (w .entry)) (now («u_free» .entry)) (now (lo .entry)) (now (hi .entry)) (now (scale .entry))) (def.watch (now (motion .entry)) tolerance) k (now (before .entry)) (def.going (def.stand (now (nu .entry)) (now (states .entry)) passes))) (now (rows .entry)) r (now (nu .entry)) (now (states .entry)) (now (rows .exit)) × (r .passes ≡ passes) ⌝ }
+    ensures { λ r. ⌜ private.Ran (def.tested (box.problem (now (w .entry)) (now («u_free» .entry)) (now (lo .entry)) (now (hi .entry)) (now (scale .entry))) (def.watch (now (motion .entry)) tolerance) k (now (before .entry)) (def.going (def.stand (now (nu .entry)) (now (states .entry)) passes))) (now (rows .entry)) r (now (nu .entry)) (now (states .entry)) (now (rows .exit)) × (r .passes ≡ passes) ⌝ }
 {
     if sweep::motion_of(motion, nu, before) <= tolerance {
         if sweep::residual(w, u_free, lo, hi, scale, states, nu) <= sweep::EXACT_RESIDUAL {

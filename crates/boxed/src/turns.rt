@@ -4,14 +4,14 @@ ghost use Prim.Native.Nat.{_+_, _≤_, _<_};
 ghost use lib.ListN.{length, drop};
 ghost use Rattle.sweep.specs.Rows as box;
 ghost use Rattle.boxed.specs.Solves as def;
-ghost use Rattle.boxed.specs.Progresses as progress;
+ghost use Rattle.boxed.specs.Private as private;
 use crate::Progress;
 use crate::Standing;
 use crate::pass;
 use crate::tests;
 
 fn is_going(s: Standing) -> bool
-    ensures { λ r. ⌜ r ≡ progress.isGoing s ⌝ }
+    ensures { λ r. ⌜ r ≡ private.isGoing s ⌝ }
 {
     match s {
         Standing::Going => true,
@@ -41,8 +41,8 @@ fn after(
     k: u32,
     passes: u32,
 ) -> Progress
-    requires { ⌜ progress.Passable (length (now «u_free»)) (now nu) (now trial) (now work) passes × (length (now y) ≡ length (now «u_free»)) ⌝ }
-    ensures { λ r. ⌜ progress.Ran (def.tested (box.problem (now (w .entry)) (now («u_free» .entry)) (now (lo .entry)) (now (hi .entry)) (now (scale .entry))) (def.watch (now (motion .entry)) tolerance) k (now (before .entry)) (def.checked cap (box.problem (now (w .entry)) (now («u_free» .entry)) (now (lo .entry)) (now (hi .entry)) (now (scale .entry))) k (def.going (def.stand (now (nu .entry)) (now (states .entry)) passes)))) (now (rows .entry)) r (now (nu .exit)) (now (states .exit)) (now (rows .exit)) × (r .passes ≤ passes + 1) × (drop 1056 (now (work .exit)) ≡ drop 1056 (now (work .entry))) ⌝ }
+    requires { ⌜ private.Passable (length (now «u_free»)) (now nu) (now trial) (now work) passes × (length (now y) ≡ length (now «u_free»)) ⌝ }
+    ensures { λ r. ⌜ private.Ran (def.tested (box.problem (now (w .entry)) (now («u_free» .entry)) (now (lo .entry)) (now (hi .entry)) (now (scale .entry))) (def.watch (now (motion .entry)) tolerance) k (now (before .entry)) (def.checked cap (box.problem (now (w .entry)) (now («u_free» .entry)) (now (lo .entry)) (now (hi .entry)) (now (scale .entry))) k (def.going (def.stand (now (nu .entry)) (now (states .entry)) passes)))) (now (rows .entry)) r (now (nu .exit)) (now (states .exit)) (now (rows .exit)) × (r .passes ≤ passes + 1) × (drop 1056 (now (work .exit)) ≡ drop 1056 (now (work .entry))) ⌝ }
 {
     let c = pass::check(
         cap,
@@ -102,8 +102,8 @@ fn turn(
     k: u32,
     passes: u32,
 ) -> Progress
-    requires { ⌜ progress.Passable (length (now «u_free»)) (now nu) (now trial) (now work) passes × (length (now y) ≡ length (now «u_free»)) × (length (now before) ≡ length (now nu)) × (k < 0xffff_ffff) ⌝ }
-    ensures { λ r. ⌜ progress.Ran (def.turn cap (box.problem (now (w .entry)) (now («u_free» .entry)) (now (lo .entry)) (now (hi .entry)) (now (scale .entry))) (def.watch (now (motion .entry)) tolerance) k (def.going (def.stand (now (nu .entry)) (now (states .entry)) passes))) (now (rows .entry)) r (now (nu .exit)) (now (states .exit)) (now (rows .exit)) × (r .passes ≤ passes + 1) × (drop 1056 (now (work .exit)) ≡ drop 1056 (now (work .entry))) ⌝ }
+    requires { ⌜ private.Passable (length (now «u_free»)) (now nu) (now trial) (now work) passes × (length (now y) ≡ length (now «u_free»)) × (length (now before) ≡ length (now nu)) × (k < 0xffff_ffff) ⌝ }
+    ensures { λ r. ⌜ private.Ran (def.turn cap (box.problem (now (w .entry)) (now («u_free» .entry)) (now (lo .entry)) (now (hi .entry)) (now (scale .entry))) (def.watch (now (motion .entry)) tolerance) k (def.going (def.stand (now (nu .entry)) (now (states .entry)) passes))) (now (rows .entry)) r (now (nu .exit)) (now (states .exit)) (now (rows .exit)) × (r .passes ≤ passes + 1) × (drop 1056 (now (work .exit)) ≡ drop 1056 (now (work .entry))) ⌝ }
 {
     cells::copy(nu, before);
     sweep::sweep(w, u_free, lo, hi, states, nu);
@@ -152,8 +152,8 @@ pub fn run(
     rows: &mut [usize],
     work: &mut [f64],
 ) -> Progress
-    requires { ⌜ progress.Passable (length (now «u_free»)) (now nu) (now trial) (now work) 0 × (length (now y) ≡ length (now «u_free»)) × (length (now before) ≡ length (now nu)) ⌝ }
-    ensures { λ r. ⌜ progress.Ran (def.run cap (box.problem (now (w .entry)) (now («u_free» .entry)) (now (lo .entry)) (now (hi .entry)) (now (scale .entry))) (def.watch (now (motion .entry)) tolerance) (def.stand (now (nu .entry)) (now (states .entry)) 0) cap) (now (rows .entry)) r (now (nu .exit)) (now (states .exit)) (now (rows .exit)) × (drop 1056 (now (work .exit)) ≡ drop 1056 (now (work .entry))) ⌝ }
+    requires { ⌜ private.Passable (length (now «u_free»)) (now nu) (now trial) (now work) 0 × (length (now y) ≡ length (now «u_free»)) × (length (now before) ≡ length (now nu)) ⌝ }
+    ensures { λ r. ⌜ private.Ran (def.run cap (box.problem (now (w .entry)) (now («u_free» .entry)) (now (lo .entry)) (now (hi .entry)) (now (scale .entry))) (def.watch (now (motion .entry)) tolerance) (def.stand (now (nu .entry)) (now (states .entry)) 0) cap) (now (rows .entry)) r (now (nu .exit)) (now (states .exit)) (now (rows .exit)) × (drop 1056 (now (work .exit)) ≡ drop 1056 (now (work .entry))) ⌝ }
 {
     let mut passes: u32 = 0;
     let mut k: u32 = 0;

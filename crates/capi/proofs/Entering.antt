@@ -33,25 +33,25 @@ module _ (tally : List ℕ) (kept : List Float) (counts : List ℕ) (residual : 
   room = solving.room counts residual (both-true (leb 1 (length kept)) (solve.taken counts residual) one-and .1)
 
 module _ (t : SolveReport) (c : Call) (tally : List ℕ) (kept : List Float) (counts : List ℕ) (residual : List Float) where
-  pub no-room : def.taken tally kept counts residual ≡ false
-      → def.Answered (def.reply (def.taken tally kept counts residual) t c) 10 tally tally kept kept (c .nu) (c .states) (c .listed) counts counts residual residual
+  pub no-room : (w : List Float) → def.taken tally kept counts residual ≡ false
+      → def.Answered (def.reply (def.taken tally kept counts residual) t c) 10 tally tally kept kept (c .nu) (c .states) (c .listed) counts counts residual residual w w
   unfolding def.reply def.countsKept def.residualKept
-  no-room h =
+  no-room w h =
       rw h (record {
-        answer-is = record { number-is = refl; nu-is = refl; states-are = refl; rows-are = refl; counts-are = refl; residual-is = refl };
+        answer-is = record { number-is = refl; nu-is = refl; states-are = refl; rows-are = refl; counts-are = refl; residual-is = refl; workspace-left = refl };
         tally-is = refl;
         kept-is = refl;
       })
 
   -- the solve is given the tally that was read, and the number r of the call is that of the answer
-  pub answered : (t′ : SolveReport) (s : Tallied) (k r : ℕ) (nu′ : List Float) (st′ q′ counts′ : List ℕ) (residual′ : List Float) (tally′ : List ℕ) (kept′ : List Float)
-      → def.taken tally kept counts residual ≡ true → t′ ≡ t → Entered (tallied t′ c) (s .tally) (s .answer) nu′ st′ q′
+  pub answered : (t′ : SolveReport) (s : Tallied) (k r : ℕ) (nu′ : List Float) (st′ q′ counts′ : List ℕ) (residual′ : List Float) (tally′ : List ℕ) (kept′ w w′ : List Float)
+      → def.taken tally kept counts residual ≡ true → t′ ≡ t → Entered (tallied t′ c) (s .tally) (s .answer) nu′ st′ q′ w w′
       → k ≡ solve.number (s .answer) → counts′ ≡ solve.countsLeft (s .answer) counts → residual′ ≡ solve.residualLeft (s .answer) residual
       → r ≡ k → tally′ ≡ def.countsKept k (s .tally) tally → kept′ ≡ def.residualKept k (s .tally) kept
-      → def.Answered (def.reply (def.taken tally kept counts residual) t c) r tally tally′ kept kept′ nu′ st′ q′ counts counts′ residual residual′
+      → def.Answered (def.reply (def.taken tally kept counts residual) t c) r tally tally′ kept kept′ nu′ st′ q′ counts counts′ residual residual′ w w′
   unfolding def.reply
-  answered t′ s k r nu′ st′ q′ counts′ residual′ tally′ kept′ h g x′ n e f same a b =
-      let x : Entered (tallied t c) (s .tally) (s .answer) nu′ st′ q′ = rw g at x′ in
+  answered t′ s k r nu′ st′ q′ counts′ residual′ tally′ kept′ w w′ h g x′ n e f same a b =
+      let x : Entered (tallied t c) (s .tally) (s .answer) nu′ st′ q′ w w′ = rw g at x′ in
       let l = x .left in
       rw h (record {
         answer-is = record {
@@ -61,6 +61,7 @@ module _ (t : SolveReport) (c : Call) (tally : List ℕ) (kept : List Float) (co
           rows-are = l .listed;
           counts-are = e ∙ ap (λ (y : BoxAnswer). solve.countsLeft y counts) (l .answer);
           residual-is = f ∙ ap (λ (y : BoxAnswer). solve.residualLeft y residual) (l .answer);
+          workspace-left = l .workspace;
         };
         tally-is = rw (same, ← x .tally) a;
         kept-is = rw (same, ← x .tally) b;

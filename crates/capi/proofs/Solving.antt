@@ -10,7 +10,7 @@ use borrow.Author.Tests.{leb-true}
 use Rattle.loops.proofs.Every.{both-true}
 use Rattle.sweep.specs.Rows.{Problem}
 use Rattle.boxed.specs.Solves as box
-use Rattle.boxed.specs.Progresses.{Left}
+use Rattle.boxed.specs.Solves.{Left}
 use Rattle.boxed.specs.declared.BoxAnswer.{BoxAnswer}
 use Rattle.capi.specs.Solves as def
 
@@ -21,14 +21,15 @@ room counts residual h =
     (leb-true 7 (length counts) (x .0), leb-true 1 (length residual) (x .1))
 
 module _ (p : Problem) (m : box.Watch) (nu : List Float) (st q : List ℕ) (room : ℕ) (counts : List ℕ) (residual : List Float) where
-  pub no-room : def.taken counts residual ≡ false → def.Answered (def.reply (def.taken counts residual) p m nu st q room) 10 nu st q counts counts residual residual
+  pub no-room : (w : List Float) → def.taken counts residual ≡ false → def.Answered (def.reply (def.taken counts residual) p m nu st q room) 10 nu st q counts counts residual residual w w
   unfolding def.reply
-  no-room h = rw h (record { number-is = refl; nu-is = refl; states-are = refl; rows-are = refl; counts-are = refl; residual-is = refl })
+  no-room w h = rw h (record { number-is = refl; nu-is = refl; states-are = refl; rows-are = refl; counts-are = refl; residual-is = refl; workspace-left = refl })
 
-  pub answered : (a : BoxAnswer) (r : ℕ) (nu′ : List Float) (st′ q′ counts′ : List ℕ) (residual′ : List Float) → def.taken counts residual ≡ true → Left (box.solveReply p m nu st q room) a nu′ st′ q′ → r ≡ def.number a → counts′ ≡ def.countsLeft a counts → residual′ ≡ def.residualLeft a residual
-      → def.Answered (def.reply (def.taken counts residual) p m nu st q room) r nu′ st′ q′ counts counts′ residual residual′
+  pub answered : (a : BoxAnswer) (r : ℕ) (nu′ : List Float) (st′ q′ counts′ : List ℕ) (residual′ w w′ : List Float) → def.taken counts residual ≡ true
+      → Left (box.solveReply p m nu st q room) a nu′ st′ q′ w w′ → r ≡ def.number a → counts′ ≡ def.countsLeft a counts → residual′ ≡ def.residualLeft a residual
+      → def.Answered (def.reply (def.taken counts residual) p m nu st q room) r nu′ st′ q′ counts counts′ residual residual′ w w′
   unfolding def.reply
-  answered a r nu′ st′ q′ counts′ residual′ h l e c s =
+  answered a r nu′ st′ q′ counts′ residual′ w w′ h l e c s =
       rw h (record {
         number-is = e ∙ ap def.number (l .answer);
         nu-is = l .multipliers;
@@ -36,4 +37,5 @@ module _ (p : Problem) (m : box.Watch) (nu : List Float) (st q : List ℕ) (room
         rows-are = l .listed;
         counts-are = c ∙ ap (λ (x : BoxAnswer). def.countsLeft x counts) (l .answer);
         residual-is = s ∙ ap (λ (x : BoxAnswer). def.residualLeft x residual) (l .answer);
+        workspace-left = l .workspace;
       })

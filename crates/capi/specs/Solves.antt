@@ -4,7 +4,7 @@ use mathlib.Core.Path.{_≡_}
 use mathlib.Core.Bool.{Bool, true, false, cond, _&&_}
 use mathlib.Core.List.{List}
 use lib.Dec.{leb}
-use lib.ListN.{set, length}
+use lib.ListN.{set, length, drop}
 use lib.Ieee.{Float}
 use Rattle.sweep.specs.Rows.{Problem}
 use Rattle.boxed.specs.Solves as box
@@ -50,10 +50,12 @@ unfoldable pub reply : Bool → Problem → box.Watch → List Float → List �
 reply true p m nu st q room = box.solveReply p m nu st q room
 reply false p m nu st q room = record { outcome = box.refused 10; nu = nu; states = st; listed = q }
 
-pub record Answered (x : box.Result) (r : ℕ) (nu : List Float) (st q counts counts' : List ℕ) (residual residual' : List Float) : Type 0 where
+-- nu, st and q are left in the multipliers, the states and the row list; of the other buffers each has what it held before and after
+pub record Answered (x : box.Result) (r : ℕ) (nu : List Float) (st q counts counts' : List ℕ) (residual residual' w w' : List Float) : Type 0 where
   pub number-is : r ≡ number (box.answerOf (x .outcome))
   pub nu-is : nu ≡ x .nu
   pub states-are : st ≡ x .states
   pub rows-are : q ≡ x .listed
   pub counts-are : counts' ≡ countsLeft (box.answerOf (x .outcome)) counts
   pub residual-is : residual' ≡ residualLeft (box.answerOf (x .outcome)) residual
+  pub workspace-left : drop (box.used (x .outcome)) w' ≡ drop (box.used (x .outcome)) w

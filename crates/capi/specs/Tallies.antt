@@ -28,7 +28,7 @@ unfoldable pub reply : Bool → SolveReport → Call → Tallied
 reply true t c = tallied t c
 reply false t c = record { tally = t; answer = record { outcome = box.refused 10; nu = c .nu; states = c .states; listed = c .listed } }
 
-pub record Answered (x : Tallied) (r : ℕ) (tally tally' : List ℕ) (kept kept' nu : List Float) (st q counts counts' : List ℕ) (residual residual' : List Float) : Type 0 where
-  pub answer-is : solve.Answered (x .answer) r nu st q counts counts' residual residual'
+pub record Answered (x : Tallied) (r : ℕ) (tally tally' : List ℕ) (kept kept' nu : List Float) (st q counts counts' : List ℕ) (residual residual' w w' : List Float) : Type 0 where
+  pub answer-is : solve.Answered (x .answer) r nu st q counts counts' residual residual' w w'
   pub tally-is : tally' ≡ countsKept r (x .tally) tally
   pub kept-is : kept' ≡ residualKept r (x .tally) kept

@@ -1,7 +1,7 @@
 // The solver's public calls for C and Rust, by plain numbers and slices: a slice passes as a pointer and then a length. include/piskorlu.h declares
 // them. Each call is total; one that cannot be taken answers document 01's number and writes nothing.
 ghost use mathlib.Core.Path.{_≡_};
-ghost use lib.ListN.{length, drop};
+ghost use lib.ListN.{length};
 ghost use Rattle.sweep.specs.Rows as box;
 ghost use Rattle.boxed.specs.Solves as watched;
 ghost use Rattle.floats.specs.Sqrt as root;
@@ -37,7 +37,11 @@ pub extern "C" fn piskorlu_least_norm(
     workspace: &mut [f64],
     rank: &mut [u32],
 ) -> u32
-    ensures { λ r. ⌜ least.Answered (least.reply m n (now (a .entry)) (now (b .entry)) (now (x .entry)) (length (now (workspace .entry))) (now (rank .entry))) r (now (a .entry)) (now (a .exit)) (now (b .entry)) (now (b .exit)) (now (x .entry)) (now (x .exit)) (now (workspace .entry)) (now (workspace .exit)) (now (rank .entry)) (now (rank .exit)) ⌝ }
+    ensures { λ r. ⌜
+        least.Answered
+        (least.reply m n (now (a .entry)) (now (b .entry)) (now (x .entry)) (length (now (workspace .entry))) (now (rank .entry)))
+        r (now (a .entry)) (now (a .exit)) (now (b .entry)) (now (b .exit)) (now (x .entry)) (now (x .exit))
+        (now (workspace .entry)) (now (workspace .exit)) (now (rank .entry)) (now (rank .exit)) ⌝ }
 {
     if rank.len() < 1 {
         return 12;
@@ -62,7 +66,12 @@ pub extern "C" fn piskorlu_and(
     counts: &mut [u32],
     residual: &mut [f64],
 ) -> u32
-    ensures { λ r. ⌜ def.Left (def.reply (def.taken (now (a .entry)) (now (b .entry)) (now (counts .entry)) (now (residual .entry))) (join.and (def.read (now (a .entry)) «a_residual») (def.read (now (b .entry)) «b_residual»))) r (now (counts .entry)) (now (counts .exit)) (now (residual .entry)) (now (residual .exit)) ⌝ }
+    ensures { λ r. ⌜
+        def.Left
+        (def.reply
+        (def.taken (now (a .entry)) (now (b .entry)) (now (counts .entry)) (now (residual .entry)))
+        (join.and (def.read (now (a .entry)) «a_residual») (def.read (now (b .entry)) «b_residual»)))
+        r (now (counts .entry)) (now (counts .exit)) (now (residual .entry)) (now (residual .exit)) ⌝ }
 {
     if reports::taken(a, b, counts, residual) {
         let joined = reports::read(a, a_residual).and(reports::read(b, b_residual));
@@ -81,7 +90,12 @@ pub extern "C" fn piskorlu_continued(
     counts: &mut [u32],
     residual: &mut [f64],
 ) -> u32
-    ensures { λ r. ⌜ def.Left (def.reply (def.taken (now (a .entry)) (now (b .entry)) (now (counts .entry)) (now (residual .entry))) (join.continued (def.read (now (a .entry)) «a_residual») (def.read (now (b .entry)) «b_residual»))) r (now (counts .entry)) (now (counts .exit)) (now (residual .entry)) (now (residual .exit)) ⌝ }
+    ensures { λ r. ⌜
+        def.Left
+        (def.reply
+        (def.taken (now (a .entry)) (now (b .entry)) (now (counts .entry)) (now (residual .entry)))
+        (join.continued (def.read (now (a .entry)) «a_residual») (def.read (now (b .entry)) «b_residual»)))
+        r (now (counts .entry)) (now (counts .exit)) (now (residual .entry)) (now (residual .exit)) ⌝ }
 {
     if reports::taken(a, b, counts, residual) {
         let joined = reports::read(a, a_residual).continued(reports::read(b, b_residual));
@@ -107,7 +121,15 @@ pub extern "C" fn piskorlu_solve(
     counts: &mut [usize],
     residual: &mut [f64],
 ) -> u32
-    ensures { λ r. ⌜ solve.Answered (solve.reply (solve.taken (now (counts .entry)) (now (residual .entry))) (box.problem (now (w .entry)) (now («u_free» .entry)) (now (lo .entry)) (now (hi .entry)) (now (scale .entry))) (watched.watch (now (motion .entry)) tolerance) (now (nu .entry)) (now (states .entry)) (now (rows .entry)) (length (now (workspace .entry)))) r (now (nu .exit)) (now (states .exit)) (now (rows .exit)) (now (counts .entry)) (now (counts .exit)) (now (residual .entry)) (now (residual .exit)) × (drop 2304 (now (workspace .exit)) ≡ drop 2304 (now (workspace .entry))) ⌝ }
+    ensures { λ r. ⌜
+        solve.Answered
+        (solve.reply (solve.taken (now (counts .entry)) (now (residual .entry)))
+        (box.problem (now (w .entry)) (now («u_free» .entry)) (now (lo .entry)) (now (hi .entry)) (now (scale .entry)))
+        (watched.watch (now (motion .entry)) tolerance)
+        (now (nu .entry)) (now (states .entry)) (now (rows .entry)) (length (now (workspace .entry))))
+        r (now (nu .exit)) (now (states .exit)) (now (rows .exit))
+        (now (counts .entry)) (now (counts .exit)) (now (residual .entry)) (now (residual .exit))
+        (now (workspace .entry)) (now (workspace .exit)) ⌝ }
 {
     if solves::taken(counts, residual) {
         let answer = BoxSolver::solve(

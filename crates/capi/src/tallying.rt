@@ -1,7 +1,7 @@
 // A tallied solve by plain numbers.
 ghost use mathlib.Core.Path.{_≡_};
 ghost use Prim.Native.Nat.{_≤_};
-ghost use lib.ListN.{length, drop};
+ghost use lib.ListN.{length};
 ghost use Rattle.floats.specs.Ops as float;
 ghost use Rattle.sweep.specs.Rows as box;
 ghost use Rattle.boxed.specs.Solves as watched;
@@ -58,7 +58,19 @@ pub extern "C" fn piskorlu_tallied(
     counts: &mut [usize],
     residual: &mut [f64],
 ) -> u32
-    ensures { λ r. ⌜ def.Answered (def.reply (def.taken (now (tally .entry)) (now («tally_residual» .entry)) (now (counts .entry)) (now (residual .entry))) (report.read (now (tally .entry)) (float.at (now («tally_residual» .entry)) 0)) (lent.call (box.problem (now (w .entry)) (now («u_free» .entry)) (now (lo .entry)) (now (hi .entry)) (now (scale .entry))) (watched.watch (now (motion .entry)) tolerance) (now (nu .entry)) (now (states .entry)) (now (rows .entry)) (length (now (workspace .entry))))) r (now (tally .entry)) (now (tally .exit)) (now («tally_residual» .entry)) (now («tally_residual» .exit)) (now (nu .exit)) (now (states .exit)) (now (rows .exit)) (now (counts .entry)) (now (counts .exit)) (now (residual .entry)) (now (residual .exit)) × (drop 2304 (now (workspace .exit)) ≡ drop 2304 (now (workspace .entry))) ⌝ }
+    ensures { λ r. ⌜
+        def.Answered
+        (def.reply
+        (def.taken (now (tally .entry)) (now («tally_residual» .entry)) (now (counts .entry)) (now (residual .entry)))
+        (report.read (now (tally .entry)) (float.at (now («tally_residual» .entry)) 0))
+        (lent.call
+        (box.problem (now (w .entry)) (now («u_free» .entry)) (now (lo .entry)) (now (hi .entry)) (now (scale .entry)))
+        (watched.watch (now (motion .entry)) tolerance)
+        (now (nu .entry)) (now (states .entry)) (now (rows .entry)) (length (now (workspace .entry)))))
+        r (now (tally .entry)) (now (tally .exit)) (now («tally_residual» .entry)) (now («tally_residual» .exit))
+        (now (nu .exit)) (now (states .exit)) (now (rows .exit))
+        (now (counts .entry)) (now (counts .exit)) (now (residual .entry)) (now (residual .exit))
+        (now (workspace .entry)) (now (workspace .exit)) ⌝ }
 {
     if taken(tally, tally_residual, counts, residual) {
         let t = reports::read(tally, tally_residual[0]);

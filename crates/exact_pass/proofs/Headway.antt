@@ -21,6 +21,7 @@ use Rattle.moves.specs.declared.Hardest.{Hardest}
 use Rattle.exact_pass.specs.declared.Exact.{Exact}
 use Rattle.exact_pass.specs.declared.Exact.the-variants.{Moving, Found, Failed, Infeasible}
 use Rattle.exact_pass.specs.Headings as D
+use Rattle.exact_pass.specs.Private as R
 use Rattle.exact_pass.specs.Headings.{Passed, trial}
 
 module _ (p : Problem) (nu : List Float) (st : List ℕ) where
@@ -40,7 +41,7 @@ module _ (p : Problem) (nu : List Float) (st : List ℕ) where
   unfolding D.stopped
   stopped-at r v nu′ st′ l h f g k = rw (ne-eqb (r .stop) 0 h) (record { answer = refl; tried = rw (g, k, f); listed = refl })
 
-  fought-is : (k : ℕ) (l : List ℕ) (e : Exact) (r r′ : List ℕ) → k ≡ length l → e ≡ D.foughtOf k → r′ ≡ fronted l r → Passed (D.fought (trial nu st) l) r e nu st r′
+  fought-is : (k : ℕ) (l : List ℕ) (e : Exact) (r r′ : List ℕ) → k ≡ length l → e ≡ R.foughtOf k → r′ ≡ fronted l r → Passed (D.fought (trial nu st) l) r e nu st r′
   unfolding D.fought
   fought-is k [] e r r′ h f g = record { answer = f ∙ rw h; tried = refl; listed = g }
   fought-is k (a ∷ l) e r r′ h f g = record { answer = f ∙ rw (h, ne-eqb (suc (length l)) 0 (λ q. omega arith)); tried = refl; listed = g }
@@ -50,7 +51,7 @@ module _ (p : Problem) (nu : List Float) (st : List ℕ) where
     unfolding D.went D.wentTo
     went-bound nu₁ e nu′ st′ r h f g = rw (← got, h, ← f) g
 
-    pub went-free : (k : ℕ) (e : Exact) (r r′ : List ℕ) → rows p ≤ 32 → isFinite (b .alpha) ≡ false → Front (rayRows p st y) r k r′ → e ≡ D.foughtOf k → Passed (D.went p (trial nu st) l y alpha) r e nu st r′
+    pub went-free : (k : ℕ) (e : Exact) (r r′ : List ℕ) → rows p ≤ 32 → isFinite (b .alpha) ≡ false → Front (rayRows p st y) r k r′ → e ≡ R.foughtOf k → Passed (D.went p (trial nu st) l y alpha) r e nu st r′
     unfolding D.went D.wentTo rayRows
     went-free k e r r′ few h f g =
         let q : rayRows p st y ≡ ray p st y = rw (le-ltb 32 (rows p) few) in

@@ -23,6 +23,7 @@ use Rattle.exact_pass.specs.declared.Exact.{Exact}
 use Rattle.exact_pass.specs.declared.Exact.the-variants.{Moving}
 use Rattle.exact_pass.specs.Headings.{Passed, Trial, trial, Pass, moving, found, failed, fighting}
 use Rattle.exact_pass.specs.Passes as D
+use Rattle.exact_pass.specs.Private as R
 use Rattle.exact_pass.proofs.Turning.{going-on, ended-stays, run-start, run-again, run-stop}
 
 module _ (p : Problem) where
@@ -85,11 +86,11 @@ same-bits x y g h e = sym (ofBits-toBits binary64 x (rw g tt)) ∙ ap (ofBits bi
 -- ---- the moves of a pass in two parts, the first without a look at rounds
 
 module _ (p : Problem) (t : Trial) (first most : ℕ) (few : first ≤ most) (q : List ℕ) (e : Exact) (nu : List Float) (st q₁ : List ℕ) (h : Passed (D.moves p t first) q e nu st q₁) where
-  pub first-ended : D.isMoving e ≡ false → Passed (D.moves p t most) q e nu st q₁
+  pub first-ended : R.isMoving e ≡ false → Passed (D.moves p t most) q e nu st q₁
   unfolding D.moves
   first-ended f = rw (stays (D.move p) (moving t) (D.moves p t first) first refl (λ i g. ended-stays p (D.moves p t first) q e nu st q₁ h f i) most few) h
 
-  pub first-going : D.isMoving e ≡ true → (e₂ : Exact) (nu₂ : List Float) (st₂ q₂ : List ℕ) → Passed (D.moves p (trial nu st) (most - first)) q₁ e₂ nu₂ st₂ q₂ → Passed (D.moves p t most) q e₂ nu₂ st₂ q₂
+  pub first-going : R.isMoving e ≡ true → (e₂ : Exact) (nu₂ : List Float) (st₂ q₂ : List ℕ) → Passed (D.moves p (trial nu st) (most - first)) q₁ e₂ nu₂ st₂ q₂ → Passed (D.moves p t most) q e₂ nu₂ st₂ q₂
   first-going f e₂ nu₂ st₂ q₂ g =
       let c = going-on (D.moves p t first) q e nu st q₁ h f in
       let s : first + (most - first) ≡ most = omega arith in
@@ -100,14 +101,14 @@ module _ (p : Problem) (t : Trial) (first most : ℕ) (few : first ≤ most) (q 
 
 module _ (p : Problem) (t : Trial) (most left : ℕ) (nu : List Float) (st q : List ℕ) (a : D.moves p t most ≡ D.moves p (trial nu st) left) (more-left : 0 < left)
     (e : Exact) (nu′ : List Float) (st′ q′ : List ℕ) (s : Passed (D.step p (trial nu st) (D.stuck st (rows p))) q e nu′ st′ q′) where
-  pub turn-ended : D.isMoving e ≡ false → Passed (D.moves p t most) q e nu′ st′ q′
+  pub turn-ended : R.isMoving e ≡ false → Passed (D.moves p t most) q e nu′ st′ q′
   turn-ended f = rw a (run-stop p (trial nu st) 0 left nu st e nu′ st′ q q′ (run-start p (trial nu st)) s f more-left)
 
-  one : D.isMoving e ≡ true → (D.moves p (trial nu st) 1 ≡ moving (trial nu′ st′)) × (q′ ≡ q)
+  one : R.isMoving e ≡ true → (D.moves p (trial nu st) 1 ≡ moving (trial nu′ st′)) × (q′ ≡ q)
   one f = run-again p (trial nu st) 0 nu st e nu′ st′ q q′ (run-start p (trial nu st)) s f
 
   -- the moves left, the moves since the mark, and the row list
-  pub turn-on : (m : Trial) (made : ℕ) → D.isMoving e ≡ true → D.moves p m made ≡ moving (trial nu st) → (D.moves p t most ≡ D.moves p (trial nu′ st′) (left - 1)) × (D.moves p m (made + 1) ≡ moving (trial nu′ st′)) × (q′ ≡ q)
+  pub turn-on : (m : Trial) (made : ℕ) → R.isMoving e ≡ true → D.moves p m made ≡ moving (trial nu st) → (D.moves p t most ≡ D.moves p (trial nu′ st′) (left - 1)) × (D.moves p m (made + 1) ≡ moving (trial nu′ st′)) × (q′ ≡ q)
   turn-on m made f b =
       let o = one f in
       let l : 1 + (left - 1) ≡ left = omega arith in

@@ -10,7 +10,8 @@ use lib.Ieee.{Float}
 use borrow.Author.Tests.{le-leb, eq-eqb}
 use Rattle.loops.specs.Loops.{pasted}
 use Rattle.loops.proofs.Paste.{front-whole, front-read}
-use Rattle.loops.proofs.Gather.{Gathering, those-le}
+use Rattle.loops.specs.Gathering.{Gathering}
+use Rattle.loops.proofs.Gather.{those-le}
 use lib.Seq.{length-take-le}
 use native.Mathlib.Nat.{mul-le-mul}
 use Rattle.least_norm.specs.LeastNorm.{leastNorm}
@@ -22,6 +23,7 @@ use Rattle.exact_pass.specs.declared.Exact.{Exact}
 use Rattle.exact_pass.specs.Headings as H
 use Rattle.exact_pass.specs.Headings.{Passed, trial}
 use Rattle.exact_pass.specs.Passes as D
+use Rattle.exact_pass.specs.Private as R
 
 -- the least-norm call accepts what it is lent
 replied : (k : ℕ) (a b x : List Float) (room : ℕ) → k ≤ 32 → length a ≡ k * k → length b ≡ k → length x ≡ k → 1056 ≤ room → promise.reply k k a b x room ≡ promise.answered (leastNorm k k a b)
@@ -85,11 +87,11 @@ module _ (p : Problem) (nu : List Float) (st : List ℕ) (l : List ℕ) (e : Exa
       go (a ∷ l) h g = g
 
 -- k rows inside of n, gathered at the front of a list: the parts that are lent fit
-module _ (n : ℕ) (list list′ : List ℕ) (m rhs b z y work : List Float) (k : ℕ) (roomy : D.Roomy n list m rhs b z y work) (few : k ≤ n) (same : length list′ ≡ length list) where
+module _ (n : ℕ) (list list′ : List ℕ) (m rhs b z y work : List Float) (k : ℕ) (roomy : R.Roomy n list m rhs b z y work) (few : k ≤ n) (same : length list′ ≡ length list) where
   pub square-fits : k * k ≤ length m
   square-fits = omega (arith, mul-le-mul few few, roomy .matrix)
 
-  pub lent-is : D.Lent n (length (take k list′)) (take (k * k) m) (take k rhs) (take k b) (take k z) y work
+  pub lent-is : R.Lent n (length (take k list′)) (take (k * k) m) (take k rhs) (take k b) (take k z) y work
   lent-is =
       let c : length (take k list′) ≡ k = length-take-le k list′ (omega (arith, roomy .inside)) in
       rw c

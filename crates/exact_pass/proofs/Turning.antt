@@ -18,16 +18,17 @@ use Rattle.exact_pass.specs.declared.Exact.the-variants.{Moving, Found, 
 use Rattle.exact_pass.specs.Headings as H
 use Rattle.exact_pass.specs.Headings.{Passed, Trial, trial, Pass, moving, found, failed, fighting}
 use Rattle.exact_pass.specs.Passes as D
+use Rattle.exact_pass.specs.Private as R
 
 -- a pass that is still moving
-pub going-on : (c : Pass) (q : List ℕ) (e : Exact) (nu : List Float) (st q′ : List ℕ) → Passed c q e nu st q′ → D.isMoving e ≡ true → (c ≡ moving (trial nu st)) × (q′ ≡ q)
+pub going-on : (c : Pass) (q : List ℕ) (e : Exact) (nu : List Float) (st q′ : List ℕ) → Passed c q e nu st q′ → R.isMoving e ≡ true → (c ≡ moving (trial nu st)) × (q′ ≡ q)
 going-on (moving t) q e nu st q′ h f = (ap moving (sym (h .tried)), h .listed)
 going-on (found t) q e nu st q′ h f = absurd (true≢false (sym (rw (h .answer) at f)))
 going-on (failed t) q e nu st q′ h f = absurd (true≢false (sym (rw (h .answer) at f)))
 going-on (fighting l t) q e nu st q′ h f = absurd (true≢false (sym (rw (h .answer) at f)))
 
 -- a pass that has ended stays as it is
-pub ended-stays : (p : Problem) (c : Pass) (q : List ℕ) (e : Exact) (nu : List Float) (st q′ : List ℕ) → Passed c q e nu st q′ → D.isMoving e ≡ false → (i : ℕ) → D.move p i c ≡ c
+pub ended-stays : (p : Problem) (c : Pass) (q : List ℕ) (e : Exact) (nu : List Float) (st q′ : List ℕ) → Passed c q e nu st q′ → R.isMoving e ≡ false → (i : ℕ) → D.move p i c ≡ c
 unfolding D.move
 ended-stays p (moving t) q e nu st q′ h f i = absurd (true≢false (rw (h .answer) at f))
 ended-stays p (found t) q e nu st q′ h f i = refl
@@ -43,10 +44,10 @@ module _ (p : Problem) (t : Trial) where
   unfolding D.moves D.move turns
   next j nu st h = rw h
 
-  pub run-again : (j : ℕ) (nu : List Float) (st : List ℕ) (e : Exact) (nu′ : List Float) (st′ q q′ : List ℕ) → D.moves p t j ≡ moving (trial nu st) → Passed (D.step p (trial nu st) (D.stuck st (rows p))) q e nu′ st′ q′ → D.isMoving e ≡ true → (D.moves p t (j + 1) ≡ moving (trial nu′ st′)) × (q′ ≡ q)
+  pub run-again : (j : ℕ) (nu : List Float) (st : List ℕ) (e : Exact) (nu′ : List Float) (st′ q q′ : List ℕ) → D.moves p t j ≡ moving (trial nu st) → Passed (D.step p (trial nu st) (D.stuck st (rows p))) q e nu′ st′ q′ → R.isMoving e ≡ true → (D.moves p t (j + 1) ≡ moving (trial nu′ st′)) × (q′ ≡ q)
   run-again j nu st e nu′ st′ q q′ h s f = let g = going-on (D.step p (trial nu st) (D.stuck st (rows p))) q e nu′ st′ q′ s f in (rw (add-one j, next j nu st h) (g .0), g .1)
 
-  pub run-stop : (j n : ℕ) (nu : List Float) (st : List ℕ) (e : Exact) (nu′ : List Float) (st′ q q′ : List ℕ) → D.moves p t j ≡ moving (trial nu st) → Passed (D.step p (trial nu st) (D.stuck st (rows p))) q e nu′ st′ q′ → D.isMoving e ≡ false → j < n → Passed (D.moves p t n) q e nu′ st′ q′
+  pub run-stop : (j n : ℕ) (nu : List Float) (st : List ℕ) (e : Exact) (nu′ : List Float) (st′ q q′ : List ℕ) → D.moves p t j ≡ moving (trial nu st) → Passed (D.step p (trial nu st) (D.stuck st (rows p))) q e nu′ st′ q′ → R.isMoving e ≡ false → j < n → Passed (D.moves p t n) q e nu′ st′ q′
   unfolding D.moves
   run-stop j n nu st e nu′ st′ q q′ h s f b =
       rw (stays (D.move p) (moving t) (D.step p (trial nu st) (D.stuck st (rows p))) (suc j) (next j nu st h) (λ i g. ended-stays p (D.step p (trial nu st) (D.stuck st (rows p))) q e nu′ st′ q′ s f i) n b) s
@@ -72,7 +73,7 @@ pub record Kept (st₀ st : List ℕ) (nu₀ nu : List Float) (list₀ list : Li
   pub of-rows : length q ≡ length q₀
   pub of-work : length work ≡ length work₀
 
-pub kept-roomy : {n : ℕ} {st₀ st : List ℕ} {nu₀ nu : List Float} {list₀ list : List ℕ} {m₀ m rhs₀ rhs b₀ b z₀ z y₀ y : List Float} {q₀ q : List ℕ} {work₀ work : List Float} → D.Roomy n list₀ m₀ rhs₀ b₀ z₀ y₀ work₀ → Kept st₀ st nu₀ nu list₀ list m₀ m rhs₀ rhs b₀ b z₀ z y₀ y q₀ q work₀ work → D.Roomy n list m rhs b z y work
+pub kept-roomy : {n : ℕ} {st₀ st : List ℕ} {nu₀ nu : List Float} {list₀ list : List ℕ} {m₀ m rhs₀ rhs b₀ b z₀ z y₀ y : List Float} {q₀ q : List ℕ} {work₀ work : List Float} → R.Roomy n list₀ m₀ rhs₀ b₀ z₀ y₀ work₀ → Kept st₀ st nu₀ nu list₀ list m₀ m rhs₀ rhs b₀ b z₀ z y₀ y q₀ q work₀ work → R.Roomy n list m rhs b z y work
 kept-roomy r k =
     record {
       few = r .few;

@@ -78,10 +78,6 @@ trialOf (found t) = t
 trialOf (failed t) = t
 trialOf (fighting l t) = t
 
--- the answer where so many rows fight
-abbrev pub foughtOf : ℕ → Exact
-foughtOf k = cond (eqb k 0) Failed (Infeasible k)
-
 -- the row list: the rows that fight at its front
 abbrev pub rowsLeft : Pass → List ℕ → List ℕ
 rowsLeft (moving t) r = r

@@ -1,2 +1,3 @@
 pub mod Headings
 pub mod Passes
+pub mod Private

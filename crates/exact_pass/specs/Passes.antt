@@ -1,10 +1,10 @@
--- An exact pass of boxed.rs, by its moves. Definitions only. l is the list of the rows inside.
-use Prim.Native.Nat.{ℕ, zero, suc, _+_, _*_, _≤_}
+-- An exact pass of boxed.rs, by its moves. l is the list of the rows inside. Words of private contracts are in Private.antt. Definitions only.
+use Prim.Native.Nat.{ℕ, zero, suc, _+_, _*_}
 use mathlib.Core.Path.{_≡_}
-use mathlib.Core.Bool.{Bool, true, false, cond}
+use mathlib.Core.Bool.{cond}
 use lib.Dec.{ltb}
 use mathlib.Core.List.{List, [], _∷_}
-use lib.ListN.{length}
+use lib.ListN.{length, drop}
 use lib.Ieee.{Float}
 use Rattle.loops.specs.Loops.{turns, those}
 use Rattle.least_norm.specs.LeastNorm.{leastNorm}
@@ -12,7 +12,7 @@ use Rattle.sweep.specs.Rows.{Problem, rows, acts, shown}
 use Rattle.moves.specs.Moves.{held, inside, side, matrix, left}
 use Rattle.exact_pass.specs.Headings.{Trial, trial, Pass, moving, found, failed, fighting, release, headed, Passed}
 use Rattle.exact_pass.specs.declared.Exact.{Exact}
-use Rattle.exact_pass.specs.declared.Exact.the-variants.{Moving, Found, Failed, Infeasible, Refused}
+use Rattle.exact_pass.specs.declared.Exact.the-variants.{Refused}
 
 unfoldable pub aimed : Problem → Trial → List ℕ → List Float → List Float → Pass
 aimed p t l rhs z = headed p t l z (left (p .w) (rows p) (p .scale) l rhs z (length l))
@@ -55,34 +55,8 @@ exactPass p st nu = passFrom p (shown p nu st (rows p)) nu
 unfoldable pub passNumber : ℕ → ℕ → ℕ
 passNumber n room = cond (ltb 32 n) 5 (cond (ltb room 1056) 10 0)
 
-abbrev pub PassReplied : ℕ → Pass → Exact → List Float → List Float → List ℕ → List ℕ → List ℕ → List ℕ → Type 0
-PassReplied zero p e nu nu′ st st′ r r′ = Passed p r e nu′ st′ r′
-PassReplied (suc k) p e nu nu′ st st′ r r′ = (e ≡ Refused (suc k)) × (nu′ ≡ nu) × (st′ ≡ st) × (r′ ≡ r)
-
-abbrev pub isMoving : Exact → Bool
-isMoving Moving = true
-isMoving Found = false
-isMoving Failed = false
-isMoving (Infeasible k) = false
-isMoving (Refused k) = false
-
--- ---- what private calls are lent: k is the number of rows inside
-pub record Lent (n k : ℕ) (m rhs b z y work : List Float) : Type 0 where
-  pub few : n ≤ 32
-  pub less : k ≤ 32
-  pub matrix : length m ≡ k * k
-  pub side : length rhs ≡ k
-  pub copied : length b ≡ k
-  pub solution : length z ≡ k
-  pub way : length y ≡ n
-  pub room : 1056 ≤ length work
-
-pub record Roomy (n : ℕ) (list : List ℕ) (m rhs b z y work : List Float) : Type 0 where
-  pub few : n ≤ 32
-  pub inside : n ≤ length list
-  pub matrix : n * n ≤ length m
-  pub side : n ≤ length rhs
-  pub copied : n ≤ length b
-  pub solution : n ≤ length z
-  pub way : length y ≡ n
-  pub room : 1056 ≤ length work
+-- Its answer, and what the multipliers, the states, the row list and the workspace hold before and after it: a refused call changes none, an accepted one frees the first
+-- 1,056 values of the workspace.
+abbrev pub PassReplied : ℕ → Pass → Exact → List Float → List Float → List ℕ → List ℕ → List ℕ → List ℕ → List Float → List Float → Type 0
+PassReplied zero p e nu nu′ st st′ r r′ w w′ = Passed p r e nu′ st′ r′ × (drop 1056 w′ ≡ drop 1056 w)
+PassReplied (suc k) p e nu nu′ st st′ r r′ w w′ = (e ≡ Refused (suc k)) × (nu′ ≡ nu) × (st′ ≡ st) × (r′ ≡ r) × (w′ ≡ w)

@@ -7,6 +7,7 @@ ghost use Rattle.loops.specs.Loops as loop;
 ghost use Rattle.sweep.specs.Rows as box;
 ghost use Rattle.exact_pass.specs.Headings as head;
 ghost use Rattle.exact_pass.specs.Passes as def;
+ghost use Rattle.exact_pass.specs.Private as private;
 ghost use Rattle.moves.specs.Moves as part;
 ghost use Rattle.least_norm.specs.LeastNorm.{leastNorm};
 
@@ -75,7 +76,7 @@ fn stopped(
 }
 
 fn fought(k: usize) -> Exact
-    ensures { λ e. ⌜ e ≡ head.foughtOf k ⌝ }
+    ensures { λ e. ⌜ e ≡ private.foughtOf k ⌝ }
 {
     if k == 0 {
         return Exact::Failed;
@@ -221,7 +222,7 @@ fn toward(
     rows: &mut [usize],
     work: &mut [f64],
 ) -> Exact
-    requires { ⌜ def.Lent (length (now «u_free»)) (length (now l)) (now m) (now rhs) (now b) (now z) (now y) (now work) ⌝ }
+    requires { ⌜ private.Lent (length (now «u_free»)) (length (now l)) (now m) (now rhs) (now b) (now z) (now y) (now work) ⌝ }
     ensures { λ e. ⌜ head.Passed (def.toward (box.problem (now (w .entry)) (now («u_free» .entry)) (now (lo .entry)) (now (hi .entry)) (now (scale .entry))) (head.trial (now (nu .entry)) (now (states .entry))) (now (l .entry))) (now (rows .entry)) e (now (nu .exit)) (now (states .exit)) (now (rows .exit)) × (drop 1056 (now (work .exit)) ≡ drop 1056 (now (work .entry))) ⌝ }
 {
     target(w, u_free, scale, states, nu, l, m, rhs, b, z, work);
@@ -246,7 +247,7 @@ fn step(
     rows: &mut [usize],
     work: &mut [f64],
 ) -> Exact
-    requires { ⌜ def.Roomy (length (now «u_free»)) (now list) (now m) (now rhs) (now b) (now z) (now y) (now work) ⌝ }
+    requires { ⌜ private.Roomy (length (now «u_free»)) (now list) (now m) (now rhs) (now b) (now z) (now y) (now work) ⌝ }
     ensures { λ e. ⌜ head.Passed (def.step (box.problem (now (w .entry)) (now («u_free» .entry)) (now (lo .entry)) (now (hi .entry)) (now (scale .entry))) (head.trial (now (nu .entry)) (now (states .entry))) (def.stuck (now (states .entry)) (length (now («u_free» .entry))))) (now (rows .entry)) e (now (nu .exit)) (now (states .exit)) (now (rows .exit)) × (drop 1056 (now (work .exit)) ≡ drop 1056 (now (work .entry))) ⌝ }
 {
     let k = moves::stuck(states, u_free.len(), list);
@@ -274,7 +275,7 @@ fn step(
 }
 
 fn is_moving(e: Exact) -> bool
-    ensures { λ r. ⌜ r ≡ def.isMoving e ⌝ }
+    ensures { λ r. ⌜ r ≡ private.isMoving e ⌝ }
 {
     match e {
         Exact::Moving => true,
@@ -304,7 +305,7 @@ fn run(
     work: &mut [f64],
     most: usize,
 ) -> Exact
-    requires { ⌜ def.Roomy (length (now «u_free»)) (now list) (now m) (now rhs) (now b) (now z) (now y) (now work) ⌝ }
+    requires { ⌜ private.Roomy (length (now «u_free»)) (now list) (now m) (now rhs) (now b) (now z) (now y) (now work) ⌝ }
     ensures { λ e. ⌜ head.Passed (def.moves (box.problem (now (w .entry)) (now («u_free» .entry)) (now (lo .entry)) (now (hi .entry)) (now (scale .entry))) (head.trial (now (nu .entry)) (now (states .entry))) most) (now (rows .entry)) e (now (nu .exit)) (now (states .exit)) (now (rows .exit)) × (drop 1056 (now (work .exit)) ≡ drop 1056 (now (work .entry))) ⌝ }
 {
     let mut j = 0;
@@ -355,7 +356,7 @@ fn run_rounds(
     marks: &mut [u8],
     most: usize,
 ) -> Exact
-    requires { ⌜ def.Roomy (length (now «u_free»)) (now list) (now m) (now rhs) (now b) (now z) (now y) (now work) × (length (now marked) ≡ length (now nu)) × (length (now marks) ≡ length (now states)) ⌝ }
+    requires { ⌜ private.Roomy (length (now «u_free»)) (now list) (now m) (now rhs) (now b) (now z) (now y) (now work) × (length (now marked) ≡ length (now nu)) × (length (now marks) ≡ length (now states)) ⌝ }
     ensures { λ e. ⌜ head.Passed (def.moves (box.problem (now (w .entry)) (now («u_free» .entry)) (now (lo .entry)) (now (hi .entry)) (now (scale .entry))) (head.trial (now (nu .entry)) (now (states .entry))) most) (now (rows .entry)) e (now (nu .exit)) (now (states .exit)) (now (rows .exit)) × (drop 1056 (now (work .exit)) ≡ drop 1056 (now (work .entry))) ⌝ }
 {
     rounds::mark(nu, states, marked, marks);
@@ -411,7 +412,7 @@ fn run_on(
     work: &mut [f64],
     most: usize,
 ) -> Exact
-    requires { ⌜ def.Roomy (length (now «u_free»)) (now list) (now m) (now rhs) (now b) (now z) (now y) (now work) ⌝ }
+    requires { ⌜ private.Roomy (length (now «u_free»)) (now list) (now m) (now rhs) (now b) (now z) (now y) (now work) ⌝ }
     ensures { λ e. ⌜ head.Passed (def.moves (box.problem (now (w .entry)) (now («u_free» .entry)) (now (lo .entry)) (now (hi .entry)) (now (scale .entry))) (head.trial (now (nu .entry)) (now (states .entry))) most) (now (rows .entry)) e (now (nu .exit)) (now (states .exit)) (now (rows .exit)) × (drop 1056 (now (work .exit)) ≡ drop 1056 (now (work .entry))) ⌝ }
 {
     let k = nu.len();
@@ -499,7 +500,7 @@ fn run_all(
     work: &mut [f64],
     most: usize,
 ) -> Exact
-    requires { ⌜ def.Roomy (length (now «u_free»)) (now list) (now m) (now rhs) (now b) (now z) (now y) (now work) ⌝ }
+    requires { ⌜ private.Roomy (length (now «u_free»)) (now list) (now m) (now rhs) (now b) (now z) (now y) (now work) ⌝ }
     ensures { λ e. ⌜ head.Passed (def.moves (box.problem (now (w .entry)) (now («u_free» .entry)) (now (lo .entry)) (now (hi .entry)) (now (scale .entry))) (head.trial (now (nu .entry)) (now (states .entry))) most) (now (rows .entry)) e (now (nu .exit)) (now (states .exit)) (now (rows .exit)) × (drop 1056 (now (work .exit)) ≡ drop 1056 (now (work .entry))) ⌝ }
 {
     if most < 16 {
@@ -580,7 +581,7 @@ fn pass_from(
     rows: &mut [usize],
     work: &mut [f64],
 ) -> Exact
-    requires { ⌜ def.Roomy (length (now «u_free»)) (now list) (now m) (now rhs) (now b) (now z) (now y) (now work) ⌝ }
+    requires { ⌜ private.Roomy (length (now «u_free»)) (now list) (now m) (now rhs) (now b) (now z) (now y) (now work) ⌝ }
     ensures { λ e. ⌜ head.Passed (def.passFrom (box.problem (now (w .entry)) (now («u_free» .entry)) (now (lo .entry)) (now (hi .entry)) (now (scale .entry))) (now (states .entry)) (now (nu .entry))) (now (rows .entry)) e (now (nu .exit)) (now (states .exit)) (now (rows .exit)) × (drop 1056 (now (work .exit)) ≡ drop 1056 (now (work .entry))) ⌝ }
 {
     let n = u_free.len();
@@ -687,7 +688,8 @@ fn pass_large(
     )
 }
 
-// From the multipliers nu, within their boxes, the exact solution, in their place. The workspace has room for 1,056 values.
+// From the multipliers nu, within their boxes, the exact solution, in their place. The first 1,056 values of the workspace are free afterwards. A call of more
+// than 32 rows gets 5, a workspace of less than 1,056 values 10, and then nothing is changed.
 pub fn exact_pass(
     w: &[f64],
     u_free: &[f64],
@@ -699,7 +701,14 @@ pub fn exact_pass(
     rows: &mut [usize],
     work: &mut [f64],
 ) -> Exact
-    ensures { λ e. ⌜ def.PassReplied (def.passNumber (length (now («u_free» .entry))) (length (now (work .entry)))) (def.exactPass (box.problem (now (w .entry)) (now («u_free» .entry)) (now (lo .entry)) (now (hi .entry)) (now (scale .entry))) (now (states .entry)) (now (nu .entry))) e (now (nu .entry)) (now (nu .exit)) (now (states .entry)) (now (states .exit)) (now (rows .entry)) (now (rows .exit)) × (drop 1056 (now (work .exit)) ≡ drop 1056 (now (work .entry))) ⌝ }
+    ensures { λ e. ⌜
+        def.PassReplied
+        (def.passNumber (length (now («u_free» .entry))) (length (now (work .entry))))
+        (def.exactPass
+        (box.problem (now (w .entry)) (now («u_free» .entry)) (now (lo .entry)) (now (hi .entry)) (now (scale .entry)))
+        (now (states .entry)) (now (nu .entry)))
+        e (now (nu .entry)) (now (nu .exit)) (now (states .entry)) (now (states .exit)) (now (rows .entry)) (now (rows .exit))
+        (now (work .entry)) (now (work .exit)) ⌝ }
 {
     let n = u_free.len();
     if n > 32 {

@@ -1,4 +1,4 @@
--- What it is to be the f64 nearest to a root, in scaled whole numbers. Definitions only. proofs/Midpoint.antt has the theorems: `nearest`, that `sqrt` is so, and `only`, that no other f64 is.
+-- What it is to be the f64 nearest to a root, in scaled whole numbers. Definitions only. proofs/SquareRoot/Midpoint.antt has the theorems: `nearest`, that `sqrt` is so, and `only`, that no other f64 is.
 use Prim.Native.Nat.{ℕ, _+_, _-_, _*_, _^_, _<_}
 use lib.Ieee.{Float, nan, inf, fin, binary64, ofBits, toBits}
 use Rattle.floats.specs.Sqrt.{unitCount}

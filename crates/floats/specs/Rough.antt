@@ -1,4 +1,5 @@
--- A rough square root, from which the code of the root starts. It decides how soon a root is found and no result: every root is `sqrt`, whatever was guessed. Definitions only.
+-- A rough square root, from which the code of the root starts. It decides how soon a root is found and no result: every root is `sqrt`, whatever was guessed.
+-- A reader of the promises may pass it over. Definitions only.
 use Prim.Native.Nat.{ℕ, _-_, _/_}
 use mathlib.Core.Bool.{cond}
 use lib.Dec.{ltb}

@@ -24,6 +24,7 @@ use Rattle.least_norm.specs.declared.Householder.{Householder}
 use Rattle.least_norm.specs.declared.Outcome.the-variants.{Rank, Refused}
 use Rattle.least_norm.specs.Reflector as H
 use Rattle.least_norm.specs.LeastNorm as def
+use Rattle.least_norm.specs.Private as private
 use Rattle.least_norm.specs.Promise as promise
 use Rattle.least_norm.specs.Blocks.{squares, zeros}
 use Rattle.least_norm.proofs.Blocks.{norms-are}
@@ -70,7 +71,7 @@ pub one-picked : (a : List Float) (m n j c k : ℕ) (best p r : Pivot) (norm : F
 unfolding def.better
 one-picked a m n j c k best p r norm e f g h = between-again best _ c k p r h g (rw f at e)
 
-pub find-run : (a : List Float) (m n j : ℕ) (norm : Float) (e : Scan) (g : Pivot) → g ≡ between (e .next) n (e .best) (def.better a m n j) → promise.Scanned a m n j (j + 1) (record { col = j; norm = norm }) e → norm ≡ def.norm2 a n j j m → g ≡ def.pivot a m n j
+pub find-run : (a : List Float) (m n j : ℕ) (norm : Float) (e : Scan) (g : Pivot) → g ≡ between (e .next) n (e .best) (def.better a m n j) → private.Scanned a m n j (j + 1) (record { col = j; norm = norm }) e → norm ≡ def.norm2 a n j j m → g ≡ def.pivot a m n j
 unfolding def.pivot
 find-run a m n j norm e g eg se en =
     let x : e .best ≡ between (suc j) (e .next) (record { col = j; norm = def.norm2 a n j j m }) (def.better a m n j) = rw (add-one, en) at (se .pivot) in
@@ -101,7 +102,7 @@ module _ (a : List Float) (m n j : ℕ) (v v1 : List Float) (sigma beta : Float)
   unfolding def.householder
   parts = rw (signed, sigma-is, entry j (omega arith) low)
 
-  pub householder-run : promise.Reflects a m n j (record { beta = beta; v0 = at v1 j ⊖ beta; vtv = (at v1 j ⊖ beta) ⊗ (at v1 j ⊖ beta) ⊕ sigma }) (set v1 j (at v1 j ⊖ beta))
+  pub householder-run : private.Reflects a m n j (record { beta = beta; v0 = at v1 j ⊖ beta; vtv = (at v1 j ⊖ beta) ⊗ (at v1 j ⊖ beta) ⊕ sigma }) (set v1 j (at v1 j ⊖ beta))
   householder-run =
       record {
         parts = parts;
@@ -117,7 +118,7 @@ reflect-column-run m n j v vtv c first a r e f h =
 pub columns-run : (n j c : ℕ) (f : ℕ → List Float → List Float) (a a1 a2 : List Float) → a2 ≡ between c n a1 f → a1 ≡ between (j + 1) c a f → j + 1 ≤ c → c ≤ n → a2 ≡ between (suc j) n a f
 columns-run n j c f a a1 a2 e2 e1 h1 h2 = let x : a1 ≡ between (suc j) c a f = rw add-one at e1 in between-more a f (suc j) c n a1 a2 e2 x (omega arith) h2
 
-module _ (m n j : ℕ) (a b v : List Float) (h : Householder) (refl-of : promise.Reflects a m n j h v) (low : j < m) (small : j < n) where
+module _ (m n j : ℕ) (a b v : List Float) (h : Householder) (refl-of : private.Reflects a m n j h v) (low : j < m) (small : j < n) where
   columns-same : between (suc j) n a (def.reflectColumn m n j (at v j) (λ row. at v row) (h .vtv)) ≡ between (suc j) n a (def.reflectColumn m n j (h .v0) (λ row. at a (row * n + j)) (h .vtv))
   unfolding def.reflectColumn
   columns-same =
@@ -136,13 +137,13 @@ module _ (m n j : ℕ) (a b v : List Float) (h : Householder) (refl-of : promise
 
 pub reduce-run : (m n j : ℕ) (a b : List Float) (p : List ℕ) (a2 b1 a1 : List Float) (p1 : List ℕ) (q : Pivot) →
     ((r : List ℕ) → def.factors a2 b1 r ≡ def.eliminated m n j (def.factors a1 b r)) → ((b : List Float) → def.factors a1 b p1 ≡ def.brought m n j (q .col) (def.factors a b p)) → eq (q .norm) 0ᶠ ≡ false → q ≡ def.pivot a m n j →
-    promise.standing true j (def.factors a2 b1 p1) ≡ def.reduce m n j (def.going (def.factors a b p))
+    private.standing true j (def.factors a2 b1 p1) ≡ def.reduce m n j (def.going (def.factors a b p))
 unfolding def.reduce
 reduce-run m n j a b p a2 b1 a1 p1 q er eb et eq0 = let t : eq (def.pivot a m n j .norm) 0ᶠ ≡ false = rw (← eq0) et in rw (er p1, eb b, t, ← eq0)
 
 pub reduce-ended : (m n j : ℕ) (a b : List Float) (p : List ℕ) (a1 : List Float) (p1 : List ℕ) (q : Pivot) →
     ((b : List Float) → def.factors a1 b p1 ≡ def.brought m n j (q .col) (def.factors a b p)) → eq (q .norm) 0ᶠ ≡ true → q ≡ def.pivot a m n j →
-    promise.standing false j (def.factors a1 b p1) ≡ def.reduce m n j (def.going (def.factors a b p))
+    private.standing false j (def.factors a1 b p1) ≡ def.reduce m n j (def.going (def.factors a b p))
 unfolding def.reduce
 reduce-ended m n j a b p a1 p1 q eb et eq0 = let t : eq (def.pivot a m n j .norm) 0ᶠ ≡ true = rw (← eq0) et in rw (eb b, t, ← eq0)
 
@@ -152,22 +153,22 @@ pub reduced-from : (m n : ℕ) (a b : List Float) (p : List ℕ) → p ≡ tab (
 unfolding def.reduced
 reduced-from m n a b p e = rw e (turns-from _ _)
 
-module _ (m n : ℕ) (a b : List Float) (j : ℕ) (s t : def.Factors) (r : Bool) (work : promise.standing r j t ≡ def.reduce m n j (def.going s)) (so-far : def.going s ≡ def.reduced m n a b j) where
-  next : promise.standing r j t ≡ def.reduced m n a b (suc j)
+module _ (m n : ℕ) (a b : List Float) (j : ℕ) (s t : def.Factors) (r : Bool) (work : private.standing r j t ≡ def.reduce m n j (def.going s)) (so-far : def.going s ≡ def.reduced m n a b j) where
+  next : private.standing r j t ≡ def.reduced m n a b (suc j)
   unfolding def.reduced turns
   next = work ∙ ap (def.reduce m n j) so-far
 
   pub reduced-again : r ≡ true → def.going t ≡ def.reduced m n a b (j + 1)
-  reduced-again h = let g : promise.standing true j t ≡ def.reduced m n a b (suc j) = rw h at next in rw add-one g
+  reduced-again h = let g : private.standing true j t ≡ def.reduced m n a b (suc j) = rw h at next in rw add-one g
 
-  pub reduced-ended : (k : ℕ) → r ≡ false → j < k → promise.Stopped k (def.reduced m n a b k) j t
+  pub reduced-ended : (k : ℕ) → r ≡ false → j < k → private.Stopped k (def.reduced m n a b k) j t
   unfolding def.reduced def.reduce
   reduced-ended k h l =
-      let g : promise.standing false j t ≡ def.reduced m n a b (suc j) = rw h at next in
+      let g : private.standing false j t ≡ def.reduced m n a b (suc j) = rw h at next in
       let i : def.reduced m n a b k ≡ def.ended j t = stays (def.reduce m n) (def.going (def.factors a b (tab (λ (i : ℕ). i) n))) (def.ended j t) (suc j) (sym g) (λ i b. refl) k l in
       rw i (record { columns = refl; most = omega arith; factors = refl })
 
-pub reduced-done : (m n : ℕ) (a b : List Float) (j k : ℕ) (s : def.Factors) → def.going s ≡ def.reduced m n a b j → j ≤ k → k ≤ j → promise.Stopped k (def.reduced m n a b k) k s
+pub reduced-done : (m n : ℕ) (a b : List Float) (j k : ℕ) (s : def.Factors) → def.going s ≡ def.reduced m n a b j → j ≤ k → k ≤ j → private.Stopped k (def.reduced m n a b k) k s
 reduced-done m n a b j k s e g h =
     let q : j ≡ k = omega arith in
     let f : def.going s ≡ def.reduced m n a b k = rw q at e in
@@ -288,7 +289,7 @@ past-front w v k l e h g =
     ap (λ (x : ℕ). drop x (v ++ drop k w)) q ∙ drop-append-add v (drop k w) (l - k) ∙ drop-drop (l - k) k w ∙ ap (λ (x : ℕ). drop x w) (sym r)
 
 pub least-run : (m n : ℕ) (a b : List Float) (k c rank : ℕ) (s : def.Factors) (x a2 : List Float) →
-    def.solution rank a2 (s .b) x ≡ def.solved n s rank → rank ≡ def.leading n (s .a) c → promise.Stopped k (def.reduced m n a b k) c s → k ≡ min m n → def.solution rank a2 (s .b) x ≡ def.leastNorm m n a b
+    def.solution rank a2 (s .b) x ≡ def.solved n s rank → rank ≡ def.leading n (s .a) c → private.Stopped k (def.reduced m n a b k) c s → k ≡ min m n → def.solution rank a2 (s .b) x ≡ def.leastNorm m n a b
 unfolding def.leastNorm def.ranked
 least-run m n a b k c rank s x a2 ea er es ek = rw (← ek, ← es .factors, ← es .columns, ← er) ea
 

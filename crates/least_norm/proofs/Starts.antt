@@ -20,7 +20,7 @@ use Rattle.floats.proofs.Sums.{gathered-ext}
 use Rattle.least_norm.specs.declared.Pivot.{Pivot}
 use Rattle.least_norm.specs.LeastNorm as def
 use Rattle.least_norm.specs.Starts as starts
-use Rattle.least_norm.specs.Promise as promise
+use Rattle.least_norm.specs.Private as private
 use Rattle.least_norm.proofs.Runs.{solved-run, turned-none, cleared-none}
 
 -- ---- the columns' order
@@ -48,12 +48,12 @@ module _ (perm : List ℕ) (y x z : List Float) (same : length x ≡ length z) w
           let u : j ≡ k → ⊥ = λ s. r (sym (ap (λ (i : ℕ). getD perm i 0) (sym s) ∙ e)) in
           rw (getD-set-other (turns k x put) (getD perm k 0) p (at y k) nan r, getD-set-other (turns k z put) (getD perm k 0) p (at y k) nan r) (before (omega arith))
 
-  put-all : (n : ℕ) → length x ≡ n → promise.Onto n perm → turns n x put ≡ turns n z put
+  put-all : (n : ℕ) → length x ≡ n → private.Onto n perm → turns n x put ≡ turns n z put
   put-all n e onto =
       ext-getD nan (turns n x put) (turns n z put) (put-long x n ∙ same ∙ sym (put-long z n))
       (λ p h. let l : p < n = omega (arith, put-long x n) in let o = onto p l in put-hit n p (o .0) (o .1) (o .2) (omega arith))
 
-  pub unpermuted-any : (n : ℕ) → length x ≡ n → promise.Onto n perm → starts.unpermuted x perm y n ≡ starts.unpermuted z perm y n
+  pub unpermuted-any : (n : ℕ) → length x ≡ n → private.Onto n perm → starts.unpermuted x perm y n ≡ starts.unpermuted z perm y n
   unfolding starts.unpermuted put
   unpermuted-any n e onto = put-all n e onto
 
@@ -110,7 +110,7 @@ zeros-unpermuted n k perm y x z e q = rw (e, q)
 -- ---- the columns' order has every column
 
 abbrev Fine : ℕ → List ℕ → Type 0
-Fine n perm = (length perm ≡ n) × promise.Onto n perm
+Fine n perm = (length perm ≡ n) × private.Onto n perm
 
 tab-is : (n p : ℕ) → p < n → getD (tab (λ (i : ℕ). i) n) p 0 ≡ p
 unfolding tab turns
@@ -145,7 +145,7 @@ module _ (n j c : ℕ) (l : List ℕ) (j-in : j < n) (c-in : c < n) (fine : Fine
   unfolding swapped swap
   at-other i g h = getD-set-other (set l j (getD l c 0)) c i (getD l j 0) 0 h ∙ getD-set-other l j i (getD l c 0) 0 g
 
-  swapped-onto : promise.Onto n swapped
+  swapped-onto : private.Onto n swapped
   swapped-onto p h = let o = fine .1 p h in go (o .0) (o .1) (o .2) (eqb (o .0) j) refl (eqb (o .0) c) refl
     where
       go : (i : ℕ) → i < n → getD l i 0 ≡ p → (b : Bool) → eqb i j ≡ b → (d : Bool) → eqb i c ≡ d → (i : ℕ) × (i < n) × (getD swapped i 0 ≡ p)
@@ -195,11 +195,11 @@ unfolding def.reduced
 reduced-fine m n a b k h =
     turns-keep (def.reduce m n) (def.going (def.factors a b (tab (λ (i : ℕ). i) n))) (λ t r. Fine n (def.left r .perm)) k (fine-start n) (λ j r l f. reduce-fine m n j (omega arith) r f)
 
-pub onto-run : (m n : ℕ) (a b : List Float) (k c : ℕ) (s : def.Factors) → promise.Stopped k (def.reduced m n a b k) c s → k ≤ n → promise.Onto n (s .perm)
-onto-run m n a b k c s e h = subst (λ (s : def.Factors). promise.Onto n (s .perm)) (sym (e .factors)) (reduced-fine m n a b k h .1)
+pub onto-run : (m n : ℕ) (a b : List Float) (k c : ℕ) (s : def.Factors) → private.Stopped k (def.reduced m n a b k) c s → k ≤ n → private.Onto n (s .perm)
+onto-run m n a b k c s e h = subst (λ (s : def.Factors). private.Onto n (s .perm)) (sym (e .factors)) (reduced-fine m n a b k h .1)
 
 -- so the order's start does not show
-pub order-run : (n : ℕ) (perm : List ℕ) (x z y : List Float) → x ≡ starts.unpermuted z perm y (length perm) → length perm ≡ n → length z ≡ n → promise.Onto n perm → x ≡ def.unpermuted (length perm) perm y (length perm)
+pub order-run : (n : ℕ) (perm : List ℕ) (x z y : List Float) → x ≡ starts.unpermuted z perm y (length perm) → length perm ≡ n → length z ≡ n → private.Onto n perm → x ≡ def.unpermuted (length perm) perm y (length perm)
 order-run n perm x z y e lp lz onto =
     let l : length (replicate n 0ᶠ) ≡ n = length-replicate n 0ᶠ in
     let g : x ≡ starts.unpermuted (replicate n 0ᶠ) perm y n = rw (← lp) (e ∙ rw lp (unpermuted-any perm y z (replicate n 0ᶠ) (lz ∙ sym l) n lz onto)) in
@@ -208,7 +208,7 @@ order-run n perm x z y e lp lz onto =
 -- ---- the solution at full rank, from any x and y
 
 pub full-run : (n : ℕ) (a b : List Float) (perm : List ℕ) (x z y w : List Float) →
-    x ≡ starts.unpermuted z perm y (length perm) → y ≡ starts.substituted w n n a b 0 → length perm ≡ n → length z ≡ n → length w ≡ n → promise.Onto n perm → 0 < n →
+    x ≡ starts.unpermuted z perm y (length perm) → y ≡ starts.substituted w n n a b 0 → length perm ≡ n → length z ≡ n → length w ≡ n → private.Onto n perm → 0 < n →
     def.solution n a b x ≡ def.solved n (def.factors a b perm) n
 full-run n a b perm x z y w ex ey lp lz lw onto h =
     let l : length (replicate n 0ᶠ) ≡ n = length-replicate n 0ᶠ in

@@ -4,3 +4,4 @@ pub mod Starts
 pub mod Promise
 pub mod Blocks
 pub mod Examples
+pub mod Private

@@ -11,7 +11,7 @@ ghost use Rattle.floats.specs.Ops.{at};
 ghost use Rattle.least_norm.specs.Reflector.{factor};
 ghost use Rattle.least_norm.specs.LeastNorm as def;
 ghost use Rattle.least_norm.specs.Blocks as blocks;
-ghost use Rattle.least_norm.specs.Promise.{Matrix, Reflects};
+ghost use Rattle.least_norm.specs.Private.{Matrix, Reflects};
 use crate::Four;
 use crate::Householder;
 use crate::lanes;

@@ -6,6 +6,7 @@ ghost use lib.ListN.{length, drop, replicate};
 ghost use Rattle.loops.specs.Loops.{tab};
 ghost use Rattle.floats.specs.Ops.{0ᶠ};
 ghost use Rattle.least_norm.specs.LeastNorm as def;
+ghost use Rattle.least_norm.specs.Private as private;
 ghost use Rattle.least_norm.specs.Promise as promise;
 
 mod columns;
@@ -81,8 +82,8 @@ fn reduce(
     perm: &mut [u8],
     v: &mut [f64],
 ) -> bool
-    requires { ⌜ promise.Reducing (now a) m n (now b) (now perm) (now v) × (j < m) × (j < n) ⌝ }
-    ensures { λ r. ⌜ promise.standing r j (def.factors (now (a .exit)) (now (b .exit)) (now (perm .exit))) ≡ def.reduce m n j (def.going (def.factors (now (a .entry)) (now (b .entry)) (now (perm .entry)))) ⌝ }
+    requires { ⌜ private.Reducing (now a) m n (now b) (now perm) (now v) × (j < m) × (j < n) ⌝ }
+    ensures { λ r. ⌜ private.standing r j (def.factors (now (a .exit)) (now (b .exit)) (now (perm .exit))) ≡ def.reduce m n j (def.going (def.factors (now (a .entry)) (now (b .entry)) (now (perm .entry)))) ⌝ }
 {
     let p = pivoting::find_pivot(a, m, n, j);
     let near = floats::sqrt_rough(p.norm);
@@ -104,8 +105,8 @@ fn reduce_columns(
     perm: &mut [u8],
     v: &mut [f64],
 ) -> usize
-    requires { ⌜ promise.Reducing (now a) m n (now b) (now perm) (now v) × (k ≤ m) × (k ≤ n) × (now perm ≡ tab (λ (i : ℕ). i) n) ⌝ }
-    ensures { λ r. ⌜ promise.Stopped k (def.reduced m n (now (a .entry)) (now (b .entry)) k) r (def.factors (now (a .exit)) (now (b .exit)) (now (perm .exit))) ⌝ }
+    requires { ⌜ private.Reducing (now a) m n (now b) (now perm) (now v) × (k ≤ m) × (k ≤ n) × (now perm ≡ tab (λ (i : ℕ). i) n) ⌝ }
+    ensures { λ r. ⌜ private.Stopped k (def.reduced m n (now (a .entry)) (now (b .entry)) k) r (def.factors (now (a .exit)) (now (b .exit)) (now (perm .exit))) ⌝ }
 {
     let mut j = 0;
     while j < k {
@@ -129,7 +130,7 @@ fn solve_ranked(
     y: &mut [f64],
     rank: usize,
 )
-    requires { ⌜ promise.Trapezoidal (now a) m n rank (now right) × (0 < rank) × (length (now b) ≡ m) × (length (now perm) ≡ n) × (length (now y) ≡ n) × (now y ≡ replicate n 0ᶠ) × (length (now x) ≡ n) × promise.Onto n (now perm) ⌝ }
+    requires { ⌜ private.Trapezoidal (now a) m n rank (now right) × (0 < rank) × (length (now b) ≡ m) × (length (now perm) ≡ n) × (length (now y) ≡ n) × (now y ≡ replicate n 0ᶠ) × (length (now x) ≡ n) × private.Onto n (now perm) ⌝ }
     ensures { λ r. ⌜ def.solution rank (now (a .exit)) (now (b .entry)) (now (x .exit)) ≡ def.solved n (def.factors (now (a .entry)) (now (b .entry)) (now (perm .entry))) rank ⌝ }
 {
     trapezoid::clear(a, m, n, rank, right);
@@ -140,7 +141,7 @@ fn solve_ranked(
 
 // The solution at full rank. Every entry of y and of x is written, so neither need be cleared, and there is no reflector from the right.
 fn solve_full(a: &[f64], m: usize, n: usize, b: &[f64], x: &mut [f64], perm: &[u8], y: &mut [f64])
-    requires { ⌜ promise.Matrix (now a) m n × (0 < n) × (n ≤ m) × (length (now b) ≡ m) × (length (now x) ≡ n) × (length (now perm) ≡ n) × (length (now y) ≡ n) × promise.Onto n (now perm) ⌝ }
+    requires { ⌜ private.Matrix (now a) m n × (0 < n) × (n ≤ m) × (length (now b) ≡ m) × (length (now x) ≡ n) × (length (now perm) ≡ n) × (length (now y) ≡ n) × private.Onto n (now perm) ⌝ }
     ensures { λ r. ⌜ def.solution n (now (a .entry)) (now (b .entry)) (now (x .exit)) ≡ def.solved n (def.factors (now (a .entry)) (now (b .entry)) (now (perm .entry))) n ⌝ }
 {
     solution::substitute(a, m, n, n, b, y);
@@ -159,7 +160,7 @@ fn solve_at(
     y: &mut [f64],
     rank: usize,
 )
-    requires { ⌜ promise.Matrix (now a) m n × (rank ≤ m) × (rank ≤ n) × (length (now b) ≡ m) × (length (now perm) ≡ n) × (1056 ≤ length (now workspace)) × (length (now y) ≡ n) × (length (now x) ≡ n) × promise.Onto n (now perm) ⌝ }
+    requires { ⌜ private.Matrix (now a) m n × (rank ≤ m) × (rank ≤ n) × (length (now b) ≡ m) × (length (now perm) ≡ n) × (1056 ≤ length (now workspace)) × (length (now y) ≡ n) × (length (now x) ≡ n) × private.Onto n (now perm) ⌝ }
     ensures { λ r. ⌜ (def.solution rank (now (a .exit)) (now (b .entry)) (now (x .exit)) ≡ def.solved n (def.factors (now (a .entry)) (now (b .entry)) (now (perm .entry))) rank) × (drop 1056 (now (workspace .exit)) ≡ drop 1056 (now (workspace .entry))) ⌝ }
 {
     if rank == 0 {
@@ -186,7 +187,7 @@ fn least_norm(
     perm: &mut [u8],
     v: &mut [f64],
 ) -> usize
-    requires { ⌜ promise.Reducing (now a) m n (now b) (now perm) (now v) × (length (now x) ≡ n) × (n ≤ length (now v)) × (1056 ≤ length (now workspace)) ⌝ }
+    requires { ⌜ private.Reducing (now a) m n (now b) (now perm) (now v) × (length (now x) ≡ n) × (n ≤ length (now v)) × (1056 ≤ length (now workspace)) ⌝ }
     ensures { λ r. ⌜ (def.solution r (now (a .exit)) (now (b .exit)) (now (x .exit)) ≡ def.leastNorm m n (now (a .entry)) (now (b .entry))) × (drop 1056 (now (workspace .exit)) ≡ drop 1056 (now (workspace .entry))) × (r ≤ 32) ⌝ }
 {
     count_up(perm);

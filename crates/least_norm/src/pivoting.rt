@@ -9,7 +9,7 @@ ghost use Rattle.loops.specs.Loops.{between, swap};
 ghost use Rattle.floats.specs.Ops.{at};
 ghost use Rattle.least_norm.specs.LeastNorm as def;
 ghost use Rattle.least_norm.specs.Blocks.{lanes, zeros, squares};
-ghost use Rattle.least_norm.specs.Promise.{Matrix, Scanned};
+ghost use Rattle.least_norm.specs.Private.{Matrix, Scanned};
 use crate::Four;
 use crate::Pivot;
 use crate::Scan;

@@ -3,7 +3,7 @@ ghost use mathlib.Core.Path.{_≡_};
 ghost use Prim.Native.Nat.{_+_, _*_, _≤_, _<_};
 ghost use lib.ListN.{length, set};
 ghost use Rattle.floats.specs.Ops.{at};
-ghost use Rattle.least_norm.specs.Promise.{Cell, Place};
+ghost use Rattle.least_norm.specs.Private.{Cell, Place};
 
 pub fn place(m: usize, n: usize, i: usize, j: usize) -> usize
     requires { ⌜ (i < m) × (j ≤ n) × (m ≤ 32) × (n ≤ 32) ⌝ }

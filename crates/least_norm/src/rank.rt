@@ -2,7 +2,7 @@
 ghost use mathlib.Core.Path.{_≡_};
 ghost use Prim.Native.Nat.{_+_, _≤_, _<_};
 ghost use Rattle.least_norm.specs.LeastNorm as def;
-ghost use Rattle.least_norm.specs.Promise.{Matrix};
+ghost use Rattle.least_norm.specs.Private.{Matrix};
 use crate::place;
 
 fn leads(a: &[f64], m: usize, n: usize, i: usize) -> bool

@@ -5,7 +5,7 @@ ghost use lib.ListN.{length};
 ghost use Rattle.floats.specs.Ops.{at, _⊕_, _⊗_};
 ghost use Rattle.floats.specs.Sqrt.{sqrt};
 ghost use Rattle.least_norm.specs.Reflector as def;
-ghost use Rattle.least_norm.specs.Promise.{Part, Strided};
+ghost use Rattle.least_norm.specs.Private.{Part, Strided};
 use crate::vector;
 
 // The root of alpha² + sigma, which may be guessed to be near. Where sigma is 0, as in a square system's last step, it is alpha's magnitude,

@@ -4,7 +4,7 @@ ghost use Prim.Native.Nat.{_+_, _*_, _≤_, _<_};
 ghost use lib.ListN.{length, set};
 ghost use Rattle.least_norm.specs.LeastNorm as def;
 ghost use Rattle.least_norm.specs.Starts as starts;
-ghost use Rattle.least_norm.specs.Promise.{Matrix, Turning};
+ghost use Rattle.least_norm.specs.Private.{Matrix, Turning};
 use crate::place;
 use crate::reflect;
 use crate::trapezoid;

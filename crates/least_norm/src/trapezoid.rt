@@ -5,7 +5,7 @@ ghost use Prim.Native.Nat.{suc, _+_, _*_, _≤_, _<_};
 ghost use lib.ListN.{length, replicate};
 ghost use Rattle.floats.specs.Ops.{0ᶠ};
 ghost use Rattle.least_norm.specs.LeastNorm as def;
-ghost use Rattle.least_norm.specs.Promise.{Trapezoidal};
+ghost use Rattle.least_norm.specs.Private.{Trapezoidal};
 use crate::place;
 use crate::reflect;
 use crate::vector;

@@ -12,6 +12,7 @@ use native.Mathlib.Numerals.{add-one}
 use native.Mathlib.Nat.{add-zero, zero-add}
 use borrow.Author.Tests.{eqb-true, eqb-false}
 use Rattle.loops.specs.Loops.{turns, those, noted, counted, fronted}
+use Rattle.loops.specs.Gathering.{Gathering}
 use Rattle.loops.proofs.Paste.{pasted-snoc}
 
 -- ---- a fact of each number of a list
@@ -114,10 +115,6 @@ getD-set l i j v d h = go (eqb j i) refl
 
 pub fronted-snoc : (r l : List ℕ) (a : ℕ) → set (fronted r l) (length r) a ≡ fronted (r ++ (a ∷ [])) l
 fronted-snoc r l a = pasted-snoc r l a
-
-pub record Gathering (test : ℕ → Bool) (l₀ : List ℕ) (i k : ℕ) (l : List ℕ) : Type 0 where
-  pub count : k ≡ length (those test i)
-  pub front : l ≡ fronted (those test i) l₀
 
 module _ (test : ℕ → Bool) (l₀ : List ℕ) where
   pub gather-start : Gathering test l₀ 0 0 l₀

@@ -4,7 +4,7 @@ ghost use mathlib.Core.Path.{_≡_};
 ghost use Prim.Native.Nat.{ℕ, _+_, _*_, _≤_, _<_};
 ghost use lib.ListN.{length};
 ghost use Rattle.loops.specs.Loops as loop;
-ghost use Rattle.loops.proofs.Gather as gather;
+ghost use Rattle.loops.specs.Gathering as gather;
 ghost use Rattle.sweep.specs.Rows as box;
 ghost use Rattle.moves.specs.Moves as def;
 

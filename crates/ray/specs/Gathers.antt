@@ -1,22 +1,11 @@
 -- What the code hands over for a list of rows: its length, and the list at the front of a list lent. Definitions only.
-use Prim.Native.Nat.{ℕ, _≤_}
+use Prim.Native.Nat.{ℕ}
 use mathlib.Core.Path.{_≡_}
-use mathlib.Core.Bool.{Bool, cond}
 use mathlib.Core.List.{List}
 use lib.ListN.{length}
 use Rattle.loops.specs.Loops.{fronted}
-use Rattle.ray.specs.Rays.{Growing, none, these}
 
 -- l by its length k and at the front of what was l₀
 pub record Front (l l₀ : List ℕ) (k : ℕ) (l′ : List ℕ) : Type 0 where
   pub count : k ≡ length l
   pub front : l′ ≡ fronted l l₀
-
--- a row that is dropped is 0, one taken 1, one that stops the gathering 2
-unfoldable pub verdict : Bool → Bool → ℕ
-verdict drop grow = cond drop 0 (cond grow 1 2)
-
--- the rows gathered among the first n; none is 0 rows, wherever the list stands then
-pub data Collected (g : Growing) (l₀ : List ℕ) (n k : ℕ) (l′ : List ℕ) : Type 0 where
-  nothing : g ≡ none → k ≡ 0 → Collected g l₀ n k l′
-  some : (l : List ℕ) → g ≡ these l → Front l l₀ k l′ → k ≤ n → Collected g l₀ n k l′

@@ -7,6 +7,7 @@ ghost use Rattle.loops.specs.Loops as loop;
 ghost use Rattle.sweep.specs.Rows as box;
 ghost use Rattle.ray.specs.Rays as def;
 ghost use Rattle.ray.specs.Gathers as gathers;
+ghost use Rattle.ray.specs.Private as private;
 
 // How far a row moves, over its scale.
 fn size(y: f64, s: f64) -> f64
@@ -104,7 +105,7 @@ fn verdict(
     least: f64,
     a: usize,
 ) -> u8
-    ensures { λ r. ⌜ r ≡ gathers.verdict (def.droppedRow (now (scale .entry)) (now (states .entry)) (now (y .entry)) least a) (def.growsRow (now (lo .entry)) (now (hi .entry)) (now (y .entry)) a) ⌝ }
+    ensures { λ r. ⌜ r ≡ private.verdict (def.droppedRow (now (scale .entry)) (now (states .entry)) (now (y .entry)) least a) (def.growsRow (now (lo .entry)) (now (hi .entry)) (now (y .entry)) a) ⌝ }
 {
     if dropped_row(scale, states, y, least, a) {
         return 0;
@@ -137,7 +138,7 @@ fn collect(
     n: usize,
     rows: &mut [usize],
 ) -> usize
-    ensures { λ r. ⌜ gathers.Collected (def.collected (now (lo .entry)) (now (hi .entry)) (now (scale .entry)) (now (states .entry)) (now (y .entry)) least n) (now (rows .entry)) n r (now (rows .exit)) ⌝ }
+    ensures { λ r. ⌜ private.Collected (def.collected (now (lo .entry)) (now (hi .entry)) (now (scale .entry)) (now (states .entry)) (now (y .entry)) least n) (now (rows .entry)) n r (now (rows .exit)) ⌝ }
 {
     let mut k = 0;
     let mut a = 0;

@@ -5,7 +5,7 @@ ghost use mathlib.Core.List.{List};
 ghost use Prim.Native.Nat.{ℕ, _+_, _*_, _≤_, _<_};
 ghost use lib.ListN.{length, take, drop};
 ghost use Rattle.loops.specs.Loops as loop;
-ghost use Rattle.loops.proofs.Gather as gather;
+ghost use Rattle.loops.specs.Gathering as gather;
 ghost use Rattle.sweep.specs.Rows as def;
 
 // The largest natural residual, over its row's scale, at which an exact pass accepts its multipliers.

@@ -8,14 +8,14 @@ use lib.Dec.{eqb}
 use borrow.Author.Tests.{ne-eqb}
 use lib.Ieee.{Float}
 use Rattle.boxed.specs.Solves as D
-use Rattle.boxed.specs.Solves.{Outcome, refused, solved, infeasible, answerOf}
-use Rattle.boxed.specs.Progresses.{Left}
+use Rattle.boxed.specs.Solves.{Outcome, refused, solved, infeasible, answerOf, Left}
 use Rattle.boxed.specs.declared.BoxAnswer.{BoxAnswer}
 use Rattle.boxed.specs.declared.BoxAnswer.the-variants.{Refused}
 use Rattle.report.specs.declared.SolveReport.{SolveReport}
 use Rattle.tally.specs.Tally as T
 use Rattle.tally.specs.Tally.{Call, number, full, joinedTo, tallied}
-use Rattle.tallied.specs.Joining.{added, joinedBy, Entered}
+use Rattle.tallied.specs.Joining.{Entered}
+use Rattle.tallied.specs.Private.{added, joinedBy}
 
 -- the code's way to join, by the answer in place of the outcome
 joined-by : (t : SolveReport) (x : Outcome) → joinedBy t (answerOf x) ≡ joinedTo t x
@@ -29,26 +29,27 @@ module _ (t : SolveReport) (c : Call) where
   reply = D.reply D.SWEEP_CAP (c .problem) (c .watch) (c .nu) (c .states) (c .listed)
 
   -- a number that is not 0 refuses, and nothing is changed
-  refuses : (k : ℕ) → (k ≡ 0 → ⊥) → Entered (T.with t (reply k)) t (Refused k) (c .nu) (c .states) (c .listed)
+  refuses : (k : ℕ) → (k ≡ 0 → ⊥) → (w : List Float) → Entered (T.with t (reply k)) t (Refused k) (c .nu) (c .states) (c .listed) w w
   unfolding D.reply T.with
-  refuses zero h = absurd (h refl)
-  refuses (suc k) h = record { tally = refl; left = record { answer = refl; multipliers = refl; states = refl; listed = refl } }
+  refuses zero h w = absurd (h refl)
+  refuses (suc k) h w = record { tally = refl; left = record { answer = refl; multipliers = refl; states = refl; listed = refl; workspace = refl } }
 
   -- its own number or 11
   not-zero : (k : ℕ) → cond (eqb k 0) 11 k ≡ 0 → ⊥
   not-zero zero h = absurd (omega (arith, h))
   not-zero (suc k) h = absurd (omega (arith, rw (ne-eqb (suc k) 0 (λ e. omega (arith, e))) at h))
 
-  pub on-full : full t ≡ true → (k : ℕ) → k ≡ cond (eqb (number c) 0) 11 (number c) → Entered (tallied t c) t (Refused k) (c .nu) (c .states) (c .listed)
+  pub on-full : full t ≡ true → (k : ℕ) → k ≡ cond (eqb (number c) 0) 11 (number c) → (w : List Float) → Entered (tallied t c) t (Refused k) (c .nu) (c .states) (c .listed) w w
   unfolding tallied T.answerOn T.numberOn
-  on-full f k e = rw (f, ← e) (refuses k (λ z. not-zero (number c) (sym e ∙ z)))
+  on-full f k e w = rw (f, ← e) (refuses k (λ z. not-zero (number c) (sym e ∙ z)) w)
 
   same-number : (k : ℕ) → cond (eqb k 0) 0 k ≡ k
   same-number zero = refl
   same-number (suc k) = rw (ne-eqb (suc k) 0 (λ e. omega (arith, e)))
 
-  pub on-room : full t ≡ false → (s : SolveReport) (r : BoxAnswer) (nu : List Float) (st q : List ℕ)
-      → Left (D.solveReply (c .problem) (c .watch) (c .nu) (c .states) (c .listed) (c .room)) r nu st q → s ≡ joinedBy t r → Entered (tallied t c) s r nu st q
+  pub on-room : full t ≡ false → (s : SolveReport) (r : BoxAnswer) (nu : List Float) (st q : List ℕ) (w w′ : List Float)
+      → Left (D.solveReply (c .problem) (c .watch) (c .nu) (c .states) (c .listed) (c .room)) r nu st q w w′ → s ≡ joinedBy t r
+      → Entered (tallied t c) s r nu st q w w′
   unfolding tallied T.answerOn T.numberOn T.with D.solveReply
-  on-room f s r nu st q l e =
+  on-room f s r nu st q w w′ l e =
       rw (f, same-number (number c)) (record { tally = e ∙ ap (joinedBy t) (l .answer) ∙ joined-by t (reply (number c) .outcome); left = l })

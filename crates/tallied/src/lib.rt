@@ -2,12 +2,13 @@
 ghost use mathlib.Core.Path.{_≡_};
 ghost use mathlib.Core.Bool.{cond};
 ghost use lib.Dec.{eqb};
-ghost use lib.ListN.{length, drop};
+ghost use lib.ListN.{length};
 ghost use Rattle.sweep.specs.Rows as box;
 ghost use Rattle.boxed.specs.Solves as solver;
 ghost use Rattle.report.specs.Joins as join;
 ghost use Rattle.tally.specs.Tally as def;
 ghost use Rattle.tallied.specs.Joining as said;
+ghost use Rattle.tallied.specs.Private as private;
 use boxed::BoxAnswer;
 use boxed::BoxReport;
 use boxed::BoxSolver;
@@ -63,14 +64,14 @@ fn kept(tally: SolveReport, joined: Joined) -> SolveReport
 
 // A solve's report joined to the tally.
 fn added(tally: SolveReport, report: BoxReport) -> SolveReport
-    ensures { λ r. ⌜ r ≡ said.added tally report ⌝ }
+    ensures { λ r. ⌜ r ≡ private.added tally report ⌝ }
 {
     kept(tally, tally.and(turned(report)))
 }
 
 // The tally after such an answer.
 fn joined_by(tally: SolveReport, answer: BoxAnswer) -> SolveReport
-    ensures { λ r. ⌜ r ≡ said.joinedBy tally answer ⌝ }
+    ensures { λ r. ⌜ r ≡ private.joinedBy tally answer ⌝ }
 {
     match answer {
         BoxAnswer::Refused(_) => tally,
@@ -105,7 +106,15 @@ pub fn tallied_solve(
     rows: &mut [usize],
     workspace: &mut [f64],
 ) -> Tallied
-    ensures { λ r. ⌜ said.Entered (def.tallied tally (said.call (box.problem (now (w .entry)) (now («u_free» .entry)) (now (lo .entry)) (now (hi .entry)) (now (scale .entry))) (solver.watch (now (motion .entry)) tolerance) (now (nu .entry)) (now (states .entry)) (now (rows .entry)) (length (now (workspace .entry))))) (r .tally) (r .answer) (now (nu .exit)) (now (states .exit)) (now (rows .exit)) × (drop 2304 (now (workspace .exit)) ≡ drop 2304 (now (workspace .entry))) ⌝ }
+    ensures { λ r. ⌜
+        said.Entered
+        (def.tallied tally
+        (said.call
+        (box.problem (now (w .entry)) (now («u_free» .entry)) (now (lo .entry)) (now (hi .entry)) (now (scale .entry)))
+        (solver.watch (now (motion .entry)) tolerance)
+        (now (nu .entry)) (now (states .entry)) (now (rows .entry)) (length (now (workspace .entry)))))
+        (r .tally) (r .answer) (now (nu .exit)) (now (states .exit)) (now (rows .exit))
+        (now (workspace .entry)) (now (workspace .exit)) ⌝ }
 {
     if full(tally) {
         let room = workspace.len();
@@ -149,7 +158,15 @@ pub fn solve_into(
     rows: &mut [usize],
     workspace: &mut [f64],
 ) -> BoxAnswer
-    ensures { λ r. ⌜ said.Entered (def.tallied (now (tally .entry)) (said.call (box.problem (now (w .entry)) (now («u_free» .entry)) (now (lo .entry)) (now (hi .entry)) (now (scale .entry))) (solver.watch (now (motion .entry)) tolerance) (now (nu .entry)) (now (states .entry)) (now (rows .entry)) (length (now (workspace .entry))))) (now (tally .exit)) r (now (nu .exit)) (now (states .exit)) (now (rows .exit)) × (drop 2304 (now (workspace .exit)) ≡ drop 2304 (now (workspace .entry))) ⌝ }
+    ensures { λ r. ⌜
+        said.Entered
+        (def.tallied (now (tally .entry))
+        (said.call
+        (box.problem (now (w .entry)) (now («u_free» .entry)) (now (lo .entry)) (now (hi .entry)) (now (scale .entry)))
+        (solver.watch (now (motion .entry)) tolerance)
+        (now (nu .entry)) (now (states .entry)) (now (rows .entry)) (length (now (workspace .entry)))))
+        (now (tally .exit)) r (now (nu .exit)) (now (states .exit)) (now (rows .exit))
+        (now (workspace .entry)) (now (workspace .exit)) ⌝ }
 {
     let t = *tally;
     let s = tallied_solve(

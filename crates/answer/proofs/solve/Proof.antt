@@ -37,7 +37,7 @@ same-length-2 c = search needs
 
 returns : tie.Need-returns
 unfolding def.solved
-returns c = left-laid _ _ _ _ _ _ _ _ (c .before .before .before .before .before .before .before .before .before .before .before .before .solve .ensures .0) (c .before .before .print .ensures)
+returns c = left-laid _ _ _ _ _ _ _ _ _ _ (c .before .before .before .before .before .before .before .before .before .before .before .before .solve .ensures) (c .before .before .print .ensures)
 
 pub solve-spec : {M : Type 1} → statement M
 solve-spec =

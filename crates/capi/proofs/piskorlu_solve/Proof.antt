@@ -35,7 +35,11 @@ same-length-6 : tie.Need-same-length-6
 same-length-6 c = search needs
 
 returns : tie.Need-returns
-returns c = (answered _ _ _ _ _ _ _ _ _ _ _ _ _ _ _ (sym (c .before .before .before .before .before .before .before .before .before .before .before .before .before .before .before .before .before .before .before .before .before .taken .ensures) ∙ c .before .before .before .before .before .before .before .before .before .before .before .before .before .before .before .before .before .before .before .before .if1 .taken) (c .before .before .before .before .before .before .before .before .before .before .before .before .before .before .before .solve .ensures .0) (c .before .before .before .before .leave .ensures .0) (c .before .before .before .before .leave .ensures .1) (c .before .before .before .before .leave .ensures .2), c .before .before .before .before .before .before .before .before .before .before .before .before .before .before .before .solve .ensures .1)
+returns c =
+    let taken = c .before .before .before .before .before .before .before .before .before .before .before .before .before .before .before .before .before .before .before .before .before .taken .ensures in
+    let leave = c .before .before .before .before .leave .ensures in
+    answered _ _ _ _ _ _ _ _ _ _ _ _ _ _ _ _ _ (sym taken ∙ c .before .before .before .before .before .before .before .before .before .before .before .before .before .before .before .before .before .before .before .before .if1 .taken)
+    (c .before .before .before .before .before .before .before .before .before .before .before .before .before .before .before .solve .ensures) (leave .0) (leave .1) (leave .2)
 
 same-length-7 : tie.Need-same-length-7
 same-length-7 c = search needs
@@ -44,7 +48,7 @@ same-length-8 : tie.Need-same-length-8
 same-length-8 c = search needs
 
 returns-2 : tie.Need-returns-2
-returns-2 c = (no-room _ _ _ _ _ _ _ _ (sym (c .before .taken .ensures) ∙ c .if1 .left), refl)
+returns-2 c = no-room _ _ _ _ _ _ _ _ _ (sym (c .before .taken .ensures) ∙ c .if1 .left)
 
 pub piskorlu-solve-spec : {M : Type 1} → statement M
 piskorlu-solve-spec =

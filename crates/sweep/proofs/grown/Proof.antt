@@ -1,4 +1,5 @@
-use Rattle.loops.proofs.Gather.{Gathering, gather-start, gather-again, gather-done, gather-le}
+use Rattle.loops.specs.Gathering.{Gathering}
+use Rattle.loops.proofs.Gather.{gather-start, gather-again, gather-done, gather-le}
 use Rattle.sweep.specs.Rows as def
 use lib.ListN.{length}
 use mathlib.Core.Path.{_≡_}

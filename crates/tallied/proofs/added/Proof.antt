@@ -1,5 +1,5 @@
 -- `tallied::added` meets its contract. Assumes nothing.
-use Rattle.tallied.specs.Joining as said
+use Rattle.tallied.specs.Private as private
 use borrow.Author.Needs.{needs}
 use Rattle.tallied.proofs.added.Statement.{statement}
 use Rattle.tallied.proofs.added.Tie as tie
@@ -14,7 +14,7 @@ kept-requires : tie.Need-kept-requires
 kept-requires c κs = search needs
 
 returns : tie.Need-returns
-unfolding said.added
+unfolding private.added
 returns c = rw (c .kept .ensures, c .before .and .ensures, c .before .before .turned .ensures)
 
 pub added-spec : {M : Type 1} → statement M

@@ -24,7 +24,9 @@ same-length-3 : tie.Need-same-length-3
 same-length-3 c = search needs
 
 returns : tie.Need-returns
-returns c = (on-full _ _ (sym (c .before .before .before .before .before .before .full .ensures) ∙ c .before .before .before .before .before .if1 .taken) _ (rw (← c .before .refusal .ensures) (c .or-eleven .ensures)), refl)
+returns c =
+    let full = c .before .before .before .before .before .before .full .ensures in
+    on-full _ _ (sym full ∙ c .before .before .before .before .before .if1 .taken) _ (rw (← c .before .refusal .ensures) (c .or-eleven .ensures)) _
 
 solve-requires : tie.Need-solve-requires
 solve-requires c κs = search needs
@@ -45,7 +47,9 @@ same-length-7 : tie.Need-same-length-7
 same-length-7 c = search needs
 
 returns-2 : tie.Need-returns-2
-returns-2 c = (on-room _ _ (sym (c .before .before .before .before .before .before .before .before .before .before .before .before .before .before .before .full .ensures) ∙ c .before .before .before .before .before .before .before .before .before .before .before .before .before .before .if1 .left) _ _ _ _ _ (c .before .before .before .before .before .before .before .before .before .solve .ensures .0) (c .joined-by .ensures), c .before .before .before .before .before .before .before .before .before .solve .ensures .1)
+returns-2 c =
+    let full = c .before .before .before .before .before .before .before .before .before .before .before .before .before .before .before .full .ensures in
+    on-room _ _ (sym full ∙ c .before .before .before .before .before .before .before .before .before .before .before .before .before .before .if1 .left) _ _ _ _ _ _ _ (c .before .before .before .before .before .before .before .before .before .solve .ensures) (c .joined-by .ensures)
 
 pub tallied-solve-spec : {M : Type 1} → statement M
 tallied-solve-spec =

@@ -23,7 +23,7 @@ same-length-3 : tie.Need-same-length-3
 same-length-3 c = search needs
 
 returns : tie.Need-returns
-returns c = (is-refused _ _ _ _ _ _ _ (c .before .refusal .ensures) (c .if1 .taken), refl)
+returns c = is-refused _ _ _ _ _ _ _ (c .before .refusal .ensures) (c .if1 .taken) _
 
 solve-in-requires : tie.Need-solve-in-requires
 solve-in-requires c κs = let a = accepted _ (c .before .before .before .before .before .before .before .before .before .before .before .before .before .before .before .before .before .before .before .args .motion .now) _ _ _ _ (sym (c .before .before .before .before .before .refusal .ensures) ∙ c .before .before .before .before .if1 .left) in (a .few, a .nus, omega (arith, a .work))
@@ -41,7 +41,10 @@ same-length-7 : tie.Need-same-length-7
 same-length-7 c = search needs
 
 returns-2 : tie.Need-returns-2
-returns-2 c = (is-solved _ _ _ _ _ _ _ (c .before .before .before .before .before .before .before .before .before .before .before .before .before .before .refusal .ensures) (c .before .before .before .before .before .before .before .before .before .before .before .before .before .if1 .left) _ _ _ _ (c .before .before .before .before .before .before .before .before .solve-in .ensures .0), rw (drop-drop 1248 1056, drop-drop 1248 1056) at (ap (drop 1248) (c .before .before .before .before .before .before .before .before .solve-in .ensures .1)))
+returns-2 c =
+    let solved = c .before .before .before .before .before .before .before .before .solve-in .ensures in
+    is-solved _ _ _ _ _ _ _ (c .before .before .before .before .before .before .before .before .before .before .before .before .before .before .refusal .ensures) (c .before .before .before .before .before .before .before .before .before .before .before .before .before .if1 .left) _ _ _ _ _ _ (solved .0)
+    (rw (drop-drop 1248 1056, drop-drop 1248 1056) at (ap (drop 1248) (solved .1)))
 
 pub solve-spec : {M : Type 1} → statement M
 solve-spec =

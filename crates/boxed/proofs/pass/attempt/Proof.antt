@@ -34,7 +34,14 @@ same-length-5 : tie.Need-same-length-5
 same-length-5 c = search needs
 
 returns : tie.Need-returns
-returns c = (attempt-is _ _ _ _ _ (c .before .before .before .before .before .before .before .before .before .before .before .before .before .before .before .before .before .before .before .before .before .before .before .before .before .before .before .before .before .before .before .before .before .args .trial .now) _ _ _ (c .before .before .before .before .before .before .before .before .before .before .before .before .before .exact-pass .result) _ _ _ _ _ (c .before .before .before .before .before .before .before .before .before .before .before .before .before .before .before .before .before .before .before .before .before .before .before .before .before .before .before .before .before .before .before .before .before .pre .copied) (c .before .before .before .before .before .before .before .before .before .before .before .before .before .before .before .before .before .before .before .before .before .before .before .before .before .before .before .before .before .before .before .before .before .pre .few) (c .before .before .before .before .before .before .before .before .before .before .before .before .before .before .before .before .before .before .before .before .before .before .before .before .before .before .before .before .before .before .before .before .before .pre .room) (c .before .before .before .before .before .before .before .before .before .before .before .before .before .before .before .before .before .before .before .before .copy .ensures) (omega arith) (c .before .before .before .before .before .before .before .before .before .before .before .before .before .exact-pass .ensures .0) (c .before .before .settle .ensures .0) (c .before .before .settle .ensures .1), settled-count _ _ _ _ (c .before .before .settle .ensures .0), c .before .before .before .before .before .before .before .before .before .before .before .before .before .exact-pass .ensures .1)
+returns c =
+    let entry = c .before .before .before .before .before .before .before .before .before .before .before .before .before .before .before .before .before .before .before .before .before .before .before .before .before .before .before .before .before .before .before .before .before in
+    let pass = c .before .before .before .before .before .before .before .before .before .before .before .before .before .exact-pass in
+    let settle = c .before .before .settle .ensures in
+    let tried =
+    attempt-is _ _ _ _ _ (entry .args .trial .now) _ _ _ (pass .result) _ _ _ _ _ _ _ (entry .pre .copied) (entry .pre .few) (entry .pre .room)
+    (c .before .before .before .before .before .before .before .before .before .before .before .before .before .before .before .before .before .before .before .before .copy .ensures) (omega arith) (pass .ensures) (settle .0) (settle .1) in
+    (tried .0, settled-count _ _ _ _ (settle .0), tried .1)
 
 pub attempt-spec : {M : Type 1} → statement M
 attempt-spec =

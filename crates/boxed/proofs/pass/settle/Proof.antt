@@ -1,5 +1,5 @@
 use mathlib.Core.Path.{sym, _∙_}
-use Rattle.boxed.specs.Progresses as progress
+use Rattle.boxed.specs.Private as private
 use native.Mathlib.Omega.{arith}
 use borrow.Author.Needs.{needs}
 use Rattle.boxed.proofs.pass.settle.Statement.{statement}
@@ -20,14 +20,14 @@ same-length : tie.Need-same-length
 same-length c = search needs
 
 returns : tie.Need-returns
-unfolding progress.settledOf progress.settledNu
+unfolding private.settledOf private.settledNu
 returns c = (rw (sym (c .before .before .before .before .before .is-found .ensures) ∙ c .before .before .before .before .if1 .taken), rw (c .before .before .copy .ensures, sym (c .before .before .before .before .before .is-found .ensures) ∙ c .before .before .before .before .if1 .taken))
 
 unfound-requires : tie.Need-unfound-requires
 unfound-requires c κs = search needs
 
 returns-2 : tie.Need-returns-2
-unfolding progress.settledOf progress.settledNu
+unfolding private.settledOf private.settledNu
 returns-2 c = (rw (c .unfound .ensures, sym (c .before .before .is-found .ensures) ∙ c .before .if1 .left), rw (sym (c .before .before .is-found .ensures) ∙ c .before .if1 .left))
 
 pub settle-spec : {M : Type 1} → statement M

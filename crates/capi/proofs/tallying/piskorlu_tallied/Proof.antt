@@ -49,7 +49,13 @@ same-length-8 : tie.Need-same-length-8
 same-length-8 c = search needs
 
 returns : tie.Need-returns
-returns c = (answered _ _ _ _ _ _ _ _ _ _ _ _ _ _ _ _ _ (sym (c .before .before .before .before .before .before .before .before .before .before .before .before .before .before .before .before .before .before .before .before .before .before .before .before .before .before .before .before .before .before .before .taken .ensures) ∙ c .before .before .before .before .before .before .before .before .before .before .before .before .before .before .before .before .before .before .before .before .before .before .before .before .before .before .before .before .before .before .if1 .taken) (c .before .before .before .before .before .before .before .before .before .before .before .before .before .before .before .before .before .before .before .before .before .before .before .before .before .before .before .read .ensures) (c .before .before .before .before .before .before .before .before .before .before .before .before .before .before .before .before .before .before .before .before .before .before .tallied-solve .ensures .0) (c .before .before .before .before .before .before .before .before .before .before .before .leave .ensures .0) (c .before .before .before .before .before .before .before .before .before .before .before .leave .ensures .1) (c .before .before .before .before .before .before .before .before .before .before .before .leave .ensures .2) (c .before .before .before .before .keep .ensures .0) (c .before .before .before .before .keep .ensures .1) (c .before .before .before .before .keep .ensures .2), c .before .before .before .before .before .before .before .before .before .before .before .before .before .before .before .before .before .before .before .before .before .before .tallied-solve .ensures .1)
+returns c =
+    let taken = c .before .before .before .before .before .before .before .before .before .before .before .before .before .before .before .before .before .before .before .before .before .before .before .before .before .before .before .before .before .before .before .taken .ensures in
+    let leave = c .before .before .before .before .before .before .before .before .before .before .before .leave .ensures in
+    let keep = c .before .before .before .before .keep .ensures in
+    answered _ _ _ _ _ _ _ _ _ _ _ _ _ _ _ _ _ _ _ (sym taken ∙ c .before .before .before .before .before .before .before .before .before .before .before .before .before .before .before .before .before .before .before .before .before .before .before .before .before .before .before .before .before .before .if1 .taken)
+    (c .before .before .before .before .before .before .before .before .before .before .before .before .before .before .before .before .before .before .before .before .before .before .before .before .before .before .before .read .ensures)
+    (c .before .before .before .before .before .before .before .before .before .before .before .before .before .before .before .before .before .before .before .before .before .before .tallied-solve .ensures) (leave .0) (leave .1) (leave .2) (keep .0) (keep .1) (keep .2)
 
 same-length-9 : tie.Need-same-length-9
 same-length-9 c = search needs
@@ -64,7 +70,7 @@ same-length-12 : tie.Need-same-length-12
 same-length-12 c = search needs
 
 returns-2 : tie.Need-returns-2
-returns-2 c = (no-room _ _ _ _ _ _ (sym (c .before .taken .ensures) ∙ c .if1 .left), refl)
+returns-2 c = no-room _ _ _ _ _ _ _ (sym (c .before .taken .ensures) ∙ c .if1 .left)
 
 pub piskorlu-tallied-spec : {M : Type 1} → statement M
 piskorlu-tallied-spec =

@@ -1,4 +1,5 @@
--- What the code tells of a run between two sweeps, and what it leaves. Definitions only.
+-- Words of private contracts: what the code tells of a run between two sweeps, and what it leaves. No promise of a public call stands on them; those are in Solves.antt.
+-- Definitions only.
 use Prim.Native.Nat.{ℕ, _≤_, _<_}
 use mathlib.Core.Path.{_≡_}
 use mathlib.Core.Bool.{Bool, true, false, cond}
@@ -96,8 +97,8 @@ finishedStates p (stands.Still k) s = shown p (s .nu) (s .states) (rows p)
 finishedStates p (stands.Exact k) s = s .states
 finishedStates p (stands.Fight k c n) s = s .states
 
--- a call's answer and what it leaves in the multipliers, the states and the row list are those of a result
-pub record Left (x : Result) (r : BoxAnswer) (nu : List Float) (st q : List ℕ) : Type 0 where
+-- a solve that is not refused ends with this result: its answer, and what it leaves in the multipliers, the states and the row list
+pub record Finished (x : Result) (r : BoxAnswer) (nu : List Float) (st q : List ℕ) : Type 0 where
   pub answer : r ≡ answerOf (x .outcome)
   pub multipliers : nu ≡ x .nu
   pub states : st ≡ x .states
