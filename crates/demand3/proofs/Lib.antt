@@ -12,3 +12,4 @@ pub mod Orders
 pub mod Theorem
 pub mod Instance
 pub mod Called
+pub mod CalledFromC

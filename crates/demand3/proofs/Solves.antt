@@ -363,7 +363,7 @@ reply-modest c (suc k) e = tt
 reply-claims : (c : Call) → (number c ≡ 0 → Upright (c .problem)) → (k : ℕ) → number c ≡ k → Claims c (reply SWEEP_CAP (c .problem) (c .watch) (c .nu) (c .states) (c .listed) k)
 unfolding reply
 reply-claims c fair zero e = solve-claims c e (fair e) (is-accepted c e)
-reply-claims c fair (suc k) e = record { refusedBy = e; nuKept = refl; statesKept = refl; listKept = refl }
+reply-claims c fair (suc k) e = record { refusedBy = e; nuKept = refl; statesKept = refl; listKept = refl; workspaceKept = refl }
 
 pub modest : (c : Call) → Reported Modest (alone c .outcome)
 unfolding alone solveReply

@@ -22,7 +22,7 @@ use Rattle.moves.specs.declared.Blocking.{Blocking}
 use Rattle.moves.specs.declared.Hardest.{Hardest}
 use Rattle.exact_pass.specs.Headings.{Trial, trial, Pass, boundAt, moving, found, failed, fighting, released, release, stopped, fought, wentTo, went, headedBy, headed}
 use Rattle.exact_pass.specs.Passes.{aimed, towardBy, toward, step, stuck, move, moves, limit, passFrom, exactPass}
-use Rattle.demand3.specs.Claims.{firstTried, LastMove}
+use Rattle.demand3.specs.Claims.{firstTried, Heading, heading, stepOf, LastMove}
 use Rattle.demand3.proofs.Rays.{Fights, ray-gathered}
 use Rattle.demand3.proofs.Moved.{moved-at, none-inside}
 
@@ -339,9 +339,8 @@ record Wrote (p : Problem) (first : Trial) (nu : List Float) (st : List ℕ) : T
   before : ℕ
   from : List Float
   tried : moves p first before ≡ moving (trial from st)
-  way : List Float
-  far : Float
-  written : (i : ℕ) → i < rows p → state st i ≡ 0 → at nu i ≡ at from i ⊕ far ⊗ at way i
+  written : (i : ℕ) → i < rows p → state st i ≡ 0
+      → at nu i ≡ at from i ⊕ stepOf p (trial from st) (stuck st (rows p)) ⊗ at (heading p (trial from st) (stuck st (rows p)) .direction) i
 
 release-passing : {base : List Float} (p : Problem) (first t : Trial) → Tries p base t → (w : Wrote p first (t .nu) (t .states)) → moves p first (suc (w .before)) ≡ release p t
     → Passing p base first (release p t)
@@ -353,7 +352,7 @@ release-passing {base} p first t h w came = go (pushed p (t .states) (t .nu) (ro
         → Passing p base first (cond (eqb (b .row) (rows p)) (found t) (moving (trial (t .nu) (set (t .states) (b .row) 0))))
     go b (nothing e d f) q =
         let last : LastMove p first (t .nu) (t .states)
-        = record { before = w .before; from = w .from; tried = w .tried; came = rw (eq-eqb (b .row) (rows p) e) at q; way = w .way; far = w .far; written = w .written } in
+        = record { before = w .before; from = w .from; tried = w .tried; came = rw (eq-eqb (b .row) (rows p) e) at q; written = w .written } in
         rw (eq-eqb (b .row) (rows p) e) (h, f, last)
     go b (this c w) q =
         rw (ne-eqb (b .row) (rows p) (λ e. omega arith))
@@ -395,42 +394,63 @@ record Stood (p : Problem) (first t : Trial) (l : List ℕ) : Type 0 where
 
 -- the rows inside, moved
 abbrev moved-wrote : {base : List Float} (p : Problem) (first t : Trial) (l : List ℕ) (y : List Float) (alpha : Float) → Tries p base t → Stood p first t l
-    → Wrote p first (moved l y alpha (t .nu) (length l)) (t .states)
-moved-wrote p first t l y alpha h e =
+    → y ≡ heading p t l .direction → alpha ≡ stepOf p t l → Wrote p first (moved l y alpha (t .nu) (length l)) (t .states)
+moved-wrote p first t l y alpha h e d a =
+    let list = stuck (t .states) (rows p) in
+    let d′ : y ≡ heading p t list .direction = d ∙ ap (λ (k : List ℕ). heading p t k .direction) (e .listed) in
+    let a′ : alpha ≡ stepOf p t list = a ∙ ap (stepOf p t) (e .listed) in
     record {
       before = e .after;
       from = t .nu;
       tried = e .tried;
-      way = y;
-      far = alpha;
-      written = λ i b z. rw (e .listed) (moved-at (t .states) (rows p) y alpha (t .nu) (h .holds .long) i b z);
+      written = λ i b z.
+          rw (e .listed) (moved-at (t .states) (rows p) y alpha (t .nu) (h .holds .long) i b z)
+          ∙ ap (λ (f : Float). at (t .nu) i ⊕ f ⊗ at y i) a′
+          ∙ ap (λ (v : List Float). at (t .nu) i ⊕ stepOf p t list ⊗ at v i) d′;
     }
 
+-- the step along a move's heading
+step-is : (p : Problem) (t : Trial) (l : List ℕ) (y : List Float) (alpha : Float) → y ≡ heading p t l .direction → alpha ≡ heading p t l .end
+    → room p l (t .nu) y alpha (length l) .alpha ≡ stepOf p t l
+unfolding stepOf
+step-is p t l y alpha d m = ap (λ (v : List Float). room p l (t .nu) v alpha (length l) .alpha) d
+    ∙ ap (λ (a : Float). room p l (t .nu) (heading p t l .direction) a (length l) .alpha) m
+
+-- the heading that a solution z of the system and its residual r show
+abbrev headingBy : Problem → Trial → List ℕ → List Float → List Float → List Float → Heading
+headingBy p t l z r y =
+    cond (inconsistent (p .w) (rows p) (p .scale) l r (length l)) (record { direction = y; end = ∞ })
+    (record { direction = toTarget (p .scale) l z (t .nu) y (length l); end = 1ᶠ })
+
 went-passing : {base : List Float} (p : Problem) (first t : Trial) (l : List ℕ) (y : List Float) (alpha : Float) → Tries p base t → (here : Stood p first t l) → Insides p (t .states) l
+    → y ≡ heading p t l .direction → alpha ≡ heading p t l .end
     → moves p first (suc (here .after)) ≡ went p t l y alpha → Passing p base first (went p t l y alpha)
 unfolding went wentTo
-went-passing {base} p first t l y alpha h here s came = go (room p l (t .nu) y alpha (length l)) (room-stops p (t .states) l (t .nu) y alpha s) came
+went-passing {base} p first t l y alpha h here s d m came = go (room p l (t .nu) y alpha (length l)) (step-is p t l y alpha d m) (room-stops p (t .states) l (t .nu) y alpha s) came
   where
-    go : (r : Blocking) → Stops p (t .states) r
+    go : (r : Blocking) → r .alpha ≡ stepOf p t l → Stops p (t .states) r
         → moves p first (suc (here .after)) ≡ cond (isFinite (r .alpha)) (stopped p (trial (moved l y (r .alpha) (t .nu) (length l)) (t .states)) r) (fought t (ray p (t .states) y))
         → Passing p base first (cond (isFinite (r .alpha)) (stopped p (trial (moved l y (r .alpha) (t .nu) (length l)) (t .states)) r) (fought t (ray p (t .states) y)))
-    go r k q = pick (isFinite (r .alpha)) q
+    go r a k q = pick (isFinite (r .alpha)) q
       where
         pick : (b : Bool) → moves p first (suc (here .after)) ≡ cond b (stopped p (trial (moved l y (r .alpha) (t .nu) (length l)) (t .states)) r) (fought t (ray p (t .states) y))
             → Passing p base first (cond b (stopped p (trial (moved l y (r .alpha) (t .nu) (length l)) (t .states)) r) (fought t (ray p (t .states) y)))
         pick true c =
             stopped-passing p first (trial (moved l y (r .alpha) (t .nu) (length l)) (t .states)) r
-            (record { marks = h .marks; holds = moved-holds p (t .states) l y (r .alpha) (t .nu) s (h .holds) }) (moved-wrote p first t l y (r .alpha) h here) k c
+            (record { marks = h .marks; holds = moved-holds p (t .states) l y (r .alpha) (t .nu) s (h .holds) }) (moved-wrote p first t l y (r .alpha) h here d a) k c
         pick false c = fought-passing p first t (ray p (t .states) y) h (ray-gathered p (t .states) y)
 
+-- the move's heading is h; which of two it is, the system decides
 headed-passing : {base : List Float} (p : Problem) (first t : Trial) (l : List ℕ) (z r y : List Float) → Tries p base t → (here : Stood p first t l) → Insides p (t .states) l
+    → heading p t l ≡ headingBy p t l z r y
     → moves p first (suc (here .after)) ≡ headedBy p t l z r y → Passing p base first (headedBy p t l z r y)
 unfolding headedBy
-headed-passing {base} p first t l z r y h here s came = pick (inconsistent (p .w) (rows p) (p .scale) l r (length l)) (toTarget (p .scale) l z (t .nu) y (length l)) came
+headed-passing {base} p first t l z r y h here s head came = pick (inconsistent (p .w) (rows p) (p .scale) l r (length l)) (toTarget (p .scale) l z (t .nu) y (length l)) head came
   where
-    pick : (b : Bool) (x : List Float) → moves p first (suc (here .after)) ≡ cond b (went p t l y ∞) (went p t l x 1ᶠ) → Passing p base first (cond b (went p t l y ∞) (went p t l x 1ᶠ))
-    pick true x c = went-passing p first t l y ∞ h here s c
-    pick false x c = went-passing p first t l x 1ᶠ h here s c
+    pick : (b : Bool) (x : List Float) → heading p t l ≡ cond b (record { direction = y; end = ∞ }) (record { direction = x; end = 1ᶠ })
+        → moves p first (suc (here .after)) ≡ cond b (went p t l y ∞) (went p t l x 1ᶠ) → Passing p base first (cond b (went p t l y ∞) (went p t l x 1ᶠ))
+    pick true x e c = went-passing p first t l y ∞ h here s (sym (ap (λ (g : Heading). g .direction) e)) (sym (ap (λ (g : Heading). g .end) e)) c
+    pick false x e c = went-passing p first t l x 1ᶠ h here s (sym (ap (λ (g : Heading). g .direction) e)) (sym (ap (λ (g : Heading). g .end) e)) c
 
 -- where no row is inside, none is left to write
 abbrev none-wrote : (p : Problem) (first t : Trial) → Stood p first t [] → Wrote p first (t .nu) (t .states)
@@ -439,16 +459,14 @@ none-wrote p first t e =
       before = e .after;
       from = t .nu;
       tried = e .tried;
-      way = t .nu;
-      far = 0ᶠ;
       written = λ i b z. absurd (none-inside (t .states) (rows p) i (sym (e .listed)) b z);
     }
 
 step-passing : {base : List Float} (p : Problem) (first t : Trial) (l : List ℕ) → Tries p base t → (here : Stood p first t l) → Insides p (t .states) l
     → moves p first (suc (here .after)) ≡ step p t l → Passing p base first (step p t l)
-unfolding step toward towardBy aimed headed
+unfolding step toward towardBy aimed headed heading
 step-passing p first t [] h here s came = release-passing p first t h (none-wrote p first t here) came
-step-passing p first t (a ∷ l) h here s came = headed-passing p first t (a ∷ l) _ _ _ h here s came
+step-passing p first t (a ∷ l) h here s came = headed-passing p first t (a ∷ l) _ _ _ h here s refl came
 
 move-passing : (p : Problem) (base : List Float) (first : Trial) (k : ℕ) (x : Pass) → moves p first k ≡ x → moves p first (suc k) ≡ move p k x → Passing p base first x
     → Passing p base first (move p k x)

@@ -5,14 +5,15 @@ use mathlib.Core.Path.{_≡_}
 use mathlib.Core.Bool.{Bool, true, false, cond, _&&_, _||_}
 use mathlib.Core.List.{List, [], _∷_}
 use lib.Dec.{leb, ltb}
-use lib.ListN.{length, getD, take}
+use lib.ListN.{length, getD, take, replicate}
 use lib.Ieee.{Float, nan, inf, fin, lt, le, eq, ne}
-use Rattle.floats.specs.Ops.{_⊕_, _⊖_, _⊗_, _⊘_, at, Fits, 0ᶠ, 1e6, 1e-9, ∞, −∞}
+use Rattle.floats.specs.Ops.{_⊕_, _⊖_, _⊗_, _⊘_, at, Fits, 0ᶠ, 1ᶠ, 1e6, 1e-9, ∞, −∞}
 use Rattle.sweep.specs.Rows.{Problem, rows, swept, grown, begun, marked, shown}
-use Rattle.moves.specs.Moves.{held}
+use Rattle.least_norm.specs.LeastNorm.{leastNorm}
+use Rattle.moves.specs.Moves.{held, side, matrix, left, inconsistent, along, toTarget, room}
 use Rattle.exact_pass.specs.Headings.{Trial, trial, moving, found}
-use Rattle.exact_pass.specs.Passes.{moves, exactPass}
-use Rattle.boxed.specs.Solves.{Stand, Run, going, ended, Watch, checkpoint, run, begin, SWEEP_CAP, Outcome, refused, solved, infeasible, Result}
+use Rattle.exact_pass.specs.Passes.{stuck, moves, exactPass}
+use Rattle.boxed.specs.Solves.{Stand, Run, going, ended, Watch, checkpoint, run, begin, SWEEP_CAP, Outcome, refused, solved, infeasible, Result, used}
 use Rattle.boxed.specs.declared.BoxReport.{BoxReport}
 use Rattle.boxed.specs.declared.Cause.{Cause}
 use Rattle.boxed.specs.declared.Cause.the-variants as cause
@@ -124,15 +125,36 @@ bySweeps c k =
 abbrev pub firstTried : Problem → List ℕ → List Float → Trial
 firstTried p st nu = trial (held p (shown p nu st (rows p)) nu (rows p)) (shown p nu st (rows p))
 
--- Its last move, from what it had tried after the moves before to what it found: every row inside (state 0) was at `from`, and was written `far` along its way.
+-- A move from t of the rows l inside: the least-norm solution z of their system is the target, and r is what z leaves of the system. Where that is too much, the direction is
+-- along r, without an end; where it is not, it is to the target, which is at 1.
+pub record Heading : Type 0 where
+  pub direction : List Float
+  pub end : Float
+
+unfoldable pub heading : Problem → Trial → List ℕ → Heading
+heading p t l =
+    let k = length l in
+    let rhs = side (p .w) (p .free) (t .states) (t .nu) l k in
+    let z = leastNorm k k (matrix (p .w) (rows p) (p .scale) l k) rhs .x in
+    let r = left (p .w) (rows p) (p .scale) l rhs z k in
+    let y = along l r (replicate (rows p) 0ᶠ) k in
+    cond (inconsistent (p .w) (rows p) (p .scale) l r k)
+    (record { direction = y; end = ∞ })
+    (record { direction = toTarget (p .scale) l z (t .nu) y k; end = 1ᶠ })
+
+-- the step: how far along it the boxes let the rows go
+unfoldable pub stepOf : Problem → Trial → List ℕ → Float
+stepOf p t l = room p l (t .nu) (heading p t l .direction) (heading p t l .end) (length l) .alpha
+
+-- The pass's last move, from what it had tried after the moves before to what it found: every row inside (state 0) was at `from`, and the move wrote it, its step along its
+-- direction.
 pub record LastMove (p : Problem) (first : Trial) (nu : List Float) (st : List ℕ) : Type 0 where
   pub before : ℕ
   pub from : List Float
   pub tried : moves p first before ≡ moving (trial from st)
   pub came : moves p first (suc before) ≡ found (trial nu st)
-  pub way : List Float
-  pub far : Float
-  pub written : (i : ℕ) → i < rows p → getD st i 0 ≡ 0 → at nu i ≡ at from i ⊕ far ⊗ at way i
+  pub written : (i : ℕ) → i < rows p → getD st i 0 ≡ 0
+      → at nu i ≡ at from i ⊕ stepOf p (trial from st) (stuck st (rows p)) ⊗ at (heading p (trial from st) (stuck st (rows p)) .direction) i
 
 -- An answer that the pass of sweep k found, from the multipliers that the sweeps left: it has written every row that acts.
 pub record FoundByPass (c : Call) (a : Result) (k : ℕ) : Type 0 where
@@ -211,12 +233,13 @@ grewBy cause.Sweep = false
 
 -- ---- a solve and its answer
 
--- a refused solve has the number that it has by itself, and its buffers hold what they were lent with
+-- a refused solve has the number that it has by itself, and its buffers hold what they were lent with: no value of the workspace is free
 pub record Refusal (c : Call) (a : Result) (k : ℕ) : Type 0 where
   pub refusedBy : number c ≡ k
   pub nuKept : a .nu ≡ c .nu
   pub statesKept : a .states ≡ c .states
   pub listKept : a .listed ≡ c .listed
+  pub workspaceKept : used (a .outcome) ≡ 0
 
 abbrev pub ClaimsOf : Call → Result → Outcome → Type 0
 ClaimsOf c a (refused k) = Refusal c a k

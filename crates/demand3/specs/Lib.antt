@@ -1,3 +1,4 @@
 pub mod Claims
 pub mod Demand
 pub mod Called
+pub mod CalledFromC
