@@ -10,6 +10,7 @@
 use std::env;
 use std::fs;
 use std::path::{Path, PathBuf};
+use std::process::Command;
 
 /// The original's modules that the comparison includes.
 const MODULES: [&str; 3] = ["boxed", "dense", "report"];
@@ -44,22 +45,57 @@ fn variable(name: &str) -> String {
 /// Writes OUT_DIR/original.rs, which names the original's files by path.
 fn include_original(root: &Path, out: &Path) {
     println!("cargo::rerun-if-env-changed=PISKORLU_ORIGINAL");
-    let folder = match env::var("PISKORLU_ORIGINAL") {
-        Ok(named) => PathBuf::from(named),
-        Err(_) => root.join("../shared/docs/src"),
-    };
+    let folders = original_folders(root);
+    let named: Vec<String> = folders.iter().map(|f| f.display().to_string()).collect();
+    println!("cargo::rustc-env=COMPARE_LOOKED_IN={}", named.join(", "));
+    for folder in folders {
+        if let Some(text) = modules_of(&folder) {
+            fs::write(out.join("original.rs"), text).expect("OUT_DIR can be written");
+            println!("cargo::rustc-cfg=original");
+            return;
+        }
+    }
+}
+
+/// Where the original's files may be: in the folder that `PISKORLU_ORIGINAL`
+/// names, or else in `shared/docs/src` beside the repository or a folder above
+/// it, or beside the repository that it was cloned from.
+fn original_folders(root: &Path) -> Vec<PathBuf> {
+    if let Ok(named) = env::var("PISKORLU_ORIGINAL") {
+        return vec![PathBuf::from(named)];
+    }
+    let mut folders = Vec::new();
+    for repository in [root.canonicalize().ok(), cloned_from(root)] {
+        let above = repository.iter().flat_map(|r| r.ancestors().skip(1));
+        folders.extend(above.map(|f| f.join("shared/docs/src")));
+    }
+    folders
+}
+
+/// The repository that this one was cloned from, where that is a folder.
+fn cloned_from(root: &Path) -> Option<PathBuf> {
+    let asked = Command::new("git")
+        .arg("-C")
+        .arg(root)
+        .args(["config", "--get", "remote.origin.url"])
+        .output()
+        .ok()?;
+    let url = String::from_utf8(asked.stdout).ok()?;
+    let path = url.trim();
+    let path = path.strip_prefix("file://").unwrap_or(path);
+    Path::new(path).canonicalize().ok()
+}
+
+/// The lines that include the three modules, where the folder has them all.
+fn modules_of(folder: &Path) -> Option<String> {
     let solve = folder.join("crates/pa-core/src/solve");
     let mut text = String::new();
     for module in MODULES {
-        let file = solve.join(format!("{module}.rs"));
+        let file = solve.join(format!("{module}.rs")).canonicalize().ok()?;
         println!("cargo::rerun-if-changed={}", file.display());
-        let Ok(file) = file.canonicalize() else {
-            return;
-        };
         text.push_str(&format!("#[path = {file:?}]\npub mod {module};\n"));
     }
-    fs::write(out.join("original.rs"), text).expect("OUT_DIR can be written");
-    println!("cargo::rustc-cfg=original");
+    Some(text)
 }
 
 /// Links the static library if it is there, and sets a cfg for each call in it.

@@ -29,7 +29,9 @@ use std::time::Instant;
 
 const HELP: &str = "\
 compare COMMAND
-  short                   the gate's comparison; last line 'compare: N passed, M failed'
+  short [--without-original]
+                          the gate's comparison; last line 'compare: N passed, M failed'. It fails
+                          where the original's files are not at hand, unless that is waived
   long [CASES]            solves by default 10,000,000, and a third as many of each other call
   sqrt [COUNT]            the square root on 100,000,000 patterns, and its time
   mutations [EACH [RULE]] each error (or one) put into the reference: is it caught?
@@ -113,13 +115,15 @@ fn main() -> ExitCode {
     #[cfg(original)]
     original::expect_panics();
     if !cfg!(original) {
-        println!("compare: the original's files are not at hand (PISKORLU_ORIGINAL): nothing is held against them");
+        println!("compare: the original's files are not at hand: nothing is held against them");
+        println!("  looked for in: {}", env!("COMPARE_LOOKED_IN"));
     }
     if port::SQRT.is_none() && port::LEAST_NORM.is_none() {
         println!("compare: no static library (rt staticlib capi, or PISKORLU_STATICLIB): the port is not compared");
     }
     match words.as_slice() {
-        ["short"] => short(),
+        ["short"] => short(true),
+        ["short", "--without-original"] => short(false),
         ["long"] => long(10_000_000),
         ["long", cases] => number(cases).map_or_else(usage, long),
         ["sqrt"] => sqrt(100_000_000),
@@ -174,9 +178,13 @@ fn outcome(result: Result<(), String>) -> ExitCode {
     }
 }
 
-/// The gate's comparison: every call on fixed cases.
-fn short() -> ExitCode {
+/// The gate's comparison: every call on fixed cases. It fails without the
+/// original, unless the caller does not ask for it.
+fn short(with_original: bool) -> ExitCode {
     let mut checks = Checks::default();
+    if with_original {
+        checks.note(cfg!(original), "the original's files are at hand");
+    }
     let start = Instant::now();
     square_root(&mut checks, 5_000_000);
     checks.totals::<LeastNorm>(&run::<LeastNorm>(1, 20_000), false);

@@ -70,7 +70,7 @@ fn spoil_problem(rng: &mut Rng, p: &mut Owned) {
             p.motion = vec![0.25; near(rng, coords * n)];
         }
         _ => {
-            let whole = if n == 0 { 2_048 } else { 2_048 / n * n };
+            let whole = 2_048 - 2_048usize.checked_rem(n).unwrap_or(0);
             let past = whole + n.max(1) * 3;
             p.motion = vec![0.25; rng.pick(&[2_047, 2_048, 2_049, whole, whole + n, past])];
         }

@@ -6,6 +6,11 @@
 //! Every part takes a [`Rule`], the single error put in on purpose. In
 //! ordinary use it is [`Rule::None`]; the command `mutations` puts in each
 //! error in turn and counts the cases that show it.
+//!
+//! Loops go by index, and ends of passes and solves are plain enums, because
+//! that is how document 01 reads.
+
+#![allow(clippy::needless_range_loop, clippy::large_enum_variant)]
 
 pub mod bend;
 pub mod float;

@@ -133,7 +133,7 @@ impl Problem<'_> {
     fn motion_uneven(&self, rule: Rule) -> bool {
         match self.n() {
             0 => rule.is(Rule::NineAtNoRows) && !self.motion.is_empty(),
-            n => self.motion.len() % n != 0,
+            n => !self.motion.len().is_multiple_of(n),
         }
     }
 
