@@ -85,8 +85,14 @@ uint32_t piskorlu_least_norm(double *a, size_t a_len, size_t m, size_t n,
                              uint32_t *rank, size_t rank_len);
 
 /*
- * The pads' loads: multipliers nu, each within its box, with W nu + u_free the
- * motion at each row; n is u_free_len.
+ * The pads' loads: multipliers nu for which W nu + u_free is the motion at each
+ * row; n is u_free_len. A row inside its box has no motion, one at lo none
+ * below 0, and one at hi none above 0.
+ *
+ * A multiplier of an answer that is not exact is NaN or at least lo and at most
+ * hi, where lo is at most hi. In an exact answer a row at a bound has that bound
+ * as its multiplier, and one inside may lie past a bound by what the last step
+ * was rounded. Where lo is above hi nothing is said of its row.
  *
  * w          W by rows, n rows of n values. A row whose diagonal is NaN or not
  *            above 0 is Idle: it starts at 0 within its box and stays.
