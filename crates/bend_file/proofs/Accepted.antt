@@ -29,11 +29,11 @@ module _ (f : List ℕ) (end : ℕ) where
   unfolding sized
   sizes-back h k = rw (le-leb 16 end h, le-leb end 65536 k)
 
-  counts : counted f end ≡ true → count f end ≡ wanted (rows f end) (coords f end)
+  pub counts : counted f end ≡ true → count f end ≡ wanted (rows f end) (coords f end)
   unfolding counted
   counts e = eqb-true (count f end) (wanted (rows f end) (coords f end)) e
 
-  counts-back : count f end ≡ wanted (rows f end) (coords f end) → counted f end ≡ true
+  pub counts-back : count f end ≡ wanted (rows f end) (coords f end) → counted f end ≡ true
   unfolding counted
   counts-back h = eq-eqb (count f end) (wanted (rows f end) (coords f end)) h
 
@@ -45,7 +45,7 @@ module _ (f : List ℕ) (end : ℕ) where
   unfolding reaching
   reaches-back h = eq-eqb (start f end + 8 * count f end + 16) end h
 
-small-back : (n c : ℕ) → n ≤ 32 → c * n ≤ 2048 → small n c ≡ true
+pub small-back : (n c : ℕ) → n ≤ 32 → c * n ≤ 2048 → small n c ≡ true
 unfolding small
 small-back n c h k = rw (le-leb n 32 h, le-leb (c * n) 2048 k)
 
@@ -58,7 +58,7 @@ pub record Kept (f : List ℕ) : Type 0 where
   pub full : count f (length f) ≡ wanted (rows f (length f)) (coords f (length f))
   pub reach : start f (length f) + 8 * count f (length f) + 16 ≡ length f
 
-picked : (b : Bool) (x k : ℕ) → cond (not b) (suc k) x ≡ 0 → (b ≡ true) × (x ≡ 0)
+pub picked : (b : Bool) (x k : ℕ) → cond (not b) (suc k) x ≡ 0 → (b ≡ true) × (x ≡ 0)
 picked true x k e = (refl, e)
 picked false x k e = absurd (omega (arith, e))
 
@@ -141,31 +141,31 @@ four f k h =
 abbrev mark : List ℕ
 mark = 0x42 ∷ 0x45 ∷ 0x4E ∷ 0x44 ∷ []
 
-module _ (f : List ℕ) (h : 4 ≤ length f) where
-  last-four : take 4 (drop (length f - 4) f) ≡ byte f (length f - 4) ∷ byte f (length f - 3) ∷ byte f (length f - 2) ∷ byte f (length f - 1) ∷ []
+module _ (f : List ℕ) (end : ℕ) (h : 4 ≤ end) (within : end ≤ length f) where
+  last-four : take 4 (drop (end - 4) f) ≡ byte f (end - 4) ∷ byte f (end - 3) ∷ byte f (end - 2) ∷ byte f (end - 1) ∷ []
   last-four =
-      let e1 : length f - 4 + 1 ≡ length f - 3 = omega arith in
-      let e2 : length f - 4 + 2 ≡ length f - 2 = omega arith in
-      let e3 : length f - 4 + 3 ≡ length f - 1 = omega arith in
-      four f (length f - 4) (omega arith) ∙ rw (e1, e2, e3)
+      let e1 : end - 4 + 1 ≡ end - 3 = omega arith in
+      let e2 : end - 4 + 2 ≡ end - 2 = omega arith in
+      let e3 : end - 4 + 3 ≡ end - 1 = omega arith in
+      four f (end - 4) (omega arith) ∙ rw (e1, e2, e3)
 
-  mark-is : marked f (length f) ≡ true → take 4 (drop (length f - 4) f) ≡ mark
+  pub mark-is : marked f end ≡ true → take 4 (drop (end - 4) f) ≡ mark
   unfolding marked
   mark-is e =
-      let s3 = both-true _ (eqb (byte f (length f - 1)) 0x44) e in
-      let s2 = both-true _ (eqb (byte f (length f - 2)) 0x4E) (s3 .0) in
-      let s1 = both-true (eqb (byte f (length f - 4)) 0x42) (eqb (byte f (length f - 3)) 0x45) (s2 .0) in
+      let s3 = both-true _ (eqb (byte f (end - 1)) 0x44) e in
+      let s2 = both-true _ (eqb (byte f (end - 2)) 0x4E) (s3 .0) in
+      let s1 = both-true (eqb (byte f (end - 4)) 0x42) (eqb (byte f (end - 3)) 0x45) (s2 .0) in
       last-four
-      ∙ rw (eqb-true (byte f (length f - 4)) 0x42 (s1 .0), eqb-true (byte f (length f - 3)) 0x45 (s1 .1), eqb-true (byte f (length f - 2)) 0x4E (s2 .1), eqb-true (byte f (length f - 1)) 0x44 (s3 .1))
+      ∙ rw (eqb-true (byte f (end - 4)) 0x42 (s1 .0), eqb-true (byte f (end - 3)) 0x45 (s1 .1), eqb-true (byte f (end - 2)) 0x4E (s2 .1), eqb-true (byte f (end - 1)) 0x44 (s3 .1))
 
-  mark-back : take 4 (drop (length f - 4) f) ≡ mark → marked f (length f) ≡ true
+  pub mark-back : take 4 (drop (end - 4) f) ≡ mark → marked f end ≡ true
   unfolding marked
   mark-back e =
-      let g : byte f (length f - 4) ∷ byte f (length f - 3) ∷ byte f (length f - 2) ∷ byte f (length f - 1) ∷ [] ≡ mark = sym last-four ∙ e in
-      let b0 : byte f (length f - 4) ≡ 0x42 = cc in
-      let b1 : byte f (length f - 3) ≡ 0x45 = cc in
-      let b2 : byte f (length f - 2) ≡ 0x4E = cc in
-      let b3 : byte f (length f - 1) ≡ 0x44 = cc in
+      let g : byte f (end - 4) ∷ byte f (end - 3) ∷ byte f (end - 2) ∷ byte f (end - 1) ∷ [] ≡ mark = sym last-four ∙ e in
+      let b0 : byte f (end - 4) ≡ 0x42 = cc in
+      let b1 : byte f (end - 3) ≡ 0x45 = cc in
+      let b2 : byte f (end - 2) ≡ 0x4E = cc in
+      let b3 : byte f (end - 1) ≡ 0x44 = cc in
       rw (b0, b1, b2, b3)
 
 -- ---- both ways
@@ -184,7 +184,7 @@ module _ (f : List ℕ) where
         at-rows = refl;
         at-coords = refl;
         at-count = refl;
-        mark = mark-is f (omega (arith, k .least)) (k .mark);
+        mark = mark-is f (length f) (omega (arith, k .least)) (omega arith) (k .mark);
         few-rows = k .fair .few;
         few-moving = k .fair .moving;
         counted = k .full;
@@ -206,7 +206,7 @@ module _ (f : List ℕ) where
       let q : Kept f = record {
         least = b .least;
         most = b .most;
-        mark = mark-back f (omega (arith, b .least)) (b .mark);
+        mark = mark-back f (length f) (omega (arith, b .least)) (omega arith) (b .mark);
         fair = rw (b .at-rows, b .at-coords) (record { few = b .few-rows; square = mul-le-mul (b .few-rows) (b .few-rows); moving = b .few-moving });
         full = rw (b .at-rows, b .at-coords, b .at-count) (b .counted);
         reach = rw (b .at-start, b .at-count) (b .reaching);

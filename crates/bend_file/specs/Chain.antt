@@ -1,14 +1,18 @@
 -- Document 02's chained bend file: the rules of one step, the walk from step to step, and the steps that a file holds. Definitions only. A step is the bytes from
 -- the linked offset to `end`, where its trailer ends; the fields and the rules 2, 3 and 4's count rule are those of Trailer.antt.
-use Prim.Native.Nat.{ℕ, zero, suc, _+_, _-_, _*_}
+use Prim.Native.Nat.{ℕ, zero, suc, _+_, _-_, _*_, _≤_}
+use mathlib.Core.Path.{_≡_}
 use mathlib.Core.Bool.{Bool, not, cond, _&&_}
 use mathlib.Core.List.{List, [], _∷_, _++_, map}
 use lib.Dec.{leb, eqb}
-use lib.ListN.{length}
+use lib.ListN.{length, replicate}
 use Rattle.loops.specs.Loops.{turns}
-use Rattle.bend_file.specs.Little.{u32}
+use Rattle.bend_file.specs.Little.{u32, over}
 use Rattle.bend_file.specs.Trailer.{start, rows, coords, count, marked, small, counted}
-use Rattle.bend_file.specs.Read.{Problem, problem}
+use Rattle.bend_file.specs.Read.{Problem, problem, accepted, Lent, filled}
+use Rattle.bend_file.specs.declared.chain.Chain.{Chain}
+use Rattle.bend_file.specs.declared.chain.StepReading.{StepReading}
+use Rattle.bend_file.specs.declared.chain.StepReading.the-variants as read
 
 -- what a whole file gets: a number and nothing else, or A
 pub data Verdict (A : Type 0) : Type 0 where
@@ -120,3 +124,40 @@ unfoldable pub pick : List Problem → ℕ → Step
 pick [] k = past
 pick (p ∷ l) zero = found p
 pick (p ∷ l) (suc k) = pick l k
+
+-- ---- what the calls give back
+
+-- `steps`: where the steps end, and 0 past them; 0 everywhere where the file is refused
+abbrev pub told : Verdict (List ℕ) → Chain
+told (refused k) = record { number = k; count = 0; ends = replicate 40 0 }
+told (taken s) = record { number = 0; count = length s; ends = over s (replicate 40 0) }
+
+-- 10: the buffers' lengths are those of the largest step, or more
+unfoldable pub wide : ℕ → ℕ → ℕ → ℕ → ℕ → ℕ → ℕ → Bool
+wide w uFree lo hi scale nu motion = leb 1024 w && leb 32 uFree && leb 32 lo && leb 32 hi && leb 32 scale && leb 32 nu && leb 2048 motion
+
+abbrev pub roomy : Lent → Bool
+roomy b = wide (length (b .w)) (length (b .uFree)) (length (b .lo)) (length (b .hi)) (length (b .scale)) (length (b .nu)) (length (b .motion))
+
+unfoldable pub picked : Verdict (List Problem) → ℕ → Verdict Step
+picked (refused n) k = refused n
+picked (taken l) k = taken (pick l k)
+
+-- `read_step`: 10 before anything of the file
+unfoldable pub stepAnswer : List ℕ → ℕ → Lent → Verdict Step
+stepAnswer f k b = cond (roomy b) (picked (pull f) k) (refused 10)
+
+abbrev pub stepReading : Verdict Step → StepReading
+stepReading (refused n) = read.Refused n
+stepReading (taken past) = read.Past
+stepReading (taken (found p)) = read.Problem (p .rows) (p .coords) (p .tolerance)
+
+-- the buffers afterwards: unchanged unless there is such a step
+abbrev pub stepFilled : Verdict Step → Lent → Lent
+stepFilled (refused n) b = b
+stepFilled (taken past) b = b
+stepFilled (taken (found p)) b = filled (accepted p) b
+
+pub record ReadsStep (f : List ℕ) (k : ℕ) (r : StepReading) (before after : Lent) : Type 0 where
+  pub result : r ≡ stepReading (stepAnswer f k before)
+  pub buffers : after ≡ stepFilled (stepAnswer f k before) before

@@ -14,48 +14,48 @@ use Rattle.bend_file.specs.Read.{Problem, problem, Answer, refused, acce
 -- ---- files, written out
 
 -- a number in that many bytes
-two : ℕ → List ℕ
+unfoldable pub two : ℕ → List ℕ
 two x = x % 256 ∷ x / 256 % 256 ∷ []
 
-four : ℕ → List ℕ
+unfoldable pub four : ℕ → List ℕ
 four x = two (x % 65536) ++ two (x / 65536)
 
-eight : ℕ → List ℕ
+unfoldable pub eight : ℕ → List ℕ
 eight x = four (x % 4294967296) ++ four (x / 4294967296)
 
-patterns : List ℕ → List ℕ
+unfoldable pub patterns : List ℕ → List ℕ
 patterns [] = []
 patterns (b ∷ l) = eight b ++ patterns l
 
-mark : List ℕ
+unfoldable pub mark : List ℕ
 mark = 0x42 ∷ 0x45 ∷ 0x4E ∷ 0x44 ∷ []
 
 -- start, rows, coords, count
-trailer : ℕ → ℕ → ℕ → ℕ → List ℕ
+unfoldable pub trailer : ℕ → ℕ → ℕ → ℕ → List ℕ
 trailer s n c k = four s ++ two n ++ two c ++ four k ++ mark
 
 -- ---- answers compared, every NaN as one
 
-bits : List Float → List ℕ → Bool
+unfoldable pub bits : List Float → List ℕ → Bool
 bits [] [] = true
 bits [] (b ∷ m) = false
 bits (x ∷ l) [] = false
 bits (x ∷ l) (b ∷ m) = eqb (toBits binary64 x) b && bits l m
 
 -- a problem by its rows, its coordinates and the bits of its values
-record Bits : Type 0 where
-  n : ℕ
-  c : ℕ
-  w : List ℕ
-  uFree : List ℕ
-  lo : List ℕ
-  hi : List ℕ
-  scale : List ℕ
-  nu : List ℕ
-  motion : List ℕ
-  tolerance : ℕ
+pub record Bits : Type 0 where
+  pub n : ℕ
+  pub c : ℕ
+  pub w : List ℕ
+  pub uFree : List ℕ
+  pub lo : List ℕ
+  pub hi : List ℕ
+  pub scale : List ℕ
+  pub nu : List ℕ
+  pub motion : List ℕ
+  pub tolerance : ℕ
 
-same : Problem → Bits → Bool
+unfoldable pub same : Problem → Bits → Bool
 same p b =
     eqb (p .rows) (b .n)
     && eqb (p .coords) (b .c)
@@ -89,7 +89,7 @@ every (c ∷ l) = passes c && every l
 
 -- ---- values
 
-abbrev 1ᵇ : ℕ
+abbrev pub 1ᵇ : ℕ
 1ᵇ = 0x3FF0000000000000
 
 abbrev 2ᵇ : ℕ
@@ -101,14 +101,14 @@ abbrev −4ᵇ : ℕ
 abbrev ∞ᵇ : ℕ
 ∞ᵇ = 0x7FF0000000000000
 
-abbrev NaN : ℕ
+abbrev pub NaN : ℕ
 NaN = 0x7FF8000000000000
 
 -- document 01's: n 1, W 2, u_free -4, lo 0, hi +∞, scale 1, nu 0, motion 1, tolerance 0
-example : List ℕ
+unfoldable pub example : List ℕ
 example = patterns (2ᵇ ∷ −4ᵇ ∷ 0 ∷ ∞ᵇ ∷ 1ᵇ ∷ 0 ∷ 1ᵇ ∷ 0 ∷ [])
 
-exampleBits : Bits
+unfoldable pub exampleBits : Bits
 exampleBits = record { n = 1; c = 1; w = 2ᵇ ∷ []; uFree = −4ᵇ ∷ []; lo = 0 ∷ []; hi = ∞ᵇ ∷ []; scale = 1ᵇ ∷ []; nu = 0 ∷ []; motion = 1ᵇ ∷ []; tolerance = 0 }
 
 -- two rows and two coordinates, every value another pattern: which value stands where
@@ -128,10 +128,10 @@ ramp =
     }
 
 -- no rows: the tolerance alone
-none : ℕ → ℕ → Bits
+unfoldable pub none : ℕ → ℕ → Bits
 none c t = record { n = 0; c = c; w = []; uFree = []; lo = []; hi = []; scale = []; nu = []; motion = []; tolerance = t }
 
-free : ℕ → List ℕ
+unfoldable pub free : ℕ → List ℕ
 free k = replicate k 0xFF
 
 cases : List Case

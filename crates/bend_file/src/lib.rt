@@ -1,8 +1,10 @@
 // The reader of bend files: document 01's numbers 1 to 4 in their order, and the values of the problem that a file holds. The call is total, and its contract is an equation with the definition of the format in specs/.
 ghost use Rattle.bend_file.specs.Read as def;
 
+pub mod chain;
 mod little;
 mod parts;
+mod step;
 mod trailer;
 
 // What a bend file gives: document 01's number, or the problem's rows, coordinates and motion tolerance, its other values being in the lent buffers.
