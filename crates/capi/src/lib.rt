@@ -14,6 +14,7 @@ use least_norm::LeastNorm;
 use least_norm::Outcome;
 
 mod bend;
+mod chain;
 mod reports;
 mod solves;
 mod tallying;
