@@ -34,7 +34,8 @@ extern "C" {
 #define PISKORLU_REFUSED_SCALE 8u
 /* Solve: motion is no whole number of rows of n values. */
 #define PISKORLU_REFUSED_MOTION 9u
-/* Solve: workspace, states, rows, counts or residual too short. */
+/* Solve: workspace, states, rows, counts or residual too short; chained bend
+ * files: any buffer too short. */
 #define PISKORLU_REFUSED_SHORT 10u
 /* Tallied solve: the tally might not hold one solve more. */
 #define PISKORLU_REFUSED_TALLY 11u
@@ -44,6 +45,26 @@ extern "C" {
 
 /* Joins: a count's sum above 4,294,967,295, or a buffer too short. */
 #define PISKORLU_REFUSED_JOIN 13u
+
+/* Chained bend files: fewer than 16 bytes or more than 1 MiB, or a link of 1 to 15. */
+#define PISKORLU_REFUSED_FILE_LENGTH 1u
+/* Chained bend files: a step's mark is wrong. */
+#define PISKORLU_REFUSED_MARK 2u
+/* Chained bend files: a step's rows or coordinates are too many. */
+#define PISKORLU_REFUSED_ROWS 3u
+/* Chained bend files: a step's count does not fit its rows and coordinates, or
+ * its start and count do not fit its length. */
+#define PISKORLU_REFUSED_COUNT 4u
+/* Chained bend files: no link before a step's numbers, or one above its own offset. */
+#define PISKORLU_REFUSED_LINK 14u
+/* Chained bend files: more than PISKORLU_MOST_STEPS steps. */
+#define PISKORLU_REFUSED_STEPS 15u
+
+/* The most steps of a chained bend file. */
+#define PISKORLU_MOST_STEPS 40
+
+/* The answer where a chained bend file has no such step. It is no refusal. */
+#define PISKORLU_NO_STEP 0xFFFFFFFFu
 
 /* The most rows of a problem; the most rows and columns of a least-norm system. */
 #define PISKORLU_MOST 32
@@ -226,6 +247,56 @@ uint32_t piskorlu_tallied(uint32_t *tally, size_t tally_len,
  */
 size_t piskorlu_bend(const uint8_t *file, size_t file_len,
                      uint8_t *out, size_t out_len);
+
+/*
+ * Where the steps of a chained bend file are. The whole chain is read, newest
+ * step first; a refusal at any step is the whole file's.
+ *
+ * file       the file's bytes; any bytes and any length will do.
+ * steps      receives the number of steps in steps[0]; at least 1 place.
+ * ends       receives the offset at which each step's trailer ends, newest
+ *            first, in its first PISKORLU_MOST_STEPS places, with 0 past the
+ *            steps. Later ones are kept; at least PISKORLU_MOST_STEPS.
+ *
+ * Returns PISKORLU_ACCEPTED, or 1, 2, 3, 4, 14 or 15, the first rule that is
+ * broken on the way (10 at once where steps or ends is too short), and then
+ * nothing is written.
+ */
+uint32_t piskorlu_chain(const uint8_t *file, size_t file_len,
+                        size_t *steps, size_t steps_len,
+                        size_t *ends, size_t ends_len);
+
+/*
+ * One step of a chained bend file, counted from the newest, which is 0. The
+ * whole chain is read first, so that a file that is refused gives no step.
+ *
+ * w          receives W by rows in its first n * n values, n being the step's
+ *            rows; at least PISKORLU_MOST * PISKORLU_MOST values.
+ * u_free, lo, hi, scale, nu
+ *            receive the step's in their first n values; at least
+ *            PISKORLU_MOST each.
+ * motion     receives the step's in its first n * coordinates values; at least
+ *            PISKORLU_MOST_MOTION.
+ * shape      receives the rows in shape[0] and the coordinates in shape[1]; at
+ *            least 2 places.
+ * tolerance  receives the motion tolerance in tolerance[0]; at least 1 place.
+ *
+ * What lies past these is kept. Every pattern of a NaN is read as one NaN.
+ *
+ * Returns PISKORLU_ACCEPTED; or a number as piskorlu_chain, 10 at once where a
+ * buffer is too short; or PISKORLU_NO_STEP where the file is accepted and has
+ * no such step. In the last two cases nothing is written.
+ */
+uint32_t piskorlu_chain_step(const uint8_t *file, size_t file_len, size_t step,
+                             double *w, size_t w_len,
+                             double *u_free, size_t u_free_len,
+                             double *lo, size_t lo_len,
+                             double *hi, size_t hi_len,
+                             double *scale, size_t scale_len,
+                             double *nu, size_t nu_len,
+                             double *motion, size_t motion_len,
+                             size_t *shape, size_t shape_len,
+                             double *tolerance, size_t tolerance_len);
 
 #ifdef __cplusplus
 }
