@@ -1,0 +1,4 @@
+pub mod Laying
+pub mod Chained
+pub mod Rules
+pub mod Passes
