@@ -21,7 +21,7 @@ use Rattle.bend_writer.specs.declared.Written.{Written}
 use Rattle.bend_writer.specs.declared.Written.the-variants.{Refused, Bytes}
 use Rattle.bend_writer.proofs.Laying.{then, whole-length}
 use Rattle.bend_writer.proofs.Chained.{tab-suc, file-snoc, number-suc, length-suc, found, first-none, step-kept, front-length}
-use Rattle.bend_writer.proofs.Rules.{some-values}
+use Rattle.bend_writer.proofs.Rules.{rules-kept}
 
 -- ---- the values of a step
 
@@ -70,7 +70,7 @@ module _ (rows coords counts : List ℕ) (values : List Float) where
   -- a step that keeps its rules has its values
   whole-at : (i from : ℕ) → from ≡ before counts i → stepNumber (at i) ≡ 0 → from + getD counts i 0 ≤ length values
   unfolding stepNumber stepAt
-  whole-at i from e h = rw e (part-some values (before counts i) (getD counts i 0) (some-values (getD rows i 0) (getD coords i 0) _ h))
+  whole-at i from e h = rw e (part-some values (before counts i) (getD counts i 0) (omega (arith, rules-kept (getD rows i 0) (getD coords i 0) (length (part values (before counts i) (getD counts i 0))) h .counted)))
 
   step-at : (i from count : ℕ) → from ≡ before counts i → count ≡ getD counts i 0 → from + count ≤ length values
       → at i ≡ record { rows = getD rows i 0; coords = getD coords i 0; values = take count (drop from values) }

@@ -1,13 +1,14 @@
 -- What the writer's tests, one after another, say of a step and of a pull.
 use Prim.Native.Nat.{ℕ, zero, suc, _+_, _-_, _*_, _≤_, _<_}
 use mathlib.Core.Path.{_≡_, refl, sym, _∙_, ap}
-use mathlib.Core.Bool.{Bool, true, false, not, cond, and-false}
+use mathlib.Core.Bool.{Bool, true, false, not, cond, _&&_, and-false}
 use mathlib.Core.List.{List}
 use native.Mathlib.Omega.{arith}
 use native.Mathlib.Nat.{mul-le-mul}
 use lib.Dec.{leb, eqb}
 use lib.ListN.{length}
 use borrow.Author.Tests.{le-leb, lt-leb, leb-true, eq-eqb, ne-eqb, eqb-true}
+use Rattle.loops.proofs.Every.{both-true}
 use Rattle.bend_file.specs.Little.{over}
 use Rattle.bend_file.specs.Trailer.{small, wanted}
 use Rattle.bend_writer.specs.Private.{checked, Room}
@@ -51,15 +52,24 @@ module _ (n c count : ℕ) where
     unfolding ruled
     kept h = rw (is-fair, eq-eqb count (wanted n c) h)
 
--- a step that keeps its rules has a value at least
-pub some-values : (n c count : ℕ) → ruled n c count ≡ 0 → 0 < count
-unfolding ruled
-some-values n c count e = go (fair n c) (eqb count (wanted n c)) refl e
+-- what a step that keeps its rules has
+pub record Kept (n c count : ℕ) : Type 0 where
+  pub few : n ≤ 32
+  pub narrow : c ≤ 65535
+  pub moving : c * n ≤ 2048
+  pub counted : count ≡ wanted n c
+
+pub rules-kept : (n c count : ℕ) → ruled n c count ≡ 0 → Kept n c count
+unfolding ruled fair small
+rules-kept n c count e = go (fair n c) (eqb count (wanted n c)) refl refl e
   where
-    go : (a b : Bool) → eqb count (wanted n c) ≡ b → _≡_ {A = ℕ} (cond (not a) 3 (cond (not b) 4 0)) 0 → 0 < count
-    go false b g h = absurd (omega arith)
-    go true false g h = absurd (omega arith)
-    go true true g h = omega (arith, eqb-true count (wanted n c) g)
+    go : (a b : Bool) → fair n c ≡ a → eqb count (wanted n c) ≡ b → _≡_ {A = ℕ} (cond (not a) 3 (cond (not b) 4 0)) 0 → Kept n c count
+    go false b f g h = absurd (omega arith)
+    go true false f g h = absurd (omega arith)
+    go true true f g h =
+        let s = both-true (leb n 32 && leb (c * n) 2048) (leb c 65535) f in
+        let t = both-true (leb n 32) (leb (c * n) 2048) (s .0) in
+        record { few = leb-true n 32 (t .0); narrow = leb-true c 65535 (s .1); moving = leb-true (c * n) 2048 (t .1); counted = eqb-true count (wanted n c) g }
 
 -- ---- the pull's
 
@@ -120,8 +130,26 @@ left-refused : (a : Answer) (k : ℕ) (out : List ℕ) → Refused k ≡ result 
 left-refused (refused j) k out h = refl
 left-refused (written f) k out h = let z : _≡_ {A = ℕ} 0 1 = cc in absurd (omega arith)
 
+-- what no number says
+pub accepted : (l : List Step) (room : ℕ) → number l room ≡ 0 → (several (length l) ≡ true) × Room l room
+unfolding number
+accepted l room e = go (several (length l)) (leb (length (file l)) room) refl refl e
+  where
+    go : (a b : Bool) → several (length l) ≡ a → leb (length (file l)) room ≡ b → cond (not a) 15 (first (stepsNumber l) (cond b 0 10)) ≡ 0 → (several (length l) ≡ true) × Room l room
+    go false b f e g = absurd (omega arith)
+    go true true f e g = (f, record { kept = both-none _ _ g .0; fits = leb-true (length (file l)) room e })
+    go true false f e g = let z : _≡_ {A = ℕ} 10 0 = both-none (stepsNumber l) 10 g .1 in absurd (omega arith)
+
+pub written-is : (l : List Step) (room : ℕ) (f : List ℕ) → answer l room ≡ written f → (number l room ≡ 0) × (file l ≡ f)
+unfolding answer
+written-is l room f h = go (eqb (number l room) 0) refl h
+  where
+    go : (b : Bool) → eqb (number l room) 0 ≡ b → cond b (written (file l)) (refused (number l room)) ≡ written f → (number l room ≡ 0) × (file l ≡ f)
+    go true e g = (eqb-true (number l room) 0 e, (cc))
+    go false e g = let z : _≡_ {A = ℕ} 0 1 = cc in absurd (omega arith)
+
 module _ (l : List Step) (room bytes : ℕ) (h : Bytes bytes ≡ result (answer l room)) where
-  taken : number l room ≡ 0
+  pub taken : number l room ≡ 0
   unfolding answer
   taken = go (eqb (number l room) 0) refl h
     where
@@ -129,18 +157,16 @@ module _ (l : List Step) (room bytes : ℕ) (h : Bytes bytes ≡ result (answer 
       go true e g = eqb-true (number l room) 0 e
       go false e g = let z : _≡_ {A = ℕ} 0 1 = cc in absurd (omega arith)
 
-  left-written : (out : List ℕ) → left (answer l room) out ≡ over (file l) out
+  pub bytes-are : bytes ≡ length (file l)
+  unfolding answer
+  bytes-are = let e : Bytes bytes ≡ Bytes (length (file l)) = rw taken at h in cc
+
+  pub left-written : (out : List ℕ) → left (answer l room) out ≡ over (file l) out
   unfolding answer
   left-written out = rw taken
 
   pub has-room : Room l room
-  unfolding number
-  has-room = go (several (length l)) (leb (length (file l)) room) refl taken
-    where
-      go : (a b : Bool) → leb (length (file l)) room ≡ b → cond (not a) 15 (first (stepsNumber l) (cond b 0 10)) ≡ 0 → Room l room
-      go false b e g = absurd (omega arith)
-      go true true e g = record { kept = both-none _ _ g .0; fits = leb-true (length (file l)) room e }
-      go true false e g = let z : _≡_ {A = ℕ} 10 0 = both-none (stepsNumber l) 10 g .1 in absurd (omega arith)
+  has-room = accepted l room taken .1
 
 pub refusal-written : (l : List Step) (k : ℕ) (out : List ℕ) → Refused k ≡ result (answer l (length out)) → Writes l (Refused k) out out
 refusal-written l k out h = record { result = h; output = left-refused (answer l (length out)) k out h }
