@@ -156,6 +156,10 @@ module _ (rows coords counts : List ℕ) (values : List Float) where
     unfolding lent
     placed-room = omega (arith, next-length, front-length at (suc i) steps h, room .fits)
 
+    -- what writing the step asks
+    pub placed-fits : length out ≡ length out₀ → (base + (20 + 8 * count) ≤ length out) × (from + count ≤ length values)
+    placed-fits e = (omega (arith, placed-room, e), placed-inside)
+
     pub placed-again : (n c : ℕ) (after : List ℕ) → n ≡ getD rows i 0 → c ≡ getD coords i 0 → Laid out base after (stepBytes base (record { rows = n; coords = c; values = take count (drop from values) }))
         → Placed out₀ (i + 1) (base + (20 + 8 * count)) (from + count) after
     placed-again n c after is-n is-c e =

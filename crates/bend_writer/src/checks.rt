@@ -1,4 +1,5 @@
-// The rules that a pull keeps, in their order: 15, each step's 3 and 4, then 10. All of them are looked at before a byte is written.
+// The rules that a pull keeps, in their order: 15, each step's 3 and 4, then 10. All of them are looked at before a byte is
+// written.
 ghost use mathlib.Core.Path.{_≡_};
 ghost use Prim.Native.Nat.{_≤_};
 ghost use lib.ListN.{length};
@@ -7,7 +8,8 @@ ghost use Rattle.bend_writer.specs.Private as private;
 ghost use Rattle.bend_writer.specs.Write as write;
 use crate::Written;
 
-// The number of the first rule that a step of so many values breaks, or 0. The rows are looked at first: past that no product is large.
+// The number of the first rule that a step of so many values breaks, or 0. The rows are looked at first: past that no product
+// is large.
 pub fn step_number(rows: usize, coords: usize, count: usize) -> u32
     ensures { λ r. ⌜ r ≡ def.ruled rows coords count ⌝ }
 {

@@ -12,7 +12,8 @@ use crate::put;
 // `count` values, from the place `from` on, one after another.
 pub fn put_values(out: &mut [u8], at: usize, values: &[f64], from: usize, count: usize)
     requires { ⌜ (at + 8 * count ≤ length (now out)) × (from + count ≤ length (now values)) ⌝ }
-    ensures { λ r. ⌜ private.Laid (now (out .entry)) at (now (out .exit)) (bytes.patterns (take count (drop from (now (values .entry))))) ⌝ }
+    ensures { λ r. ⌜ private.Laid (now (out .entry)) at (now (out .exit))
+        (bytes.patterns (take count (drop from (now (values .entry))))) ⌝ }
 {
     let mut i = 0;
     while i < count {
@@ -45,7 +46,8 @@ pub fn put_step(
 )
     requires { ⌜ (at + (20 + 8 * count) ≤ length (now out)) × (from + count ≤ length (now values)) ⌝ }
     ensures { λ r. ⌜ private.Laid (now (out .entry)) at (now (out .exit))
-        (def.stepBytes at (record { rows = rows; coords = coords; values = take count (drop from (now (values .entry))) })) ⌝ }
+        (def.stepBytes at
+        (record { rows = rows; coords = coords; values = take count (drop from (now (values .entry))) })) ⌝ }
 {
     put::put_u32(out, at, at as u64);
     put_values(out, at + 4, values, from, count);
@@ -61,9 +63,12 @@ pub fn put_steps(
     counts: &[usize],
     values: &[f64],
 )
-    requires { ⌜ private.Room (write.lent steps (now rows) (now coords) (now counts) (now values)) (length (now out)) ⌝ }
+    requires { ⌜ private.Room
+        (write.lent steps (now rows) (now coords) (now counts) (now values))
+        (length (now out)) ⌝ }
     ensures { λ r. ⌜ now (out .exit) ≡ over
-        (def.file (write.lent steps (now (rows .entry)) (now (coords .entry)) (now (counts .entry)) (now (values .entry))))
+        (def.file
+        (write.lent steps (now (rows .entry)) (now (coords .entry)) (now (counts .entry)) (now (values .entry))))
         (now (out .entry)) ⌝ }
 {
     let mut at = 0;

@@ -4,7 +4,7 @@ use mathlib.Core.Path.{_≡_}
 use native.Mathlib.Omega.{arith}
 use lib.ListN.{length}
 use borrow.Author.Needs.{needs}
-use Rattle.bend_writer.proofs.Passes.{Placed, placed-start, placed-inside, placed-room, placed-again, placed-done}
+use Rattle.bend_writer.proofs.Passes.{Placed, placed-start, placed-inside, placed-fits, placed-room, placed-again, placed-done}
 use Rattle.bend_writer.proofs.steps.put_steps.Statement.{statement}
 use Rattle.bend_writer.proofs.steps.put_steps.Tie as tie
 
@@ -27,7 +27,7 @@ number-requires-3 : tie.Need-number-requires-3 Inv-loop μ-loop
 number-requires-3 c κs = search needs
 
 put-step-requires : tie.Need-put-step-requires Inv-loop μ-loop
-put-step-requires c κs = (omega (arith, placed-room _ _ _ _ _ _ _ _ _ _ _ (c .before .before .before .before .before .before .before .before .before .before .before .pre) (c .before .before .before .before .loop-test .taken) (c .before .before .before .before .before .loop .inv .2) (c .before .before .before .number .ensures), c .before .before .before .before .before .loop .inv .1), placed-inside _ _ _ _ _ _ _ _ _ _ _ (c .before .before .before .before .before .before .before .before .before .before .before .pre) (c .before .before .before .before .loop-test .taken) (c .before .before .before .before .before .loop .inv .2) (c .before .before .before .number .ensures))
+put-step-requires c κs = placed-fits _ _ _ _ _ _ _ _ _ _ _ (c .before .before .before .before .before .before .before .before .before .before .before .pre) (c .before .before .before .before .loop-test .taken) (c .before .before .before .before .before .loop .inv .2) (c .before .before .before .number .ensures) (c .before .before .before .before .before .loop .inv .1)
 
 mul-at : tie.Need-mul-at Inv-loop μ-loop
 mul-at c = omega (arith, placed-room _ _ _ _ _ _ _ _ _ _ _ (c .before .before .before .before .before .before .before .before .before .before .before .before .before .before .pre) (c .before .before .before .before .before .before .before .loop-test .taken) (c .before .before .before .before .before .before .before .before .loop .inv .2) (c .before .before .before .before .before .before .number .ensures))
@@ -48,7 +48,12 @@ loop-less : tie.Need-loop-less Inv-loop μ-loop
 loop-less c = search needs
 
 loop-again : tie.Need-loop-again Inv-loop μ-loop
-loop-again c = (search needs, search needs, placed-again _ _ _ _ _ _ _ _ _ _ _ (c .before .before .before .before .before .before .before .before .before .before .before .before .before .before .pre) (c .before .before .before .before .before .before .before .loop-test .taken) (c .before .before .before .before .before .before .before .before .loop .inv .2) (c .before .before .before .before .before .before .number .ensures) _ _ _ (c .before .before .before .before .number2 .ensures) (c .before .before .before .number3 .ensures) (c .before .before .put-step .ensures))
+loop-again c =
+    let room = c .before .before .before .before .before .before .before .before .before .before .before .before .before .before .pre in
+    let inv = c .before .before .before .before .before .before .before .before .loop .inv .2 in
+    let count = c .before .before .before .before .before .before .number .ensures in
+    let step = c .before .before .put-step .ensures in
+    (search needs, search needs, placed-again _ _ _ _ _ _ _ _ _ _ _ room (c .before .before .before .before .before .before .before .loop-test .taken) inv count _ _ _ (c .before .before .before .before .number2 .ensures) (c .before .before .before .number3 .ensures) step)
 
 same-length : tie.Need-same-length Inv-loop μ-loop
 same-length c = search needs
