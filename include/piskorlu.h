@@ -47,17 +47,17 @@ extern "C" {
 #define PISKORLU_REFUSED_JOIN 13u
 
 /* Chained bend files: fewer than 16 bytes or more than 1 MiB, or a link of 1 to 15. */
-#define PISKORLU_REFUSED_FILE_LENGTH 1u
+#define PISKORLU_REFUSED_FILE_SIZE 1u
 /* Chained bend files: a step's mark is wrong. */
-#define PISKORLU_REFUSED_MARK 2u
+#define PISKORLU_REFUSED_FILE_MARK 2u
 /* Chained bend files: a step's rows or coordinates are too many. */
-#define PISKORLU_REFUSED_ROWS 3u
+#define PISKORLU_REFUSED_FILE_LIMITS 3u
 /* Chained bend files: a step's count does not fit its rows and coordinates, or
  * its start and count do not fit its length. */
-#define PISKORLU_REFUSED_COUNT 4u
+#define PISKORLU_REFUSED_FILE_COUNT 4u
 /* Chained bend files: no link before a step's numbers, or one above its own offset. */
 #define PISKORLU_REFUSED_LINK 14u
-/* Chained bend files: more than PISKORLU_MOST_STEPS steps. */
+/* Chained bend files: more than PISKORLU_MOST_STEPS steps, or none to write. */
 #define PISKORLU_REFUSED_STEPS 15u
 
 /* The most steps of a chained bend file. */
@@ -297,6 +297,40 @@ uint32_t piskorlu_chain_step(const uint8_t *file, size_t file_len, size_t step,
                              double *motion, size_t motion_len,
                              size_t *shape, size_t shape_len,
                              double *tolerance, size_t tolerance_len);
+
+/* The most bytes that piskorlu_chain_write writes. */
+#define PISKORLU_CHAIN_ROOM 1035360
+
+/*
+ * The steps of a pull, oldest first, written as one chained bend file.
+ *
+ * rows       the rows of each step; rows_len is the number of steps.
+ * coords     the coordinates of each step; at least rows_len.
+ * counts     how many values each step has: with n rows and c coordinates
+ *            n * n + 5 * n + c * n + 1; at least rows_len.
+ * values     the values of the first step, then those of the next, and so on,
+ *            each in a bend file's order: W by rows, u_free, lo, hi, scale, nu,
+ *            motion, tolerance. Later ones are not looked at.
+ * out        receives the file, 20 + 8 * counts[k] bytes for step k;
+ *            PISKORLU_CHAIN_ROOM bytes are enough for every pull. What lies
+ *            past the file is kept.
+ * written    receives the number of bytes in written[0]; at least 1.
+ *
+ * Every NaN is written as 7FF8000000000000; other values keep their bits.
+ *
+ * Returns PISKORLU_ACCEPTED; or PISKORLU_REFUSED_SHORT at once where coords,
+ * counts or written is too short; or else the first that applies of
+ * PISKORLU_REFUSED_STEPS, then of each step, oldest first,
+ * PISKORLU_REFUSED_FILE_LIMITS and PISKORLU_REFUSED_FILE_COUNT (values that run
+ * out, too), and PISKORLU_REFUSED_SHORT where out is too short. After a refusal
+ * nothing is written.
+ */
+uint32_t piskorlu_chain_write(const size_t *rows, size_t rows_len,
+                              const size_t *coords, size_t coords_len,
+                              const size_t *counts, size_t counts_len,
+                              const double *values, size_t values_len,
+                              uint8_t *out, size_t out_len,
+                              size_t *written, size_t written_len);
 
 #ifdef __cplusplus
 }

@@ -3,3 +3,4 @@ pub mod LeastNorm
 pub mod Room
 pub mod Solving
 pub mod Entering
+pub mod ChainWriter

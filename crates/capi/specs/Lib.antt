@@ -3,3 +3,4 @@ pub mod LeastNorm
 pub mod Reports
 pub mod Solves
 pub mod Tallies
+pub mod ChainWriter

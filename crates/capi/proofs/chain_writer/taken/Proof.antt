@@ -1,0 +1,12 @@
+-- `capi::chain_writer::taken` meets its contract. Assumes nothing.
+use borrow.Author.Needs.{needs}
+use Rattle.capi.specs.ChainWriter as def
+use Rattle.capi.proofs.chain_writer.taken.Statement.{statement}
+use Rattle.capi.proofs.chain_writer.taken.Tie as tie
+
+returns : tie.Need-returns
+unfolding def.taken
+returns c = search needs
+
+pub taken-spec : {M : Type 1} → statement M
+taken-spec = tie.close (tie.spec returns)
