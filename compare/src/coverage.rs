@@ -21,6 +21,18 @@ pub const NUMBERS: [&str; 34] = [
     "above",
 ];
 
+/// The numbers of the worked examples of chained bend files.
+pub const EXAMPLES: [&str; 70] = [
+    "1", "2", "3", "4", "5", "6", "7", "8", "9", "10", "11", "12", "13", "14", "15", "16", "17",
+    "18", "19", "20", "21", "22", "23", "24", "25", "26", "27", "28", "29", "30", "31", "32", "33",
+    "34", "35", "36", "37", "38", "39", "40", "41", "42", "43", "44", "45", "46", "47", "48", "49",
+    "50", "51", "52", "53", "54", "55", "56", "57", "58", "59", "60", "61", "62", "63", "64", "65",
+    "66", "67", "68", "69", "70",
+];
+
+/// The numbers of steps that a chained bend file may have.
+pub const STEPS: &[&str] = EXAMPLES.split_at(40).0;
+
 /// The numbers of rows that a problem may have.
 pub const ROWS: &[&str] = NUMBERS.split_at(33).0;
 
@@ -31,6 +43,16 @@ impl Coverage {
 
     pub fn number(&mut self, group: &'static str, number: usize) {
         self.count(group, NUMBERS[number.min(33)]);
+    }
+
+    /// Counts the class of that name, if the group has one.
+    pub fn named(&mut self, classes: &[Class], group: &'static str, name: &str) {
+        let of_group = classes.iter().filter(|class| class.group == group);
+        for &known in of_group.flat_map(|class| class.names) {
+            if known == name {
+                self.count(group, known);
+            }
+        }
     }
 
     pub fn add(&mut self, other: &Coverage) {

@@ -5,6 +5,8 @@ mod bench;
 mod bendsolve;
 mod calls;
 mod cases;
+#[cfg(test)]
+mod chain_tests;
 mod coverage;
 mod mutations;
 #[cfg(original)]
@@ -18,6 +20,8 @@ mod tests;
 mod vectors;
 
 use calls::bend::Bend;
+use calls::chain::Chain;
+use calls::chain_writer::ChainWriter;
 use calls::joins::Joins;
 use calls::least_norm::LeastNorm;
 use calls::solve::Solve;
@@ -36,6 +40,7 @@ compare COMMAND
   sqrt [COUNT]            the square root on 100,000,000 patterns, and its time
   mutations [EACH [RULE]] each error (or one) put into the reference: is it caught?
   bend [EACH [RUNS]]      bend files: the call on EACH (30,000) of a family, the program on RUNS (2,000)
+  chains [FILES]          chained bend files: at least FILES (1,000,000) read, and a half as many written
   vectors DIR             writes the original's answers for replay
   files DIR               writes bend files with what bendsolve must print for each
   bench [--write]         times of port and original; --write: docs/PERFORMANCE.md and performance.svg
@@ -142,6 +147,8 @@ fn main() -> ExitCode {
             (Some(each), Some(runs)) => bend(each, runs),
             _ => usage(),
         },
+        ["chains"] => chains(1_000_000),
+        ["chains", files] => number(files).map_or_else(usage, chains),
         ["files", folder] => outcome(bendsolve::write(folder.as_ref())),
         ["bench"] => outcome(bench::run(false)),
         ["bench", "--write"] => outcome(bench::run(true)),
@@ -192,6 +199,8 @@ fn short(with_original: bool) -> ExitCode {
     checks.totals::<Joins>(&run::<Joins>(1, 50_000), false);
     checks.totals::<Tallied>(&run::<Tallied>(1, 15_000), false);
     checks.totals::<Bend>(&run::<Bend>(1, 10_000), false);
+    checks.totals::<Chain>(&run::<Chain>(1, 4_000), false);
+    checks.totals::<ChainWriter>(&run::<ChainWriter>(1, 4_000), false);
     println!("{:.0} s", start.elapsed().as_secs_f64());
     checks.end()
 }
@@ -232,6 +241,7 @@ fn long(cases: u64) -> ExitCode {
         each(Tallied::families().len(), cases / 10),
     );
     differing += long_call::<Bend>(&mut checks, seed, each(Bend::families().len(), cases / 30));
+    differing += chain_calls(&mut checks, seed, cases / 10);
     println!("{:.0} s", start.elapsed().as_secs_f64());
     println!("differing {differing}");
     checks.end()
@@ -252,6 +262,32 @@ fn bend(each: u64, runs: u64) -> ExitCode {
         Err(message) => checks.note(false, &message),
     }
     checks.end()
+}
+
+/// Chained bend files, read and written.
+fn chains(files: u64) -> ExitCode {
+    let mut checks = Checks::default();
+    for (name, missing) in [
+        (Chain::NAME, port::CHAIN.is_none()),
+        (ChainWriter::NAME, port::CHAIN_WRITE.is_none()),
+    ] {
+        if missing {
+            checks.note(
+                false,
+                &format!("{name}: the static library has no such call"),
+            );
+        }
+    }
+    let differing = chain_calls(&mut checks, 3, files);
+    println!("differing {differing}");
+    checks.end()
+}
+
+/// At least so many chained bend files read, and a half as many written.
+fn chain_calls(checks: &mut Checks, seed: u64, files: u64) -> u64 {
+    let reads = files.div_ceil(Chain::families().len() as u64);
+    let writes = (files / 2).div_ceil(ChainWriter::families().len() as u64);
+    long_call::<Chain>(checks, seed, reads) + long_call::<ChainWriter>(checks, seed, writes)
 }
 
 fn long_call<C: Call>(checks: &mut Checks, seed: u64, each: u64) -> u64 {
@@ -298,7 +334,9 @@ fn one(family: &str, seed: Option<u64>, index: Option<u64>) -> ExitCode {
         || show::<Solve>(family, seed, index)
         || show::<Joins>(family, seed, index)
         || show::<Tallied>(family, seed, index)
-        || show::<Bend>(family, seed, index);
+        || show::<Bend>(family, seed, index)
+        || show::<Chain>(family, seed, index)
+        || show::<ChainWriter>(family, seed, index);
     if !shown {
         eprintln!("compare: no family of that name");
     }
@@ -312,6 +350,8 @@ fn families() -> ExitCode {
         Joins::families(),
         Tallied::families(),
         Bend::families(),
+        Chain::families(),
+        ChainWriter::families(),
     ];
     names.concat().iter().for_each(|name| println!("{name}"));
     ExitCode::SUCCESS

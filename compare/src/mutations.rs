@@ -2,6 +2,8 @@
 //! it.
 
 use crate::calls::bend::Bend;
+use crate::calls::chain::Chain;
+use crate::calls::chain_writer::ChainWriter;
 use crate::calls::joins::Joins;
 use crate::calls::least_norm::LeastNorm;
 use crate::calls::solve::Solve;
@@ -126,6 +128,8 @@ fn surveys(each: u64, name: Option<&str>) -> Vec<(Rule, Caught)> {
         survey::<Joins>(1, each, name),
         survey::<Tallied>(1, each, name),
         survey::<Bend>(1, each, name),
+        survey::<Chain>(1, each, name),
+        survey::<ChainWriter>(1, each, name),
     ];
     let mut all: Vec<(Rule, Caught)> = Vec::new();
     for (rule, caught) in parts.into_iter().flatten() {

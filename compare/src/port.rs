@@ -340,3 +340,176 @@ fn bend(file: &[u8], out: &mut [u8]) -> usize {
     // SAFETY: as for least_norm.
     unsafe { piskorlu_bend(file.as_ptr(), file.len(), out.as_mut_ptr(), out.len()) }
 }
+
+/// Where a chained bend file's steps are: how many there are in the first
+/// place, then where they end, newest first; 0, or the number of the refusal.
+pub type ChainSteps = fn(&[u8], &mut [usize], &mut [usize]) -> u32;
+
+/// What a step of a chained bend file is read into; its shape is rows and
+/// coordinates.
+#[cfg_attr(not(port_chain), allow(dead_code))]
+pub struct StepLent<'a> {
+    pub w: &'a mut [f64],
+    pub u_free: &'a mut [f64],
+    pub lo: &'a mut [f64],
+    pub hi: &'a mut [f64],
+    pub scale: &'a mut [f64],
+    pub nu: &'a mut [f64],
+    pub motion: &'a mut [f64],
+    pub shape: &'a mut [usize],
+    pub tolerance: &'a mut [f64],
+}
+
+/// A step by its number; 0, the number of the refusal, or 0xFFFFFFFF where
+/// there is no such step.
+pub type ChainStep = fn(&[u8], usize, StepLent) -> u32;
+
+/// Both calls that read a chained bend file.
+pub struct Chain {
+    pub steps: ChainSteps,
+    pub step: ChainStep,
+}
+
+/// The writer of chained bend files: rows, coords, counts, values, the output
+/// and the place for its length; 0, or the number of the refusal.
+pub type ChainWrite = fn(&[usize], &[usize], &[usize], &[f64], &mut [u8], &mut [usize]) -> u32;
+
+#[cfg(port_chain)]
+pub const CHAIN: Option<Chain> = Some(Chain {
+    steps: chain_steps,
+    step: chain_step,
+});
+#[cfg(not(port_chain))]
+pub const CHAIN: Option<Chain> = None;
+
+#[cfg(port_chain_write)]
+pub const CHAIN_WRITE: Option<ChainWrite> = Some(chain_write);
+#[cfg(not(port_chain_write))]
+pub const CHAIN_WRITE: Option<ChainWrite> = None;
+
+#[cfg(port_chain)]
+extern "C" {
+    fn piskorlu_chain(
+        file: *const u8,
+        file_len: usize,
+        steps: *mut usize,
+        steps_len: usize,
+        ends: *mut usize,
+        ends_len: usize,
+    ) -> u32;
+
+    fn piskorlu_chain_step(
+        file: *const u8,
+        file_len: usize,
+        step: usize,
+        w: *mut f64,
+        w_len: usize,
+        u_free: *mut f64,
+        u_free_len: usize,
+        lo: *mut f64,
+        lo_len: usize,
+        hi: *mut f64,
+        hi_len: usize,
+        scale: *mut f64,
+        scale_len: usize,
+        nu: *mut f64,
+        nu_len: usize,
+        motion: *mut f64,
+        motion_len: usize,
+        shape: *mut usize,
+        shape_len: usize,
+        tolerance: *mut f64,
+        tolerance_len: usize,
+    ) -> u32;
+}
+
+#[cfg(port_chain)]
+fn chain_steps(file: &[u8], steps: &mut [usize], ends: &mut [usize]) -> u32 {
+    // SAFETY: as for least_norm.
+    unsafe {
+        piskorlu_chain(
+            file.as_ptr(),
+            file.len(),
+            steps.as_mut_ptr(),
+            steps.len(),
+            ends.as_mut_ptr(),
+            ends.len(),
+        )
+    }
+}
+
+#[cfg(port_chain)]
+fn chain_step(file: &[u8], step: usize, lent: StepLent) -> u32 {
+    // SAFETY: as for least_norm.
+    unsafe {
+        piskorlu_chain_step(
+            file.as_ptr(),
+            file.len(),
+            step,
+            lent.w.as_mut_ptr(),
+            lent.w.len(),
+            lent.u_free.as_mut_ptr(),
+            lent.u_free.len(),
+            lent.lo.as_mut_ptr(),
+            lent.lo.len(),
+            lent.hi.as_mut_ptr(),
+            lent.hi.len(),
+            lent.scale.as_mut_ptr(),
+            lent.scale.len(),
+            lent.nu.as_mut_ptr(),
+            lent.nu.len(),
+            lent.motion.as_mut_ptr(),
+            lent.motion.len(),
+            lent.shape.as_mut_ptr(),
+            lent.shape.len(),
+            lent.tolerance.as_mut_ptr(),
+            lent.tolerance.len(),
+        )
+    }
+}
+
+#[cfg(port_chain_write)]
+extern "C" {
+    fn piskorlu_chain_write(
+        rows: *const usize,
+        rows_len: usize,
+        coords: *const usize,
+        coords_len: usize,
+        counts: *const usize,
+        counts_len: usize,
+        values: *const f64,
+        values_len: usize,
+        out: *mut u8,
+        out_len: usize,
+        written: *mut usize,
+        written_len: usize,
+    ) -> u32;
+}
+
+#[cfg(port_chain_write)]
+fn chain_write(
+    rows: &[usize],
+    coords: &[usize],
+    counts: &[usize],
+    values: &[f64],
+    out: &mut [u8],
+    written: &mut [usize],
+) -> u32 {
+    // SAFETY: as for least_norm.
+    unsafe {
+        piskorlu_chain_write(
+            rows.as_ptr(),
+            rows.len(),
+            coords.as_ptr(),
+            coords.len(),
+            counts.as_ptr(),
+            counts.len(),
+            values.as_ptr(),
+            values.len(),
+            out.as_mut_ptr(),
+            out.len(),
+            written.as_mut_ptr(),
+            written.len(),
+        )
+    }
+}

@@ -2,6 +2,8 @@
 //! gains needs its wrapper in `port`, its symbol in build.rs and `port` here.
 
 pub mod bend;
+pub mod chain;
+pub mod chain_writer;
 pub mod guard;
 pub mod joins;
 pub mod least_norm;

@@ -2,11 +2,14 @@
 //! nothing else, so that any of them can be made again.
 
 pub mod aimed;
+pub mod chain_examples;
+pub mod chains;
 pub mod files;
 pub mod least_norm;
 pub mod lengths;
 pub mod marked;
 pub mod problem;
+pub mod pulls;
 pub mod random;
 pub mod rays;
 pub mod reports;

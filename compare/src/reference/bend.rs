@@ -3,7 +3,7 @@
 use super::rule::Rule;
 
 /// The length of the trailer, and the shortest file.
-const TRAILER: usize = 16;
+pub(super) const TRAILER: usize = 16;
 
 /// The longest file.
 pub const LONGEST: usize = 65_536;
@@ -22,15 +22,15 @@ pub struct Bend {
 }
 
 /// The trailer's four numbers.
-struct Trailer {
-    start: u32,
-    n: u16,
-    coords: u16,
-    count: u32,
+pub(super) struct Trailer {
+    pub(super) start: u32,
+    pub(super) n: u16,
+    pub(super) coords: u16,
+    pub(super) count: u32,
 }
 
 impl Trailer {
-    fn of(bytes: &[u8]) -> Self {
+    pub(super) fn of(bytes: &[u8]) -> Self {
         let u16_at = |k: usize| u16::from_le_bytes([bytes[k], bytes[k + 1]]);
         let u32_at =
             |k: usize| u32::from_le_bytes([bytes[k], bytes[k + 1], bytes[k + 2], bytes[k + 3]]);
@@ -43,7 +43,7 @@ impl Trailer {
     }
 
     /// n > 32 or coords n > 2,048.
-    fn too_large(&self, rule: Rule) -> bool {
+    pub(super) fn too_large(&self, rule: Rule) -> bool {
         let product = if rule.is(Rule::BendProductWraps) {
             u64::from(self.coords.wrapping_mul(self.n))
         } else {
@@ -53,18 +53,21 @@ impl Trailer {
         self.n > 32 || product > 2_048 || no_rows
     }
 
+    /// Whether the count rule is broken.
+    pub(super) fn count_wrong(&self) -> bool {
+        let (n, coords) = (u64::from(self.n), u64::from(self.coords));
+        u64::from(self.count) != n * n + 5 * n + coords * n + 1
+    }
+
     /// Whether the count or the length rule is broken.
     fn broken(&self, length: usize, rule: Rule) -> bool {
-        let (n, coords) = (u64::from(self.n), u64::from(self.coords));
-        let count = u64::from(self.count);
-        let count_wrong = count != n * n + 5 * n + coords * n + 1;
-        let whole = u64::from(self.start) + 8 * count + TRAILER as u64;
+        let whole = u64::from(self.start) + 8 * u64::from(self.count) + TRAILER as u64;
         let length_wrong = match rule {
             Rule::BendLengthModulo => whole as u32 != length as u32,
             Rule::BendLengthLoose => whole > length as u64,
             _ => whole != length as u64,
         };
-        (count_wrong && !rule.is(Rule::BendCountUnchecked)) || length_wrong
+        (self.count_wrong() && !rule.is(Rule::BendCountUnchecked)) || length_wrong
     }
 }
 
@@ -101,18 +104,18 @@ pub fn read(file: &[u8], rule: Rule) -> Result<Bend, u32> {
     if trailer.broken(file.len(), rule) {
         return Err(4);
     }
-    Ok(numbers(front, &trailer, rule))
-}
-
-/// The numbers from start on, in the file's order. Where an error lets a
-/// broken file through, numbers past its end are read as 0.
-fn numbers(front: &[u8], trailer: &Trailer, rule: Rule) -> Bend {
-    let (n, coords) = (usize::from(trailer.n), usize::from(trailer.coords));
-    let mut place = if rule.is(Rule::BendStartIgnored) {
+    let start = if rule.is(Rule::BendStartIgnored) {
         0
     } else {
         trailer.start as usize
     };
+    let (n, coords) = (usize::from(trailer.n), usize::from(trailer.coords));
+    Ok(numbers(front, start, n, coords, rule))
+}
+
+/// The numbers from `place` on, in the file's order. Where an error lets a
+/// broken file through, numbers past its end are read as 0.
+pub(super) fn numbers(front: &[u8], mut place: usize, n: usize, coords: usize, rule: Rule) -> Bend {
     let mut take = |count: usize| -> Vec<f64> {
         let mut values = Vec::with_capacity(count);
         for _ in 0..count {

@@ -1,7 +1,7 @@
 //! An implementation of document 01 of its own, in that document's order. It
 //! is held against the original, and it gives what the original has no word
 //! for: refusal numbers, causes, what a lent buffer keeps, the tally and the
-//! bend file.
+//! bend file. What document 02 adds is written from that document alone.
 //!
 //! Every part takes a [`Rule`], the single error put in on purpose. In
 //! ordinary use it is [`Rule::None`]; the command `mutations` puts in each
@@ -13,6 +13,8 @@
 #![allow(clippy::needless_range_loop, clippy::large_enum_variant)]
 
 pub mod bend;
+pub mod chain;
+pub mod chain_writer;
 pub mod float;
 pub mod least_norm;
 pub mod pass;

@@ -10,6 +10,8 @@ pub enum Place {
     Joins,
     Tally,
     Bend,
+    Chain,
+    ChainWriter,
 }
 
 macro_rules! rules {
@@ -244,6 +246,65 @@ rules! {
     NanPatternKept, Bend, "a NaN's own pattern printed";
     RowsFromOne, Bend, "rows numbered from 1";
     LastLineOpen, Bend, "the last line not ended";
+
+    ChainOldLimit, Chain, "1: the longest file 65,536 bytes";
+    ChainLongestHigh, Chain, "1: 1,048,577 bytes taken";
+    ChainLongestLow, Chain, "1: 1,048,576 bytes refused";
+    ChainShortest, Chain, "1: 16 bytes refused";
+    LinkSixteenShort, Chain, "1: a link of 16 refused";
+    OneWhereRead, Chain, "1: a link of 1 to 15 refused before its step's length rule";
+    ShortLinkEnds, Chain, "1: a link of 1 to 15 taken for one of 0";
+    ChainMost39, Chain, "15: a 40th step";
+    ChainMost41, Chain, "15: a 41st step taken";
+    FifteenAfterOne, Chain, "15 tested after 1";
+    FifteenAfterTwo, Chain, "15 tested after 1 and 2";
+    FourteenBeforeCount, Chain, "14 tested before 4's count rule";
+    FourteenAfterLength, Chain, "14 tested after 4's length rule";
+    NoLinkFour, Chain, "14: fewer than four bytes before the numbers get 4";
+    NumbersOutsideFour, Chain, "14: numbers that begin before the file get 4";
+    LinkUpToNumbers, Chain, "14: a link up to the numbers taken, not only up to its own offset";
+    LinkBelowOnly, Chain, "14: >= for > at the link's own offset";
+    LinkAtFront, Chain, "the link read from offset 0";
+    LinkBigEndian, Chain, "the link read big-endian";
+    LinkSixteenBits, Chain, "the link read modulo 2^16";
+    LengthFromZero, Chain, "4: the length rule counts from 0";
+    StartPastLink, Chain, "4: start counts from the link's end";
+    ChainLengthUnchecked, Chain, "4: the length rule left out";
+    ChainNoFreeBytes, Chain, "4: free bytes refused";
+    StepsOldestFirst, Chain, "the steps oldest first";
+    OlderStepsUnread, Chain, "a step read although an older one is refused";
+    StepPastIsOldest, Chain, "the oldest step where there is no such step";
+    StepsFromOne, Chain, "steps numbered from 1";
+    NumbersFromFront, Chain, "the numbers' place counted from 0";
+    StepBoundsSwapped, Chain, "hi read before lo";
+    StepRestCleared, Chain, "values past a step's own cleared";
+    EndsRestKept, Chain, "ends past the steps kept, not 0";
+    ChainRefusalWrites, Chain, "a refused file's first steps left in ends";
+
+    WriterMost41, ChainWriter, "15: 41 steps taken";
+    WriterMost39, ChainWriter, "15: 40 steps refused";
+    WriterNoneTaken, ChainWriter, "15: no step taken as an empty file";
+    WriterFifteenLast, ChainWriter, "15 tested after the steps";
+    WriterTenFirst, ChainWriter, "10 tested before the steps";
+    WriterTenAtEqual, ChainWriter, "10: an output just long enough refused";
+    WriterTenWrites, ChainWriter, "10: what fits is written";
+    WriterCoordsUnbounded, ChainWriter, "3: more than 65,535 coordinates taken";
+    WriterCoordsFour, ChainWriter, "3: more than 65,535 coordinates get 4";
+    WriterFourBeforeThree, ChainWriter, "4 tested before 3";
+    WriterNewestFirst, ChainWriter, "the steps tested newest first";
+    WriterThreesFirst, ChainWriter, "every step's 3 tested before any step's 4";
+    WriterFirstStepAlone, ChainWriter, "only the oldest step tested";
+    WriterCountUnchecked, ChainWriter, "4: any count taken";
+    WriterCountAtLeast, ChainWriter, "4: a count too large taken";
+    WriterValuesRunOut, ChainWriter, "4: values that run out taken as zeros";
+    WriterLinkToTrailer, ChainWriter, "the link to the previous trailer's front";
+    WriterLinkToStep, ChainWriter, "the link to the previous step's front";
+    WriterLinkBigEndian, ChainWriter, "the link written big-endian";
+    WriterStartZero, ChainWriter, "start 0";
+    WriterStartAbsolute, ChainWriter, "start counted from the file's front";
+    WriterOrderReversed, ChainWriter, "the steps written newest first";
+    WriterNanKept, ChainWriter, "a NaN's own pattern written";
+    WriterRestCleared, ChainWriter, "output past the file cleared";
 }
 
 impl Rule {
