@@ -4,6 +4,7 @@
 //! are copied before each round, outside the time. The original keeps its
 //! workspace from call to call, as its callers do; the port is lent one.
 
+use crate::bench_chain;
 use crate::calls::sqrt;
 use crate::plot::{self, Series};
 use crate::port;
@@ -39,6 +40,7 @@ pub fn run(write: bool) -> Result<(), String> {
         let times = sqrt::times(call);
         text.push_str(&root_table(&times));
     }
+    text.push_str(&bench_chain::table());
     if text.is_empty() {
         return Err(String::from("nothing to measure: no static library"));
     }
@@ -103,7 +105,9 @@ fn page(tables: &str, plotted: bool) -> String {
          round, outside the time. The original keeps its workspace from call to call; the port is lent one.\n\n\
          {tables}{plot}\
          The square root is taken over an array of 65,536 positive values of all exponents. Called: the hardware's\n\
-         instruction behind a call, as the port is; inlined: in the loop, where the compiler may take several at once.\n",
+         instruction behind a call, as the port is; inlined: in the loop, where the compiler may take several at once.\n\n\
+         Chained bend files have 40 steps: the smallest of one value each, the largest of 3,233 each, 129,320 in all. To\n\
+         read all of a file is one call for each step, and each call looks at all 40 trailers. The original has no files.\n",
         processor(),
         env!("COMPARE_RUSTC")
     )

@@ -2,6 +2,7 @@
 //! original Rust. See `compare help`.
 
 mod bench;
+mod bench_chain;
 mod bendsolve;
 mod calls;
 mod cases;
@@ -75,7 +76,7 @@ impl Checks {
 
     /// Notes a run's pairs and its coverage.
     fn totals<C: Call>(&mut self, totals: &Totals, coverage: bool) {
-        let port = if cfg!(original) {
+        let port = if cfg!(original) && C::IN_ORIGINAL {
             "port with original"
         } else {
             "port with reference"

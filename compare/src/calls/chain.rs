@@ -149,6 +149,7 @@ impl Call for Chain {
     type Answer = Answer;
 
     const NAME: &'static str = "chained bend files";
+    const IN_ORIGINAL: bool = false;
     const PLACES: &'static [Place] = &[Place::Chain];
     const CLASSES: &'static [Class] = &[
         Class {

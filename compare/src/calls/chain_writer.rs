@@ -44,6 +44,7 @@ impl Call for ChainWriter {
     type Answer = Answer;
 
     const NAME: &'static str = "chained bend files written";
+    const IN_ORIGINAL: bool = false;
     const PLACES: &'static [Place] = &[Place::ChainWriter];
     const CLASSES: &'static [Class] = &[
         Class {

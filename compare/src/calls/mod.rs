@@ -31,6 +31,9 @@ pub trait Call {
 
     const NAME: &'static str;
 
+    /// Whether the original has such a call.
+    const IN_ORIGINAL: bool = true;
+
     /// Where errors of the reference sit that this call can show.
     const PLACES: &'static [Place];
 
