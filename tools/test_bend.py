@@ -21,7 +21,7 @@ sys.path[:0] = [HERE, os.path.join(ROOT, "examples")]
 
 import bend  # noqa: E402
 import make  # noqa: E402
-from bendfile import answers, as_json, binary, describe, numbers, picture, problem  # noqa: E402
+from bendfile import answers, as_json, binary, describe, numbers, picture, problem, svg  # noqa: E402
 from bendfile.axis import Axis  # noqa: E402
 
 NAN, INF, MINUS_INF = numbers.NAN, numbers.PLUS_INFINITY, numbers.MINUS_INFINITY
@@ -625,7 +625,7 @@ class Pictures(Folder):
         self.assertAlmostEqual(float(bar.get("width")), (570 - 178) / 1.1, delta=0.1)
         self.assertAlmostEqual(zero, 178 + (570 - 178) * 0.05 / 1.1, delta=0.1)
         bracket, arrow = strip.findall("{*}path")
-        self.assertIn(f"L{picture._n(zero)} ", bracket.get("d"))
+        self.assertIn(f"L{svg.place(zero)} ", bracket.get("d"))
         self.assertTrue(arrow.get("d").startswith("M570 ") and arrow.get("fill") == "none")
         self.assertEqual(strip.find("{*}title").text, "pad: load 2, bounds 0 to inf, Inside: closed, pushes.")
 

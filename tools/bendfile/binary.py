@@ -25,14 +25,12 @@ def encode(problem):
     return problem.before + struct.pack(f"<{len(values)}Q", *values) + trailer
 
 
-def decode(data):
-    """The problem in a file. A file that bendsolve refuses is refused here for the same reason, with the same number."""
-    if not TRAILER <= len(data) <= LARGEST_FILE:
-        found = f"over {LARGEST_FILE} bytes" if len(data) > LARGEST_FILE else f"{len(data)} bytes"
-        raise BadInput(f"length: found {found}; expected {TRAILER} to {LARGEST_FILE} (refused 1)")
-    start, rows, coordinates, count = struct.unpack("<IHHI", data[-TRAILER:-4])
-    if data[-4:] != MARK:
-        raise BadInput(f"mark: the last four bytes are {data[-4:].hex(' ').upper()}; expected 42 45 4E 44 (refused 2)")
+def trailer(data, end):
+    """Start, rows, coordinates and count of the trailer that ends at `end`: 2, 3 and the count rule of 4, in this order."""
+    start, rows, coordinates, count = struct.unpack("<IHHI", data[end - TRAILER : end - 4])
+    mark = data[end - 4 : end]
+    if mark != MARK:
+        raise BadInput(f"mark: the last four bytes are {mark.hex(' ').upper()}; expected 42 45 4E 44 (refused 2)")
     if rows > MOST_ROWS or rows * coordinates > MOST_MOTION:
         raise BadInput(
             f"trailer: found {rows} rows and {coordinates} coordinates, {rows * coordinates} motion values; "
@@ -41,6 +39,15 @@ def decode(data):
     wanted = rows * rows + 5 * rows + coordinates * rows + 1
     if count != wanted:
         raise BadInput(f"count: found {count}; {rows} rows and {coordinates} coordinates make {wanted} (refused 4)")
+    return start, rows, coordinates, count
+
+
+def decode(data):
+    """The problem in a file. A file that bendsolve refuses is refused here for the same reason, with the same number."""
+    if not TRAILER <= len(data) <= LARGEST_FILE:
+        found = f"over {LARGEST_FILE} bytes" if len(data) > LARGEST_FILE else f"{len(data)} bytes"
+        raise BadInput(f"length: found {found}; expected {TRAILER} to {LARGEST_FILE} (refused 1)")
+    start, rows, coordinates, count = trailer(data, len(data))
     if start + 8 * count + TRAILER != len(data):
         raise BadInput(f"length: start {start} and count {count} make {start + 8 * count + TRAILER} bytes; the file has {len(data)} (refused 4)")
     return _split(struct.unpack(f"<{count}Q", data[start:-TRAILER]), rows, coordinates, data[:start])

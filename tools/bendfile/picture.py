@@ -5,17 +5,16 @@ A state has a colour and a shape, so that the picture can be read without colour
 """
 
 import textwrap
-from xml.sax.saxutils import escape, quoteattr
+from xml.sax.saxutils import escape
 
-from . import numbers, tables
+from . import numbers, svg, tables
 from .axis import Axis
+from .svg import GREY, INK, RED, WIDTH, fitted, text
 
-WIDTH = 800
 PLOT_LEFT, PLOT_RIGHT = 178, 570
 WORDS = 584
 STRIP = 42
-FONT = "DejaVu Sans, Verdana, Helvetica, Arial, sans-serif"
-INK, GREY, RED, BAND = "#222222", "#767676", "#B00020", "#E3E6EA"
+BAND = "#E3E6EA"
 COLOURS = {"I": "#0072B2", "L": "#C77700", "H": "#7B3294", "Z": "#9A9A9A"}
 
 
@@ -41,47 +40,11 @@ def draw(answer, problem):
     return _document(body, last + 16, answer, problem)
 
 
-def text(x, y, words, size=13, fill=INK, anchor="start", bold=False):
-    weight = ' font-weight="bold"' if bold else ""
-    return f'<text x="{_n(x)}" y="{_n(y)}" font-size="{size}" fill="{fill}" text-anchor="{anchor}"{weight}>{escape(words)}</text>'
-
-
-def fitted(words, many):
-    """A name cut to the room it has; the whole name is in the strip's title."""
-    if tables.width(words) <= many:
-        return words
-    while tables.width(words) > many - 1:
-        words = words[:-1]
-    return words + "…"
-
-
-def _n(value):
-    """A place in the picture, to a tenth of a pixel."""
-    return f"{value:.1f}".rstrip("0").rstrip(".")
-
-
-def _line(x1, y1, x2, y2, colour, width=1):
-    return f'<line x1="{_n(x1)}" y1="{_n(y1)}" x2="{_n(x2)}" y2="{_n(y2)}" stroke="{colour}" stroke-width="{width}"/>'
-
-
-def _path(points, stroke, fill="none", width=2):
-    return f'<path d="{points}" fill="{fill}" stroke="{stroke}" stroke-width="{width}"/>'
-
-
-def _rect(x, y, width, height, fill):
-    return f'<rect x="{_n(x)}" y="{_n(y)}" width="{_n(width)}" height="{_n(height)}" fill="{fill}"/>'
-
-
 def _document(body, height, answer, problem):
     title = problem.labels.title or "Loads of the rows between their bounds"
     rows = " ".join(_sentence(answer, problem, i) for i in range(problem.rows))
     summary = f"{tables.headline(answer)}; {tables.counts(answer)}. {rows} {' '.join(tables.notes(answer, problem))}".strip()
-    head = (
-        f'<svg xmlns="http://www.w3.org/2000/svg" width="{WIDTH}" height="{_n(height)}" viewBox="0 0 {WIDTH} {_n(height)}" '
-        f'role="img" aria-labelledby="picture-title picture-summary" font-family={quoteattr(FONT)}>'
-    )
-    names = f'<title id="picture-title">{escape(title)}</title>\n<desc id="picture-summary">{escape(summary)}</desc>'
-    return "\n".join([head, names, _rect(0, 0, WIDTH, height, "#FFFFFF"), *body, "</svg>"]) + "\n"
+    return svg.document(title, summary, body, height)
 
 
 def _with_unit(bits, problem):
@@ -116,14 +79,14 @@ def _legend(y, answer, axis):
         body += [_marker(x, y - 4, letter), text(x + 12, y, words, size=12)]
         x += 172
     y += 22
-    body += [_rect(14, y - 11, 44, 14, BAND), _bracket(14, y - 4, 1, 7), _bracket(58, y - 4, -1, 7), text(68, y, "from bound to bound", size=12)]
-    body += [_rect(222, y - 11, 30, 14, BAND), _arrow(252, y - 4, 1), text(268, y, "no bound on this side", size=12)]
+    body += [svg.rect(14, y - 11, 44, 14, BAND), _bracket(14, y - 4, 1, 7), _bracket(58, y - 4, -1, 7), text(68, y, "from bound to bound", size=12)]
+    body += [svg.rect(222, y - 11, 30, 14, BAND), _arrow(252, y - 4, 1), text(268, y, "no bound on this side", size=12)]
     x = 428
     if axis.cut:
-        body += [_rect(x, y - 11, 24, 14, BAND), _arrow(x + 24, y - 4, 1, filled=True), text(x + 40, y, "bound outside the picture", size=12)]
+        body += [svg.rect(x, y - 11, 24, 14, BAND), _arrow(x + 24, y - 4, 1, filled=True), text(x + 40, y, "bound outside the picture", size=12)]
         x += 212
     if answer.fights:
-        body += [_rect(x, y - 12, 22, 16, "#FBE4E4"), _rect(x, y - 12, 4, 16, RED), text(x + 28, y, "fights", size=12, fill=RED, bold=True)]
+        body += [svg.rect(x, y - 12, 22, 16, "#FBE4E4"), svg.rect(x, y - 12, 4, 16, RED), text(x + 28, y, "fights", size=12, fill=RED, bold=True)]
     return body, y + 28
 
 
@@ -133,7 +96,7 @@ def _axis(axis, problem, top, bottom):
         return []
     body = [text(12, top - 8, tables.unit("load", problem.labels.load_unit), size=12)]
     for x, label, zero in axis.ticks():
-        body.append(_line(x, top - 2, x, bottom, "#555555" if zero else "#D4D4D4", 1.5 if zero else 1))
+        body.append(svg.line(x, top - 2, x, bottom, "#555555" if zero else "#D4D4D4", 1.5 if zero else 1))
         body.append(text(x, top - 8, label, size=11, anchor="middle"))
     return body
 
@@ -141,8 +104,8 @@ def _axis(axis, problem, top, bottom):
 def _background(answer, row, y):
     """Behind the grid: a row that fights is marked over its whole width."""
     if row in answer.fights:
-        return _rect(0, y + 1, WIDTH, STRIP - 2, "#FBE4E4") + _rect(0, y + 1, 4, STRIP - 2, RED)
-    return _line(12, y, WIDTH - 12, y, "#E8E8E8")
+        return svg.rect(0, y + 1, WIDTH, STRIP - 2, "#FBE4E4") + svg.rect(0, y + 1, 4, STRIP - 2, RED)
+    return svg.line(12, y, WIDTH - 12, y, "#E8E8E8")
 
 
 def _strip(answer, problem, axis, row, y):
@@ -169,7 +132,7 @@ def _box(problem, axis, row, y):
         return [_bracket(axis.place(v), y, inward, 13) for v, inward in sides]
     left = axis.place(lo) if axis.holds(lo) else PLOT_LEFT if lo < 0 else PLOT_RIGHT
     right = axis.place(hi) if axis.holds(hi) else PLOT_RIGHT if hi > 0 else PLOT_LEFT
-    parts = [_rect(left, y - 10, right - left, 20, BAND)]
+    parts = [svg.rect(left, y - 10, right - left, 20, BAND)]
     for value, at, inward in ((lo, left, 1), (hi, right, -1)):
         if axis.holds(value):
             parts.append(_bracket(at, y, inward, 13))
@@ -185,7 +148,7 @@ def _load(answer, axis, row, y):
         return [text(axis.place(0.0) + 8, y + 5, "NaN: no load", fill=RED, bold=True)]
     zero = axis.place(0.0)
     end = axis.place(load) if axis.holds(load) else PLOT_RIGHT if load > 0 else PLOT_LEFT
-    parts = [_rect(min(zero, end), y - 5, abs(end - zero), 10, COLOURS[letter])]
+    parts = [svg.rect(min(zero, end), y - 5, abs(end - zero), 10, COLOURS[letter])]
     return parts + [_marker(end, y, letter)]
 
 
@@ -193,24 +156,24 @@ def _marker(x, y, letter):
     """The state's mark: a disc inside, a triangle that points to the bound it is on, a ring where the row cannot act."""
     colour = COLOURS[letter]
     if letter == "I":
-        return f'<circle cx="{_n(x)}" cy="{_n(y)}" r="6" fill="{colour}" stroke="#FFFFFF" stroke-width="1.5"/>'
+        return f'<circle cx="{svg.place(x)}" cy="{svg.place(y)}" r="6" fill="{colour}" stroke="#FFFFFF" stroke-width="1.5"/>'
     if letter == "Z":
-        return f'<circle cx="{_n(x)}" cy="{_n(y)}" r="5" fill="#FFFFFF" stroke="{colour}" stroke-width="2.5"/>'
+        return f'<circle cx="{svg.place(x)}" cy="{svg.place(y)}" r="5" fill="#FFFFFF" stroke="{colour}" stroke-width="2.5"/>'
     tip = -8 if letter == "L" else 8
-    points = f"M{_n(x + tip)} {_n(y)} L{_n(x - tip * 0.6)} {_n(y - 8)} L{_n(x - tip * 0.6)} {_n(y + 8)} Z"
-    return _path(points, "#FFFFFF", fill=colour, width=1.5)
+    points = f"M{svg.place(x + tip)} {svg.place(y)} L{svg.place(x - tip * 0.6)} {svg.place(y - 8)} L{svg.place(x - tip * 0.6)} {svg.place(y + 8)} Z"
+    return svg.path(points, "#FFFFFF", fill=colour, width=1.5)
 
 
 def _bracket(x, y, inward, half):
     """A bound: a bracket open towards the inside of the box."""
     serif = 5 * inward
-    return _path(f"M{_n(x + serif)} {_n(y - half)} L{_n(x)} {_n(y - half)} L{_n(x)} {_n(y + half)} L{_n(x + serif)} {_n(y + half)}", INK)
+    return svg.path(f"M{svg.place(x + serif)} {svg.place(y - half)} L{svg.place(x)} {svg.place(y - half)} L{svg.place(x)} {svg.place(y + half)} L{svg.place(x + serif)} {svg.place(y + half)}", INK)
 
 
 def _arrow(x, y, side, filled=False):
     """No bound on this side: an open arrow. A filled one stands for a bound too far out to be drawn."""
-    points = f"M{_n(x)} {_n(y - 8)} L{_n(x + 8 * side)} {_n(y)} L{_n(x)} {_n(y + 8)}"
-    return _path(points + " Z" if filled else points, INK, fill=INK if filled else "none")
+    points = f"M{svg.place(x)} {svg.place(y - 8)} L{svg.place(x + 8 * side)} {svg.place(y)} L{svg.place(x)} {svg.place(y + 8)}"
+    return svg.path(points + " Z" if filled else points, INK, fill=INK if filled else "none")
 
 
 def _notes(answer, problem):
