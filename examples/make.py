@@ -18,7 +18,8 @@ import sys
 
 import drawing
 import rig
-from bendfile import answers, as_csv, as_json, binary, describe, numbers, output, picture, tables
+from bendfile import answers, as_csv, as_json, binary, chain, describe, numbers, output, picture, pull_picture, pull_tables, tables
+from bendfile import pull as pull_file
 
 HERE = os.path.dirname(os.path.abspath(__file__))
 RAM = 160.0
@@ -75,10 +76,11 @@ def pull(maker):
     """The same rig through a pull: the ram goes up in steps and comes back. A friction stop that slid grips the shaft at its new place."""
     supports = rig.six_pads() + rig.friction_stops()
     anchors = {s.name: 0.0 for s in supports if s.friction}
-    start, record = None, []
+    start, record, steps = None, [], []
     for i, ram in enumerate(PULL, 1):
         step = rig.load_step(f"Pull, step {i} of {len(PULL)}, ram {ram:g} N", supports, ram, anchors, start)
         problem, answer = maker.step(f"pull/step-{i}", step)
+        steps.append((problem, answer))
         start = [round(numbers.to_float(load), 4) for load in answer.loads]
         for s, slid in zip(supports, answers.row_sums(problem, answer)):
             if s.friction:
@@ -89,6 +91,16 @@ def pull(maker):
     writer.writerow(["step", "ram (N)"] + [f"{s.name} (N)" for s in supports] + ["states"])
     writer.writerows(record)
     maker.put("pull/loads.csv", sheet.getvalue())
+    chained(maker, *zip(*steps))
+
+
+def chained(maker, problems, found):
+    """The pull's steps in one file, with its table and its picture."""
+    data = chain.joined([binary.encode(problem) for problem in problems])
+    whole = pull_file.read(data)
+    maker.put("pull/pull.chain", data)
+    maker.put("pull/pull.table.txt", pull_tables.answer_table(whole, found))
+    maker.put("pull/pull.svg", pull_picture.draw(whole, found))
 
 
 def stops_that_fight(maker):

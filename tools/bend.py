@@ -6,6 +6,14 @@
     bend.py answer ANSWER.txt FILE.bend
     bend.py picture ANSWER.txt FILE.bend -o OUT.svg
 
+A whole pull in one file, its steps oldest first:
+
+    bend.py chain STEP.bend.. -o PULL
+    bend.py split PULL -o FOLDER
+    bend.py show PULL
+    bend.py answer ANSWER.txt.. PULL
+    bend.py picture ANSWER.txt.. PULL -o OUT.svg
+
 Exit status: 0 fine, 1 input that cannot be taken or output that cannot be written, 2 wrong usage.
 """
 
@@ -13,7 +21,7 @@ import argparse
 import os
 import sys
 
-from bendfile import answers, as_csv, as_json, binary, describe, numbers, output, picture, tables
+from bendfile import answers, as_csv, as_json, binary, chain, describe, numbers, output, picture, pull, pull_picture, pull_tables, tables
 from bendfile.problem import LARGEST_FILE, BadInput, check_scales, warnings
 
 READERS = {"json": as_json.read, "csv": as_csv.read}
@@ -39,19 +47,33 @@ def named(path, call, *arguments):
 
 
 def load_bend(path):
-    """A bend file, and how many bytes it has. One byte over the largest file is read, to find that it is too long."""
+    """A bend file's bytes and its problem. One byte over the largest file is read, to find that it is too long."""
     data = load(path, LARGEST_FILE + 1)
-    return named(path, binary.decode, data), len(data)
+    return data, named(path, binary.decode, data)
 
 
-def load_answer(path, bend):
-    answer = named(path, answers.read, load(path))
-    problem = None
+def load_pull(path):
+    """A pull; a single bend file is one of one step."""
+    return named(path, pull.read, load(path, chain.LARGEST_PULL + 1))
+
+
+def load_answers(paths):
+    """The answers in the files, in their order. A file may hold several, as several runs of bendsolve print them."""
+    return [(path, answer) for path in paths for answer in named(path, answers.read_all, load(path))]
+
+
+def load_steps(paths):
+    """Answers and the steps they answer: one answer file alone, or answer files and then a bend file or a pull."""
+    found = load_answers(paths[:-1] or paths)
     # A file that bendsolve refused may be one that cannot be read here either; its answer is shown all the same.
-    if bend is not None and answer.outcome != "refused":
-        problem, _ = load_bend(bend)
+    if len(paths) == 1 or (len(found) == 1 and found[0][1].outcome == "refused"):
+        return None, [answer for _, answer in found]
+    steps = load_pull(paths[-1])
+    if len(found) != len(steps.problems):
+        raise BadInput(f"{paths[-1]}: found {len(found)} answers to {tables.counted(len(steps.problems), 'step')}; expected one per step")
+    for (path, answer), problem in zip(found, steps.problems):
         named(path, answers.check_belongs, answer, problem)
-    return answer, problem
+    return steps, [answer for _, answer in found]
 
 
 def make(options):
@@ -81,27 +103,66 @@ def _made(reader, data, options, free):
 
 
 def show(options):
-    problem, size = load_bend(options.file)
-    if options.form == "json":
-        shown = as_json.write(describe.texts(problem))
-    elif options.form == "csv":
-        shown = as_csv.write(describe.texts(problem))
+    steps = load_pull(options.file)
+    if steps.places is None or options.step is not None:
+        shown = _shown_step(options, *_chosen(steps, options))
+    elif options.form:
+        options.parser.error(f"{options.file}: is a pull; --{options.form} is of one step, so expected --step and its number")
     else:
-        shown = tables.show(problem, size, _number_text(options))
+        shown = named(options.file, pull_tables.show, steps, _number_text(options))
     output.write(options.output, shown.encode("utf-8"))
 
 
+def _chosen(steps, options):
+    """The problem of the step that is asked for, and how many bytes it has."""
+    number = 1 if options.step is None else options.step
+    if not 1 <= number <= len(steps.problems):
+        raise BadInput(f"{options.file}: --step {number}; expected 1 to {len(steps.problems)}")
+    place = steps.places[number - 1] if steps.places else None
+    return steps.problems[number - 1], place.end - place.linked if place else steps.size
+
+
+def _shown_step(options, problem, size):
+    if options.form:
+        return {"json": as_json, "csv": as_csv}[options.form].write(describe.texts(problem))
+    return tables.show(problem, size, _number_text(options))
+
+
+def chain_(options):
+    chain.check_number(len(options.files))
+    if os.path.realpath(options.output) in map(os.path.realpath, options.files):
+        options.parser.error(f"{options.output}: is one of the steps; expected another name")
+    files = [load_bend(path)[0] for path in options.files]
+    output.write(options.output, named(options.output, chain.joined, files, options.free))
+
+
+def split(options):
+    data = load(options.file, chain.LARGEST_PULL + 1)
+    files = named(options.file, chain.cut, data, options.free)
+    output.write_folder(options.output, [(f"step-{i:02}.bend", part) for i, part in enumerate(files, 1)])
+
+
 def answer_(options):
-    answer, problem = load_answer(options.answer, options.file)
-    shown = tables.answer_table(answer, problem, _number_text(options))
+    steps, found = load_steps(options.files)
+    text = _number_text(options)
+    if steps is not None and steps.places is not None:
+        shown = named(options.files[-1], pull_tables.answer_table, steps, found, text)
+    else:
+        shown = "\n".join(tables.answer_table(answer, steps.problems[0] if steps else None, text) for answer in found)
     output.write(options.output, shown.encode("utf-8"))
 
 
 def picture_(options):
-    answer, problem = load_answer(options.answer, options.file)
-    if answer.outcome == "refused":
-        raise BadInput(f"{options.answer}: {tables.headline(answer)}; there are no loads to draw")
-    output.write(options.output, picture.draw(answer, problem).encode("utf-8"))
+    if len(options.files) < 2:
+        options.parser.error("expected ANSWER.txt and the bend file or pull that it answers")
+    steps, found = load_steps(options.files)
+    if steps is None:
+        raise BadInput(f"{options.files[0]}: {tables.headline(found[0])}; there are no loads to draw")
+    if steps.places is not None:
+        drawn = named(options.files[-1], pull_picture.draw, steps, found)
+    else:
+        drawn = picture.draw(found[0], steps.problems[0])
+    output.write(options.output, drawn.encode("utf-8"))
 
 
 def _number_text(options):
@@ -114,7 +175,9 @@ def parser():
     _make_options(commands.add_parser("make", help="make a bend file from a JSON or CSV description"))
     _show_options(commands.add_parser("show", help="show a bend file as tables, or as a description"))
     _answer_options(commands.add_parser("answer", help="show bendsolve's answer as a table"))
-    _picture_options(commands.add_parser("picture", help="draw an answer's loads between their bounds"))
+    _picture_options(commands.add_parser("picture", help="draw an answer's loads between their bounds, or a pull's over its steps"))
+    _chain_options(commands.add_parser("chain", help="put the bend files of a pull into one file"))
+    _split_options(commands.add_parser("split", help="cut a pull into its bend files"))
     return top
 
 
@@ -130,17 +193,17 @@ def _make_options(command):
 
 
 def _show_options(command):
-    command.add_argument("file", metavar="FILE.bend", help="a bend file, or -")
+    command.add_argument("file", metavar="FILE", help="a bend file or a pull, or -")
+    command.add_argument("--step", type=int, metavar="N", help="one step of a pull, counted from 1, the oldest")
     form = command.add_mutually_exclusive_group()
     form.add_argument("--json", dest="form", action="store_const", const="json", help="the JSON description")
     form.add_argument("--csv", dest="form", action="store_const", const="csv", help="the CSV description")
     _table_options(command)
-    command.set_defaults(call=show)
+    command.set_defaults(call=show, parser=command)
 
 
 def _answer_options(command):
-    command.add_argument("answer", metavar="ANSWER.txt", help="what bendsolve printed, or -")
-    command.add_argument("file", metavar="FILE.bend", nargs="?", help="the bend file it answers: names, bounds and motions")
+    command.add_argument("files", metavar="FILE", nargs="+", help="what bendsolve printed, or -; last the bend file or the pull that is answered")
     _table_options(command)
     command.set_defaults(call=answer_)
 
@@ -151,10 +214,27 @@ def _table_options(command):
 
 
 def _picture_options(command):
-    command.add_argument("answer", metavar="ANSWER.txt", help="what bendsolve printed, or -")
-    command.add_argument("file", metavar="FILE.bend", help="the bend file it answers")
+    command.add_argument("files", metavar="FILE", nargs="+", help="what bendsolve printed, or -; last the bend file or the pull that is answered")
     command.add_argument("-o", "--output", required=True, metavar="OUT.svg", help="the SVG file to write, or -")
-    command.set_defaults(call=picture_)
+    command.set_defaults(call=picture_, parser=command)
+
+
+def _chain_options(command):
+    command.add_argument("files", metavar="STEP.bend", nargs="+", help="the steps' bend files, oldest first")
+    command.add_argument("-o", "--output", required=True, metavar="PULL", help="the chained file to write, or -")
+    _free_option(command)
+    command.set_defaults(call=chain_, parser=command)
+
+
+def _split_options(command):
+    command.add_argument("file", metavar="PULL", help="a chained bend file, or -")
+    command.add_argument("-o", "--output", required=True, metavar="FOLDER", help="a new folder for step-01.bend and so on, oldest first")
+    _free_option(command)
+    command.set_defaults(call=split)
+
+
+def _free_option(command):
+    command.add_argument("--no-free", dest="free", action="store_false", help="leave out the free bytes, names and units among them")
 
 
 def main(arguments=None):

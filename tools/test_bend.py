@@ -1,122 +1,25 @@
 """Tests of bend.py. From the repository's folder: python3 -m unittest tools/test_bend.py"""
 
-import contextlib
 import csv
-import io
 import json
 import os
 import random
 import struct
 import subprocess
 import sys
-import tempfile
 import unittest
 import xml.etree.ElementTree as ElementTree
 from fractions import Fraction
 from unittest import mock
 
-HERE = os.path.dirname(os.path.abspath(__file__))
-ROOT = os.path.dirname(HERE)
-sys.path[:0] = [HERE, os.path.join(ROOT, "examples")]
+sys.path.insert(0, os.path.dirname(os.path.abspath(__file__)))
 
-import bend  # noqa: E402
+from fixtures import BOUNDARY, EXAMPLE, EXAMPLE_ANSWER, EXAMPLE_BYTES, FIGHT_ANSWER, HERE, INF, MINUS_INF, NAN, ROOT  # noqa: E402
+from fixtures import Folder, run, some_bits, some_problem  # noqa: E402
+
 import make  # noqa: E402
 from bendfile import answers, as_json, binary, describe, numbers, picture, problem, svg  # noqa: E402
 from bendfile.axis import Axis  # noqa: E402
-
-NAN, INF, MINUS_INF = numbers.NAN, numbers.PLUS_INFINITY, numbers.MINUS_INFINITY
-
-# Zeros, infinities, the least and the greatest subnormal and normal numbers, one and its neighbours, and NaNs of several patterns.
-BOUNDARY = [0, 1, 1 << 63, (1 << 63) | 1, INF, MINUS_INF, NAN, 0xFFF8000000000000, 0x7FF0000000000001, 0x7FFFFFFFFFFFFFFF, 0xFFF123456789ABCD]
-BOUNDARY += [0x000FFFFFFFFFFFFF, 0x0010000000000000, 0x7FEFFFFFFFFFFFFF, 0xFFEFFFFFFFFFFFFF, 0x3FEFFFFFFFFFFFFF, 0x3FF0000000000000, 0x3FF0000000000001]
-
-# Document 01's example: n = 1, W 2, u_free -4, lo 0, hi +inf, scale 1, nu 0, motion 1, tolerance 0.
-EXAMPLE = {"rows": [{"name": "pad", "kind": "contact", "scale": 1, "free_motion": -4}], "matrix": [[2]], "motion": [[1]], "tolerance": 0}
-EXAMPLE_BYTES = bytes.fromhex(
-    "0000000000000040 00000000000010C0 0000000000000000 000000000000F07F 000000000000F03F 0000000000000000 000000000000F03F 0000000000000000"
-    "00000000 0100 0100 08000000 42454E44"
-)
-EXAMPLE_ANSWER = b"solved\nsweeps 1 passes 1 converged 1 exact 1 idle 0 residual 0000000000000000\nrow 0 I 4000000000000000\n"
-FIGHT_ANSWER = (
-    b"infeasible pass\nsweeps 1 passes 1 converged 0 exact 0 idle 0 residual 4000000000000000\n"
-    b"row 0 I 3FF0000000000000\nrow 1 I 4000000000000000\nfights 0 1\n"
-)
-
-
-class Stream(io.TextIOWrapper):
-    """A standard stream that keeps its bytes."""
-
-    def __init__(self, data=b""):
-        super().__init__(io.BytesIO(data), encoding="utf-8")
-
-    def bytes(self):
-        self.flush()
-        return self.buffer.getvalue()
-
-
-def run(*arguments, stdin=b""):
-    """Exit status, standard output and standard error of one call."""
-    out, err, before = Stream(), Stream(), sys.stdin
-    sys.stdin = Stream(stdin)
-    try:
-        with contextlib.redirect_stdout(out), contextlib.redirect_stderr(err):
-            try:
-                status = bend.main([str(a) for a in arguments])
-            except SystemExit as ended:
-                status = ended.code
-    finally:
-        sys.stdin = before
-    return status, out.bytes(), err.bytes().decode("utf-8")
-
-
-def some_bits(source):
-    """A number: often one of the boundary values, else any pattern or an ordinary value."""
-    choice = source.random()
-    if choice < 0.3:
-        return source.choice(BOUNDARY)
-    return source.getrandbits(64) if choice < 0.7 else numbers.to_bits(source.uniform(-100, 100))
-
-
-def some_problem(source, rows, coordinates, before=b""):
-    def line():
-        return [some_bits(source) for _ in range(rows)]
-
-    parts = [line() for _ in range(5)]
-    for i in range(rows):
-        # Contact and friction boxes by chance are rare; the descriptions write them in forms of their own.
-        kind = source.randrange(4)
-        if kind == 0:
-            parts[1][i], parts[2][i] = 0, INF
-        elif kind == 1:
-            parts[2][i] = source.choice([0, 1, numbers.to_bits(12.5), 0x7FEFFFFFFFFFFFFF])
-            parts[1][i] = parts[2][i] | numbers.SIGN
-    matrix, motion = [line() for _ in range(rows)], [line() for _ in range(coordinates)]
-    return problem.Problem(matrix, *parts, motion, some_bits(source), before=before)
-
-
-class Folder(unittest.TestCase):
-    """Tests that write files."""
-
-    def setUp(self):
-        kept = tempfile.TemporaryDirectory()
-        self.addCleanup(kept.cleanup)
-        self.folder = kept.name
-        # Waiting for the disk after each of some hundred files would take most of the tests' time.
-        quick = mock.patch("os.fsync")
-        self.fsync = quick.start()
-        self.addCleanup(quick.stop)
-
-    def path(self, name):
-        return os.path.join(self.folder, name)
-
-    def put(self, name, data):
-        with open(self.path(name), "wb") as out:
-            out.write(data if isinstance(data, bytes) else json.dumps(data).encode())
-        return self.path(name)
-
-    def get(self, name):
-        with open(self.path(name), "rb") as file:
-            return file.read()
 
 
 class Numbers(unittest.TestCase):
@@ -485,6 +388,8 @@ REFUSAL_WORDS = {
     11: "tally's increments, sweeps or passes have no room",
     12: "least norm: more than 32 rows or columns",
     13: "sum of a count is above 4,294,967,295",
+    14: "fewer than four bytes before a step's numbers, or a link above its own offset",
+    15: "more than 40 steps, or none to write",
 }
 
 
@@ -643,7 +548,7 @@ class Pictures(Folder):
     def test_ticks(self):
         """Round values in their places, zero among them."""
         made = describe.build(as_json.read(json.dumps(EXAMPLE).encode()))
-        ticks = Axis(answers.read(EXAMPLE_ANSWER), made, 0, 110).ticks()
+        ticks = Axis(answers.read(EXAMPLE_ANSWER).loads, made.lo + made.hi, made.scale, 0, 110).ticks()
         self.assertEqual([(round(x, 6), label, zero) for x, label, zero in ticks], [(5 + 25 * k, f"{k / 2:g}", k == 0) for k in range(5)])
 
     def test_fights_and_idle(self):

@@ -21,7 +21,7 @@ CAUSES = {
     "sweep": "after a sweep, loads were found that can grow together without end",
 }
 
-# Document 01's table, in its order of checking. bendsolve itself answers 1 to 4 and 8; the others come from the library's calls.
+# Document 01's table and document 02's additions. bendsolve itself answers 1 to 4 and 8; the others come from the library's calls.
 REFUSALS = {
     1: "bend file: it has under 16 or over 65,536 bytes",
     2: "bend file: its last four bytes are not the mark 42 45 4E 44, so it is no bend file or is cut short",
@@ -36,11 +36,14 @@ REFUSALS = {
     11: "tallied solve: the tally's increments, sweeps or passes have no room for one more solve",
     12: "least norm: more than 32 rows or columns, a matrix, right side or solution of the wrong length, or a workspace under 1,056 places",
     13: "joining reports: the sum of a count is above 4,294,967,295",
+    14: "chained bend file: fewer than four bytes before a step's numbers, or a link above its own offset",
+    15: "chained bend file: more than 40 steps, or none to write",
 }
 
 _COUNT = "(0|[1-9][0-9]{0,9})"
 _REPORT = re.compile(f"sweeps {_COUNT} passes {_COUNT} converged ([01]) exact ([01]) idle {_COUNT} residual ([0-9A-F]{{16}})")
 _ROW = re.compile(f"row {_COUNT} ([ILHZ]) ([0-9A-F]{{16}})")
+_FIRST = re.compile(rb"^(?:solved|infeasible|refused)\b", re.MULTILINE)
 _FIGHTS = re.compile(f"fights( {_COUNT})+")
 
 
@@ -82,6 +85,22 @@ def read(data):
         _read_fights(answer, rows.pop() if rows else "", len(lines), len(rows))
     _read_rows(answer, rows)
     return answer
+
+
+def read_all(data):
+    """The answers in what several runs of bendsolve have printed, one after the other. No line within an answer looks like a first one."""
+    starts = [m.start() for m in _FIRST.finditer(data)]
+    if not starts or starts[0] != 0:
+        return [read(data)]
+    parts = [data[at:end] for at, end in zip(starts, [*starts[1:], len(data)])]
+    return [_numbered(i, part) for i, part in enumerate(parts, 1)] if len(parts) > 1 else [read(data)]
+
+
+def _numbered(number, data):
+    try:
+        return read(data)
+    except BadInput as wrong:
+        raise BadInput(f"answer {number}: {wrong}") from None
 
 
 def _lines(data):

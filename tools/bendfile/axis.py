@@ -13,16 +13,16 @@ TICKS = 6
 
 
 class Axis:
-    """From the least to the greatest value shown, zero always among them."""
+    """From the least to the greatest value shown, zero always among them. All numbers are given as bits."""
 
-    def __init__(self, answer, problem, left, right):
-        loads = [v for v in map(numbers.to_float, answer.loads) if _finite(v)]
-        bounds = [v for v in map(numbers.to_float, problem.lo + problem.hi) if _finite(v)]
+    def __init__(self, loads, bounds, scales, left, right):
+        loads = [v for v in map(numbers.to_float, loads) if _finite(v)]
+        bounds = [v for v in map(numbers.to_float, bounds) if _finite(v)]
         largest = max(map(abs, loads), default=0.0)
         within = [v for v in bounds if largest == 0 or abs(v) <= FURTHEST_BOUND * largest]
         values = loads + within
         if not any(values):
-            scales = [v for v in map(numbers.to_float, problem.scale) if _finite(v) and v > 0]
+            scales = [v for v in map(numbers.to_float, scales) if _finite(v) and v > 0]
             values = [max(scales, default=1.0)]
         self.low, self.high = min(0.0, *values), max(0.0, *values)
         self.unit = max(-self.low, self.high)

@@ -82,7 +82,10 @@ def label_bytes(labels):
 
 
 def read_labels(before, rows, coordinates):
-    """The labels in the bytes before the numbers, or None: those bytes are free, so whatever is not exactly labels is left alone."""
+    """The labels in the bytes before the numbers, or None: those bytes are free, so whatever is not exactly labels is left alone.
+
+    A chain of one step is a bend file whose free bytes end with the link, 0."""
+    before = before.removesuffix(bytes(4))
     if not before.startswith(LABELS_MARK):
         return None
     try:

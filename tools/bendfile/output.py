@@ -1,6 +1,7 @@
 """Writing a file whole or not at all."""
 
 import os
+import shutil
 import sys
 import tempfile
 
@@ -36,11 +37,37 @@ def write(path, data):
         raise
 
 
+def write_folder(path, files):
+    """Puts named files into a new folder: made under a temporary name beside the target and renamed, so that all of them are there or none."""
+    target = os.path.realpath(path)
+    if os.path.lexists(target) and not (os.path.isdir(target) and not os.listdir(target)):
+        raise BadInput(f"{path}: is there already; expected the name of a new folder, or of an empty one")
+    try:
+        temporary = tempfile.mkdtemp(prefix=".bend-", dir=os.path.dirname(target))
+    except OSError as wrong:
+        raise BadInput(f"{path}: cannot be written: {wrong.strerror}") from None
+    try:
+        for name, data in files:
+            write(os.path.join(temporary, name), data)
+        os.chmod(temporary, 0o777 & ~_mask())
+        os.rename(temporary, target)
+    except OSError as wrong:
+        shutil.rmtree(temporary)
+        raise BadInput(f"{path}: cannot be written: {wrong.strerror}") from None
+    except BaseException:
+        shutil.rmtree(temporary)
+        raise
+
+
+def _mask():
+    mask = os.umask(0)
+    os.umask(mask)
+    return mask
+
+
 def _mode(target):
     """The mode an ordinary new file would get, or the one the file already has: a temporary file starts out closed to others."""
     try:
         return os.stat(target).st_mode & 0o7777
     except FileNotFoundError:
-        mask = os.umask(0)
-        os.umask(mask)
-        return 0o666 & ~mask
+        return 0o666 & ~_mask()

@@ -21,7 +21,7 @@ COLOURS = {"I": "#0072B2", "L": "#C77700", "H": "#7B3294", "Z": "#9A9A9A"}
 def draw(answer, problem):
     """The picture, as the text of an SVG file."""
     body, y = _heading(answer, problem)
-    axis = Axis(answer, problem, PLOT_LEFT, PLOT_RIGHT)
+    axis = Axis(answer.loads, problem.lo + problem.hi, problem.scale, PLOT_LEFT, PLOT_RIGHT)
     legend, y = _legend(y, answer, axis)
     body += legend
     top = y + 24

@@ -1,0 +1,73 @@
+"""Tables of a whole pull: its steps, and how the loads go over them."""
+
+from . import numbers, tables
+from .tables import counted, headline, table, unit
+
+COLUMNS = 8
+
+
+def show(pull, text=numbers.short):
+    """The steps of a pull, and the free motion of each row over them."""
+    out = [f"A pull of {counted(len(pull.problems), 'step')}, {pull.size} bytes\n\n"]
+    header = ["step", "<title", "rows", "coordinates", "free bytes", "ends at byte"]
+    places = zip(pull.problems, pull.places, pull.titles())
+    lines = [[str(p.rows), str(len(p.motion)), str(at.free), str(at.end)] for p, at, _ in places]
+    out.append(table(header, [[str(i), title or "-", *line] for i, (title, line) in enumerate(zip(pull.titles(), lines), 1)]))
+    out.append(f"\n{unit('free motion', pull.unit('motion_unit'))} of each row over the pull\n")
+    out.append(_over(pull, lambda step, row: text(pull.problems[step].free_motion[row])))
+    return "".join(out)
+
+
+def answer_table(pull, answers, text=numbers.short):
+    """The answers of a pull: how each step ended, and the load of each row over the pull."""
+    out = [f"A pull of {counted(len(pull.problems), 'step')}\n\n"]
+    header = ["step", "<title", "<outcome", "sweeps", "passes", "residual", "<states"]
+    out.append(table(header, [_line(i, t, a) for i, (t, a) in enumerate(zip(pull.titles(), answers), 1)]))
+    out.append(f"\n{unit('load', pull.unit('load_unit'))} of each row over the pull\n")
+    out.append(_over(pull, lambda step, row: load_text(answers[step], row, text)))
+    out.extend(f"\n{note}\n" for note in notes(pull, answers))
+    return "".join(out)
+
+
+def notes(pull, answers):
+    """What a reader must know before using the numbers, step by step."""
+    found = []
+    for step, (problem, answer) in enumerate(zip(pull.problems, answers), 1):
+        told = [tables.headline(answer)] if answer.outcome == "refused" else tables.notes(answer, problem)
+        found += [f"Step {step}: {note}" for note in told]
+    return found
+
+
+def usable(answer):
+    """Whether an answer's loads are loads of the rig."""
+    return answer.outcome == "solved" and answer.converged
+
+
+def load_text(answer, row, text):
+    """A load in the table. What is no load of the rig stands in brackets; a refused step has none."""
+    if answer.outcome == "refused":
+        return "-"
+    shown = text(answer.loads[row])
+    return shown if usable(answer) and not numbers.is_nan(answer.loads[row]) else f"({shown})"
+
+
+def _line(number, title, answer):
+    if answer.outcome == "refused":
+        return [str(number), title or "-", f"refused {answer.number}", "-", "-", "-", "-"]
+    ended = f"infeasible ({answer.cause})" if answer.outcome == "infeasible" else headline(answer)
+    return [str(number), title or "-", ended, str(answer.sweeps), str(answer.passes), numbers.short(answer.residual), "".join(answer.states) or "-"]
+
+
+def _over(pull, cell):
+    """One line per step and one column per row, a few columns at a time, so that a line fits a screen."""
+    names = pull.names()
+    places = {name: pull.rows(name) for name in names}
+    shown = []
+    for at in range(0, len(names), COLUMNS):
+        part = names[at : at + COLUMNS]
+        lines = []
+        for step in range(len(pull.problems)):
+            rows = [places[name][step] for name in part]
+            lines.append([str(step + 1), *("" if row is None else cell(step, row) for row in rows)])
+        shown.append(table(["step", *part], lines))
+    return "\n".join(shown) or "(no rows)\n"
