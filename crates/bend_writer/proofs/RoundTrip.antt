@@ -6,9 +6,9 @@ use mathlib.Core.List.{List, [], _∷_, _++_, append-nil, map, reverse, reverse-
 use native.Mathlib.Omega.{arith}
 use native.Mathlib.Nat.{add-zero, add-suc}
 use lib.Dec.{leb, eqb}
-use lib.Ieee.{Float, nan}
+use lib.Ieee.{Float, nan, fits}
 use lib.ListN.{length, getD, take, drop, take-append-drop}
-use lib.Seq.{append-snoc, take-append-le, take-all, take-at}
+use lib.Seq.{append-snoc, take-append-le, take-all, take-at, getD-drop}
 use borrow.Author.Tests.{ne-eqb, eqb-true, leb-true}
 use Rattle.floats.specs.Ops.{Fits}
 use Rattle.loops.specs.Loops.{tab, turns}
@@ -17,9 +17,9 @@ use Rattle.loops.proofs.Fill.{tab-length}
 use Rattle.bend_file.specs.Little.{over}
 use Rattle.bend_file.specs.Read.{Problem}
 use Rattle.bend_file.specs.Chain as chain
-use Rattle.bend_writer.specs.RoundTrip.{problemOf, nothing, Held, ReadsBack, WrittenReadsBack}
+use Rattle.bend_writer.specs.RoundTrip.{problemOf, nothing, Held, ReadsBack, WrittenReadsBack, LentReadsBack}
 use Rattle.bend_writer.specs.Steps.{Step, stepBytes, chained, file, stepNumber, stepsNumber, several, number}
-use Rattle.bend_writer.specs.Write.{Answer, refused, written, answer, result, left, Writes}
+use Rattle.bend_writer.specs.Write.{part, before, stepAt, lent, Answer, refused, written, answer, result, left, Writes}
 use Rattle.bend_writer.specs.declared.Written.{Written}
 use Rattle.bend_writer.specs.declared.Written.the-variants.{Refused, Bytes}
 use Rattle.bend_writer.proofs.Chained.{tab-suc, file-snoc, length-suc, front-length, step-kept, both-none}
@@ -85,17 +85,17 @@ module _ (f : ℕ → Step) (n : ℕ) (kept : stepsNumber (tab f n) ≡ 0) (few 
       sym (take-append-drop (end (suc m)) whole) ∙ ap (λ (t : List ℕ). t ++ drop (end (suc m)) whole) (front (suc m) h ∙ e)
 
   module _ (m : ℕ) (h : m < n) where
-    fits : end (suc m) ≤ 1048576
-    fits = omega (arith, bound (suc m) h)
+    inside : end (suc m) ≤ 1048576
+    inside = omega (arith, bound (suc m) h)
 
     rules : chain.stepNumber whole (end (suc m)) ≡ 0
-    rules = number-is whole (file (tab f m)) (drop (end (suc m)) whole) (f m) (split m h) (end (suc m)) (length-suc f m) (kept-at m h) fits
+    rules = number-is whole (file (tab f m)) (drop (end (suc m)) whole) (f m) (split m h) (end (suc m)) (length-suc f m) (kept-at m h) inside
 
     link : chain.link whole (end (suc m)) ≡ end m
-    link = link-is whole (file (tab f m)) (drop (end (suc m)) whole) (f m) (split m h) (end (suc m)) (length-suc f m) (kept-at m h) fits
+    link = link-is whole (file (tab f m)) (drop (end (suc m)) whole) (f m) (split m h) (end (suc m)) (length-suc f m) (kept-at m h) inside
 
     problem : chain.stepProblem whole (end (suc m)) ≡ problemOf (f m)
-    problem = problem-is whole (file (tab f m)) (drop (end (suc m)) whole) (f m) (split m h) (end (suc m)) (length-suc f m) (kept-at m h) fits (held m)
+    problem = problem-is whole (file (tab f m)) (drop (end (suc m)) whole) (f m) (split m h) (end (suc m)) (length-suc f m) (kept-at m h) inside (held m)
 
     turned : (steps : List ℕ) → chain.turn whole 0 (chain.at (end (suc m)) steps) ≡ chain.follow (end m) (steps ++ (end (suc m) ∷ []))
     unfolding chain.turn chain.step
@@ -165,3 +165,41 @@ written-reads-back l bytes out after held w =
     let b = bytes-are l (length out) bytes (w .result) in
     let e : take bytes after ≡ file l = rw (w .output, left-written l (length out) bytes (w .result) out, b) (take-at (file l) (drop (length (file l)) out) (length (file l)) refl) in
     rw e (reads-file l (k .0) (k .1 .kept) held)
+
+-- ---- what is lent
+
+nan-fits : Fits nan
+unfolding fits
+nan-fits = tt
+
+each-taken : (l : List Float) → ((j : ℕ) → Fits (getD l j nan)) → (n i : ℕ) → Fits (getD (take n l) i nan)
+each-taken l h zero i = nan-fits
+each-taken [] h (suc n) i = nan-fits
+each-taken (x ∷ l) h (suc n) zero = h 0
+each-taken (x ∷ l) h (suc n) (suc i) = each-taken l (λ (j : ℕ). h (suc j)) n i
+
+each-of-part : (values : List Float) → ((j : ℕ) → Fits (getD values j nan)) → (from count i : ℕ) → Fits (getD (part values from count) i nan)
+unfolding part
+each-of-part values h from count i = go (leb (from + count) (length values))
+  where
+    go : (b : Bool) → Fits (getD (cond b (take count (drop from values)) []) i nan)
+    go true = each-taken (drop from values) (λ (j : ℕ). rw (getD-drop from values j nan) (h (from + j))) count i
+    go false = nan-fits
+
+module _ (f : ℕ → Step) (h : (k i : ℕ) → Fits (getD (f k .values) i nan)) where
+  each-of-snoc : (l : List Step) (n : ℕ) → Held l → Held (l ++ (f n ∷ []))
+  each-of-snoc [] n held zero i = h n i
+  each-of-snoc [] n held (suc k) i = nan-fits
+  each-of-snoc (t ∷ l) n held zero i = held 0 i
+  each-of-snoc (t ∷ l) n held (suc k) i = each-of-snoc l n (λ (j m : ℕ). held (suc j) m) k i
+
+  each-of-tab : (n : ℕ) → Held (tab f n)
+  unfolding tab turns
+  each-of-tab zero k i = nan-fits
+  each-of-tab (suc n) k i = each-of-snoc (tab f n) n (each-of-tab n) k i
+
+pub lent-reads-back : LentReadsBack
+unfolding lent stepAt
+lent-reads-back steps rows coords counts values bytes out after h w =
+    written-reads-back (lent steps rows coords counts values) bytes out after
+    (each-of-tab (stepAt rows coords counts values) (λ (k i : ℕ). each-of-part values h (before counts k) (getD counts k 0) i) steps) w

@@ -8,7 +8,7 @@ use Rattle.floats.specs.Ops.{Fits}
 use Rattle.bend_file.specs.Read.{Problem}
 use Rattle.bend_file.specs.Chain.{taken, pull}
 use Rattle.bend_writer.specs.Steps.{Step}
-use Rattle.bend_writer.specs.Write.{Answer, written, answer, Writes}
+use Rattle.bend_writer.specs.Write.{lent, Answer, written, answer, Writes}
 use Rattle.bend_writer.specs.declared.Written.the-variants.{Bytes}
 
 -- `count` values of a step from number `first` on
@@ -47,3 +47,9 @@ ReadsBack = (l : List Step) (room : ℕ) (f : List ℕ) → Held l → answer l 
 -- the same of the code, of which nothing is known but the contract of the writer: the bytes that it says it wrote
 abbrev pub WrittenReadsBack : Type 0
 WrittenReadsBack = (l : List Step) (bytes : ℕ) (out after : List ℕ) → Held l → Writes l (Bytes bytes) out after → pull (take bytes after) ≡ taken (reverse (map problemOf l))
+
+-- the same of what `write_chain` and `write_steps` are lent
+abbrev pub LentReadsBack : Type 0
+LentReadsBack =
+    (steps : ℕ) (rows coords counts : List ℕ) (values : List Float) (bytes : ℕ) (out after : List ℕ) → ((i : ℕ) → Fits (getD values i nan)) → Writes (lent steps rows coords counts values) (Bytes bytes) out after
+    → pull (take bytes after) ≡ taken (reverse (map problemOf (lent steps rows coords counts values)))

@@ -34,7 +34,9 @@ step-number-requires : tie.Need-step-number-requires Inv-loop μ-loop
 step-number-requires c κs = search needs
 
 returns : tie.Need-returns Inv-loop μ-loop
-returns c = seen-refused _ _ _ _ _ _ _ _ _ _ _ (c .before .before .before .before .before .before .before .loop .inv .1) (c .before .before .before .before .before .number .ensures) (c .before .before .before .before .number2 .ensures) (c .before .before .before .number3 .ensures) (c .before .before .had .ensures) (c .before .step-number .ensures) _ (c .before .before .before .before .before .before .loop-test .taken) (c .if1 .taken)
+returns c =
+    let inv = c .before .before .before .before .before .before .before .loop .inv .1 in
+    seen-refused _ _ _ _ _ _ _ _ _ _ _ inv (c .before .before .before .before .before .number .ensures) (c .before .before .before .before .number2 .ensures) (c .before .before .before .number3 .ensures) (c .before .before .had .ensures) (c .before .step-number .ensures) _ (c .before .before .before .before .before .before .loop-test .taken) (c .if1 .taken)
 
 add-from : tie.Need-add-from Inv-loop μ-loop
 add-from c = omega (arith, seen-inside _ _ _ _ _ _ _ _ _ _ _ (c .before .before .before .before .before .before .before .loop .inv .1) (c .before .before .before .before .before .number .ensures) (c .before .before .before .before .number2 .ensures) (c .before .before .before .number3 .ensures) (c .before .before .had .ensures) (c .before .step-number .ensures) (c .if1 .left))

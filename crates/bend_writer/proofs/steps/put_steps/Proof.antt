@@ -30,16 +30,24 @@ put-step-requires : tie.Need-put-step-requires Inv-loop μ-loop
 put-step-requires c κs = placed-fits _ _ _ _ _ _ _ _ _ _ _ (c .before .before .before .before .before .before .before .before .before .before .before .pre) (c .before .before .before .before .loop-test .taken) (c .before .before .before .before .before .loop .inv .2) (c .before .before .before .number .ensures) (c .before .before .before .before .before .loop .inv .1)
 
 mul-at : tie.Need-mul-at Inv-loop μ-loop
-mul-at c = omega (arith, placed-room _ _ _ _ _ _ _ _ _ _ _ (c .before .before .before .before .before .before .before .before .before .before .before .before .before .before .pre) (c .before .before .before .before .before .before .before .loop-test .taken) (c .before .before .before .before .before .before .before .before .loop .inv .2) (c .before .before .before .before .before .before .number .ensures))
+mul-at c =
+    let room = c .before .before .before .before .before .before .before .before .before .before .before .before .before .before .pre in
+    omega (arith, placed-room _ _ _ _ _ _ _ _ _ _ _ room (c .before .before .before .before .before .before .before .loop-test .taken) (c .before .before .before .before .before .before .before .before .loop .inv .2) (c .before .before .before .before .before .before .number .ensures))
 
 add-at : tie.Need-add-at Inv-loop μ-loop
-add-at c = omega (arith, placed-room _ _ _ _ _ _ _ _ _ _ _ (c .before .before .before .before .before .before .before .before .before .before .before .before .before .before .pre) (c .before .before .before .before .before .before .before .loop-test .taken) (c .before .before .before .before .before .before .before .before .loop .inv .2) (c .before .before .before .before .before .before .number .ensures))
+add-at c =
+    let room = c .before .before .before .before .before .before .before .before .before .before .before .before .before .before .pre in
+    omega (arith, placed-room _ _ _ _ _ _ _ _ _ _ _ room (c .before .before .before .before .before .before .before .loop-test .taken) (c .before .before .before .before .before .before .before .before .loop .inv .2) (c .before .before .before .before .before .before .number .ensures))
 
 add-at-2 : tie.Need-add-at-2 Inv-loop μ-loop
-add-at-2 c = omega (arith, placed-room _ _ _ _ _ _ _ _ _ _ _ (c .before .before .before .before .before .before .before .before .before .before .before .before .before .before .pre) (c .before .before .before .before .before .before .before .loop-test .taken) (c .before .before .before .before .before .before .before .before .loop .inv .2) (c .before .before .before .before .before .before .number .ensures))
+add-at-2 c =
+    let room = c .before .before .before .before .before .before .before .before .before .before .before .before .before .before .pre in
+    omega (arith, placed-room _ _ _ _ _ _ _ _ _ _ _ room (c .before .before .before .before .before .before .before .loop-test .taken) (c .before .before .before .before .before .before .before .before .loop .inv .2) (c .before .before .before .before .before .before .number .ensures))
 
 add-from : tie.Need-add-from Inv-loop μ-loop
-add-from c = omega (arith, placed-inside _ _ _ _ _ _ _ _ _ _ _ (c .before .before .before .before .before .before .before .before .before .before .before .before .before .before .pre) (c .before .before .before .before .before .before .before .loop-test .taken) (c .before .before .before .before .before .before .before .before .loop .inv .2) (c .before .before .before .before .before .before .number .ensures))
+add-from c =
+    let room = c .before .before .before .before .before .before .before .before .before .before .before .before .before .before .pre in
+    omega (arith, placed-inside _ _ _ _ _ _ _ _ _ _ _ room (c .before .before .before .before .before .before .before .loop-test .taken) (c .before .before .before .before .before .before .before .before .loop .inv .2) (c .before .before .before .before .before .before .number .ensures))
 
 add-i : tie.Need-add-i Inv-loop μ-loop
 add-i c = search needs
