@@ -114,8 +114,24 @@ pub fn read_step(
     motion: &mut [f64],
 ) -> StepReading
     ensures { λ r. ⌜ def.ReadsStep (now (file .entry)) step r
-        (record { w = now (w .entry); uFree = now («u_free» .entry); lo = now (lo .entry); hi = now (hi .entry); scale = now (scale .entry); nu = now (nu .entry); motion = now (motion .entry) })
-        (record { w = now (w .exit); uFree = now («u_free» .exit); lo = now (lo .exit); hi = now (hi .exit); scale = now (scale .exit); nu = now (nu .exit); motion = now (motion .exit) }) ⌝ }
+        (record {
+          w = now (w .entry);
+          uFree = now («u_free» .entry);
+          lo = now (lo .entry);
+          hi = now (hi .entry);
+          scale = now (scale .entry);
+          nu = now (nu .entry);
+          motion = now (motion .entry);
+        })
+        (record {
+          w = now (w .exit);
+          uFree = now («u_free» .exit);
+          lo = now (lo .exit);
+          hi = now (hi .exit);
+          scale = now (scale .exit);
+          nu = now (nu .exit);
+          motion = now (motion .exit);
+        }) ⌝ }
 {
     if !wide(
         w.len(),

@@ -39,14 +39,20 @@ pub fn boxes(
     scale: &mut [f64],
     nu: &mut [f64],
 )
-    requires { ⌜ (start + 8 * (first + 5 * rows) ≤ length (now file)) × (rows ≤ length (now «u_free»)) × (rows ≤ length (now lo))
-        × (rows ≤ length (now hi)) × (rows ≤ length (now scale)) × (rows ≤ length (now nu)) ⌝ }
+    requires { ⌜ (start + 8 * (first + 5 * rows) ≤ length (now file))
+        × (rows ≤ length (now «u_free»)) × (rows ≤ length (now lo)) × (rows ≤ length (now hi))
+        × (rows ≤ length (now scale)) × (rows ≤ length (now nu)) ⌝ }
     ensures { λ r. ⌜
-        (now («u_free» .exit) ≡ def.over (def.values (now (file .entry)) start first rows) (now («u_free» .entry)))
-        × (now (lo .exit) ≡ def.over (def.values (now (file .entry)) start (first + rows) rows) (now (lo .entry)))
-        × (now (hi .exit) ≡ def.over (def.values (now (file .entry)) start (first + 2 * rows) rows) (now (hi .entry)))
-        × (now (scale .exit) ≡ def.over (def.values (now (file .entry)) start (first + 3 * rows) rows) (now (scale .entry)))
-        × (now (nu .exit) ≡ def.over (def.values (now (file .entry)) start (first + 4 * rows) rows) (now (nu .entry))) ⌝ }
+        (now («u_free» .exit) ≡
+        def.over (def.values (now (file .entry)) start first rows) (now («u_free» .entry)))
+        × (now (lo .exit) ≡
+        def.over (def.values (now (file .entry)) start (first + rows) rows) (now (lo .entry)))
+        × (now (hi .exit) ≡
+        def.over (def.values (now (file .entry)) start (first + 2 * rows) rows) (now (hi .entry)))
+        × (now (scale .exit) ≡
+        def.over (def.values (now (file .entry)) start (first + 3 * rows) rows) (now (scale .entry)))
+        × (now (nu .exit) ≡
+        def.over (def.values (now (file .entry)) start (first + 4 * rows) rows) (now (nu .entry))) ⌝ }
 {
     fill(file, start, first, rows, u_free);
     fill(file, start, first + rows, rows, lo);
@@ -64,11 +70,14 @@ pub fn cells(
     w: &mut [f64],
     motion: &mut [f64],
 ) -> f64
-    requires { ⌜ (start + 8 * wanted rows coords ≤ length (now file)) × (rows * rows ≤ length (now w)) × (coords * rows ≤ length (now motion)) ⌝ }
+    requires { ⌜ (start + 8 * wanted rows coords ≤ length (now file))
+        × (rows * rows ≤ length (now w)) × (coords * rows ≤ length (now motion)) ⌝ }
     ensures { λ r. ⌜
         (r ≡ def.value (now (file .entry)) (start + 8 * (rows * rows + 5 * rows + coords * rows)))
-        × (now (w .exit) ≡ def.over (def.values (now (file .entry)) start 0 (rows * rows)) (now (w .entry)))
-        × (now (motion .exit) ≡ def.over (def.values (now (file .entry)) start (rows * rows + 5 * rows) (coords * rows)) (now (motion .entry))) ⌝ }
+        × (now (w .exit) ≡
+        def.over (def.values (now (file .entry)) start 0 (rows * rows)) (now (w .entry)))
+        × (now (motion .exit) ≡
+        def.over (def.values (now (file .entry)) start (rows * rows + 5 * rows) (coords * rows)) (now (motion .entry))) ⌝ }
 {
     let square = rows * rows;
     fill(file, start, 0, square, w);

@@ -55,7 +55,8 @@ fn fields_number(file: &[u8], end: usize) -> u32
 
 // The same from 14 on. The length rule needs no guard against a start that only wraps: it counts from a link that is before the numbers.
 fn link_number(file: &[u8], end: usize, count: usize) -> u32
-    requires { ⌜ (16 ≤ end) × (end ≤ length (now file)) × (count ≤ 4294967295) × (count ≡ fields.count (now file) end) ⌝ }
+    requires { ⌜ (16 ≤ end) × (end ≤ length (now file))
+        × (count ≤ 4294967295) × (count ≡ fields.count (now file) end) ⌝ }
     ensures { λ r. ⌜ r ≡ def.linkNumber (now (file .entry)) end ⌝ }
 {
     let span = 20 + 8 * count;

@@ -53,11 +53,35 @@ pub extern "C" fn piskorlu_chain_step(
     ensures { λ r. ⌜
         def.Given
         (def.given (now (file .entry)) step
-        (record { w = now (w .entry); uFree = now («u_free» .entry); lo = now (lo .entry); hi = now (hi .entry); scale = now (scale .entry); nu = now (nu .entry); motion = now (motion .entry) })
+        (record {
+          w = now (w .entry);
+          uFree = now («u_free» .entry);
+          lo = now (lo .entry);
+          hi = now (hi .entry);
+          scale = now (scale .entry);
+          nu = now (nu .entry);
+          motion = now (motion .entry);
+        })
         (now (shape .entry)) (now (tolerance .entry)))
         r
-        (record { w = now (w .entry); uFree = now («u_free» .entry); lo = now (lo .entry); hi = now (hi .entry); scale = now (scale .entry); nu = now (nu .entry); motion = now (motion .entry) })
-        (record { w = now (w .exit); uFree = now («u_free» .exit); lo = now (lo .exit); hi = now (hi .exit); scale = now (scale .exit); nu = now (nu .exit); motion = now (motion .exit) })
+        (record {
+          w = now (w .entry);
+          uFree = now («u_free» .entry);
+          lo = now (lo .entry);
+          hi = now (hi .entry);
+          scale = now (scale .entry);
+          nu = now (nu .entry);
+          motion = now (motion .entry);
+        })
+        (record {
+          w = now (w .exit);
+          uFree = now («u_free» .exit);
+          lo = now (lo .exit);
+          hi = now (hi .exit);
+          scale = now (scale .exit);
+          nu = now (nu .exit);
+          motion = now (motion .exit);
+        })
         (now (shape .entry)) (now (shape .exit)) (now (tolerance .entry)) (now (tolerance .exit)) ⌝ }
 {
     if shape.len() < 2 {
