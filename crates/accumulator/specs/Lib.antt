@@ -1,1 +1,2 @@
 pub mod Accumulators
+pub mod Steps
