@@ -129,7 +129,7 @@ unfolding EMPTY digitsIn
 empty-is = refl
 
 module _ (u : Float) (w nu : List Float) where
-  row-state : (k : ℕ) → record { words = products (added (words 0) (freeTerm u)) w nu k; products = k; free = true } ≡ rowSum u w nu k
+  pub row-state : (k : ℕ) → record { words = products (added (words 0) (freeTerm u)) w nu k; products = k; free = true } ≡ rowSum u w nu k
   unfolding rowSum products turns withFree withProduct EMPTY
   row-state zero = refl
   row-state (suc k) =

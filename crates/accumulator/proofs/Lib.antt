@@ -5,3 +5,4 @@ pub mod Shifts
 pub mod Signs
 pub mod Tops
 pub mod Calls
+pub mod Exact

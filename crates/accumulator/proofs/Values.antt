@@ -49,7 +49,7 @@ word-taken l i x w k h e = rw (one-more base i) (carried base (value l) (value (
 
 -- ---- a carry handed on: the number and a power of the base are s all along
 
-size-is : size ≡ base ^ 67
+pub size-is : size ≡ base ^ 67
 unfolding size
 size-is = refl
 
@@ -114,7 +114,7 @@ settled l n r q h e =
 
 -- ---- what the code leaves is the definition's sum
 
-size-pos : 0 < size
+pub size-pos : 0 < size
 unfolding size
 size-pos = pow-pos 4288
 

@@ -1,2 +1,4 @@
 pub mod Accumulators
 pub mod Steps
+pub mod Examples
+pub mod Meaning

@@ -125,8 +125,8 @@ pub fn add(words: &mut [u64], k: usize, x: u64, y: u64, z: u64)
 {
     let c = add_word(words, k, x, 0);
     let d = add_word(words, k + 1, y, c);
-    let e = add_word(words, k + 2, z, d);
-    if e > 0 {
+    let carry = add_word(words, k + 2, z, d);
+    if carry > 0 {
         carry_on(words, k + 3);
     }
 }
@@ -139,8 +139,8 @@ pub fn sub(words: &mut [u64], k: usize, x: u64, y: u64, z: u64)
 {
     let c = sub_word(words, k, x, 0);
     let d = sub_word(words, k + 1, y, c);
-    let e = sub_word(words, k + 2, z, d);
-    if e > 0 {
+    let owed = sub_word(words, k + 2, z, d);
+    if owed > 0 {
         borrow_on(words, k + 3);
     }
 }

@@ -50,7 +50,13 @@ cast-t14 c = search needs
 
 -- src/lib.rt:121:9
 returns-2 : tie.Need-returns-2
-returns-2 c = row-taken _ _ _ _ _ _ (c .before .before .before .before .before .before .before .before .before .shorter .ensures) (c .before .before .before .before .before .before .before .before .if1 .left) (sym (c .before .before .before .before .before .before .before .usable .ensures) ∙ c .before .before .before .before .before .before .if2 .taken) (c .before .before .before .before .add-free .ensures) (c .before .add-products .ensures)
+returns-2 c =
+    row-taken _ _ _ _ _ _
+    (c .before .before .before .before .before .before .before .before .before .shorter .ensures)
+    (c .before .before .before .before .before .before .before .before .if1 .left)
+    (sym (c .before .before .before .before .before .before .before .usable .ensures) ∙ c .before .before .before .before .before .before .if2 .taken)
+    (c .before .before .before .before .add-free .ensures)
+    (c .before .add-products .ensures)
 
 -- src/lib.rt:130:5
 refused-requires-2 : tie.Need-refused-requires-2

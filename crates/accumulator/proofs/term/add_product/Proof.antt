@@ -37,7 +37,15 @@ same-length c = search needs
 
 -- src/term.rt:124:1
 returns : tie.Need-returns
-returns c = c .before .before .add .ensures ∙ ap (added _) (product-is (c .before .before .before .before .before .before .before .before .before .before .before .before .args .w) (c .before .before .before .before .before .before .before .before .before .before .before .before .args .nu) _ _ _ _ _ _ _ (c .before .before .before .before .before .before .before .before .before .before .units .ensures) (c .before .before .before .before .before .before .before .before .before .units2 .ensures) (c .before .before .before .before .before .before .before .before .product .ensures))
+returns c =
+    c .before .before .add .ensures ∙ ap
+    (added _)
+    (product-is
+    (c .before .before .before .before .before .before .before .before .before .before .before .before .args .w)
+    (c .before .before .before .before .before .before .before .before .before .before .before .before .args .nu) _ _ _ _ _ _ _
+    (c .before .before .before .before .before .before .before .before .before .before .units .ensures)
+    (c .before .before .before .before .before .before .before .before .before .units2 .ensures)
+    (c .before .before .before .before .before .before .before .before .product .ensures))
 
 pub add-product-spec : {M : Type 1} → statement M
 add-product-spec =

@@ -42,7 +42,13 @@ same-length c = search needs
 
 -- src/words.rt:120:1
 returns : tie.Need-returns
-returns c = all-added _ _ _ _ _ _ _ (record { all = search needs; each = c .slice-known5 .given }) (c .before .before .carry-on .ensures) (c .before .before .before .before .if1 .taken) (c .before .before .before .before .before .before .before .add-word3 .ensures .1) (three-added _ _ _ _ _ _ _ _ _ _ _ (c .before .before .before .before .before .before .before .add-word3 .ensures .0) (c .before .before .before .before .before .before .before .before .before .before .before .add-word2 .ensures .0) (c .before .before .before .before .before .before .before .before .before .before .before .before .before .before .before .add-word .ensures .0))
+returns c =
+    all-added _ _ _ _ _ _ _
+    (record { all = search needs; each = c .slice-known5 .given })
+    (c .before .before .carry-on .ensures)
+    (c .before .before .before .before .if1 .taken)
+    (c .before .before .before .before .before .before .before .add-word3 .ensures .1)
+    (three-added _ _ _ _ _ _ _ _ _ _ _ (c .before .before .before .before .before .before .before .add-word3 .ensures .0) (c .before .before .before .before .before .before .before .before .before .before .before .add-word2 .ensures .0) (c .before .before .before .before .before .before .before .before .before .before .before .before .before .before .before .add-word .ensures .0))
 
 -- src/words.rt:120:1
 same-length-2 : tie.Need-same-length-2
@@ -50,7 +56,11 @@ same-length-2 c = search needs
 
 -- src/words.rt:120:1
 returns-2 : tie.Need-returns-2
-returns-2 c = added-alone _ _ _ _ _ (record { all = search needs; each = c .before .slice-known4 .given }) (c .if1 .left) (three-added _ _ _ _ _ _ _ _ _ _ _ (c .before .before .before .add-word3 .ensures .0) (c .before .before .before .before .before .before .before .add-word2 .ensures .0) (c .before .before .before .before .before .before .before .before .before .before .before .add-word .ensures .0))
+returns-2 c =
+    added-alone _ _ _ _ _
+    (record { all = search needs; each = c .before .slice-known4 .given })
+    (c .if1 .left)
+    (three-added _ _ _ _ _ _ _ _ _ _ _ (c .before .before .before .add-word3 .ensures .0) (c .before .before .before .before .before .before .before .add-word2 .ensures .0) (c .before .before .before .before .before .before .before .before .before .before .before .add-word .ensures .0))
 
 pub add-spec : {M : Type 1} → statement M
 add-spec =
