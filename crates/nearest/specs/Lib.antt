@@ -1,0 +1,2 @@
+pub mod ToNearest
+pub mod Examples
