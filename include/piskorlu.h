@@ -331,6 +331,26 @@ uint32_t piskorlu_chain_write(const size_t *rows, size_t rows_len,
                               const double *values, size_t values_len,
                               uint8_t *out, size_t out_len,
                               size_t *written, size_t written_len);
+/* The words of an exact row sum. */
+#define PISKORLU_EXACT_WORDS 67
+
+/*
+ * The double nearest to an exact row sum: a whole number of 2^-2148 in
+ * PISKORLU_EXACT_WORDS words of 64 bits, the lowest first, two's complement.
+ * It is rounded once: half way between two doubles to the one whose last digit
+ * is 0, subnormals included, and from 2^1024 - 2^970 on to an infinity. A zero
+ * result is plus zero, also where the sum is negative or was summed from minus
+ * zeros; the sign of such a sum is read off the words.
+ *
+ * words      the sum's words, at least PISKORLU_EXACT_WORDS; any will do, also
+ *            ones that no sum left. Later ones are not read.
+ * result     receives the double in result[0]; at least 1.
+ *
+ * Returns PISKORLU_ACCEPTED, or PISKORLU_REFUSED_SHORT where words or result is
+ * too short, and then nothing is written.
+ */
+uint32_t piskorlu_exact_nearest(const uint64_t *words, size_t words_len,
+                                double *result, size_t result_len);
 
 #ifdef __cplusplus
 }

@@ -1,5 +1,6 @@
 pub mod Chains
 pub mod LeastNorm
+pub mod ExactNearest
 pub mod Room
 pub mod Solving
 pub mod Entering

@@ -1,5 +1,6 @@
 pub mod Chains
 pub mod LeastNorm
+pub mod ExactNearest
 pub mod Reports
 pub mod Solves
 pub mod Tallies
