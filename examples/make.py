@@ -18,8 +18,9 @@ import sys
 
 import drawing
 import rig
-from bendfile import answers, as_csv, as_json, binary, chain, describe, numbers, output, picture, pull_picture, pull_tables, tables
+from bendfile import answers, as_csv, as_json, binary, chain, describe, exact_tables, numbers, output, picture, pull_picture, pull_tables, tables
 from bendfile import pull as pull_file
+from bendfile.problem import Labels
 
 HERE = os.path.dirname(os.path.abspath(__file__))
 RAM = 160.0
@@ -38,11 +39,11 @@ class Maker:
         os.makedirs(os.path.dirname(target), exist_ok=True)
         output.write(target, data if isinstance(data, bytes) else data.encode("utf-8"))
 
-    def step(self, path, description):
+    def step(self, path, description, note=NOTE):
         """Description, bend file and answer of one load step; the problem and its answer."""
         problem = describe.build(description)
         bend = binary.encode(problem)
-        self.put(path + ".json", as_json.write(description, NOTE))
+        self.put(path + ".json", as_json.write(description, note))
         self.put(path + ".bend", bend)
         data = self._answer(path, bend)
         self.put(path + ".answer.txt", data)
@@ -69,6 +70,7 @@ def six_pads(maker):
     problem, answer = maker.step(path, step)
     maker.put(path + ".csv", as_csv.write(step, NOTE))
     maker.show(path, problem, answer)
+    maker.put(path + ".exact.txt", exact_tables.show(answer, problem))
     maker.put("shaft-six-pads/set-up.svg", drawing.set_up(supports, RAM))
 
 
@@ -112,6 +114,14 @@ def stops_that_fight(maker):
     maker.show(path, *maker.step(path, rig.load_step("Two steel stops at one place, 0.3 mm too close", supports, RAM)))
 
 
+def rounded_sum(maker):
+    """One pad whose load is a third: the rounded motion left is 0, the exact one is not."""
+    row = {"name": "pad", "kind": "contact", "scale": "1", "start": "0", "free_motion": "-1"}
+    step = describe.Description([row], [["3"]], [], "0", Labels("A load of a third", "N", "mm", ["pad"]), describe.LABELS_BEFORE)
+    problem, answer = maker.step("rounded-sum/rounded-sum", step, "Made by examples/make.py.")
+    maker.put("rounded-sum/rounded-sum.exact.txt", exact_tables.show(answer, problem))
+
+
 def main(arguments=None):
     parser = argparse.ArgumentParser(description="Makes the examples again.")
     parser.add_argument("--solver", metavar="PROGRAM", help="ask this program instead of the stored answers")
@@ -121,7 +131,7 @@ def main(arguments=None):
     if options.solver and not solver:
         parser.error(f"{options.solver}: no such program")
     maker = Maker(options.out, solver)
-    for example in (six_pads, pull, stops_that_fight):
+    for example in (six_pads, pull, stops_that_fight, rounded_sum):
         example(maker)
 
 

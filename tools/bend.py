@@ -14,6 +14,10 @@ A whole pull in one file, its steps oldest first:
     bend.py answer ANSWER.txt.. PULL
     bend.py picture ANSWER.txt.. PULL -o OUT.svg
 
+The motions left without rounding:
+
+    bend.py exact FILE.bend ANSWER.txt
+
 Exit status: 0 fine, 1 input that cannot be taken or output that cannot be written, 2 wrong usage.
 """
 
@@ -21,7 +25,8 @@ import argparse
 import os
 import sys
 
-from bendfile import answers, as_csv, as_json, binary, chain, describe, numbers, output, picture, pull, pull_picture, pull_tables, tables
+from bendfile import answers, as_csv, as_json, binary, chain, describe, exact_tables, numbers, output, picture
+from bendfile import pull, pull_picture, pull_tables, tables
 from bendfile.problem import LARGEST_FILE, BadInput, check_scales, warnings
 
 READERS = {"json": as_json.read, "csv": as_csv.read}
@@ -165,6 +170,14 @@ def picture_(options):
     output.write(options.output, drawn.encode("utf-8"))
 
 
+def exact_(options):
+    steps, found = load_steps([*options.answers, options.file])
+    if steps is None:
+        raise BadInput(f"{options.answers[0]}: {tables.headline(found[0])}; there are no loads to add")
+    shown = [exact_tables.show(answer, problem, _number_text(options)) for answer, problem in zip(found, steps.problems)]
+    output.write(options.output, "\n".join(shown).encode("utf-8"))
+
+
 def _number_text(options):
     return numbers.exact if options.full else numbers.short
 
@@ -178,6 +191,7 @@ def parser():
     _picture_options(commands.add_parser("picture", help="draw an answer's loads between their bounds, or a pull's over its steps"))
     _chain_options(commands.add_parser("chain", help="put the bend files of a pull into one file"))
     _split_options(commands.add_parser("split", help="cut a pull into its bend files"))
+    _exact_options(commands.add_parser("exact", help="show the motions left without rounding, beside the rounded ones"))
     return top
 
 
@@ -206,6 +220,13 @@ def _answer_options(command):
     command.add_argument("files", metavar="FILE", nargs="+", help="what bendsolve printed, or -; last the bend file or the pull that is answered")
     _table_options(command)
     command.set_defaults(call=answer_)
+
+
+def _exact_options(command):
+    command.add_argument("file", metavar="FILE", help="a bend file or a pull, or -")
+    command.add_argument("answers", metavar="ANSWER.txt", nargs="+", help="what bendsolve printed for it, or -")
+    _table_options(command)
+    command.set_defaults(call=exact_)
 
 
 def _table_options(command):

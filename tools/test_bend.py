@@ -390,6 +390,8 @@ REFUSAL_WORDS = {
     13: "sum of a count is above 4,294,967,295",
     14: "fewer than four bytes before a step's numbers, or a link above its own offset",
     15: "more than 40 steps, or none to write",
+    17: "a number is NaN or infinite",
+    18: "more than 32 products, or a second free motion",
 }
 
 
@@ -595,7 +597,7 @@ class Examples(Folder):
                 path = os.path.join(folder, name)
                 made.append(os.path.relpath(path, self.folder))
                 self.assertEqual(content(path), content(os.path.join(ROOT, "examples", made[-1])), made[-1])
-        self.assertEqual(len([name for name in made if name.endswith(".bend")]), 8)
+        self.assertEqual(len([name for name in made if name.endswith(".bend")]), 9)
 
     def test_descriptions_make_the_files(self):
         for path in example_files(".bend"):
