@@ -5,6 +5,7 @@
 //! workspace from call to call, as its callers do; the port is lent one.
 
 use crate::bench_chain;
+use crate::bench_exact;
 use crate::calls::sqrt;
 use crate::plot::{self, Series};
 use crate::port;
@@ -41,6 +42,7 @@ pub fn run(write: bool) -> Result<(), String> {
         text.push_str(&root_table(&times));
     }
     text.push_str(&bench_chain::table());
+    text.push_str(&bench_exact::table());
     if text.is_empty() {
         return Err(String::from("nothing to measure: no static library"));
     }
@@ -107,7 +109,9 @@ fn page(tables: &str, plotted: bool) -> String {
          The square root is taken over an array of 65,536 positive values of all exponents. Called: the hardware's\n\
          instruction behind a call, as the port is; inlined: in the loop, where the compiler may take several at once.\n\n\
          Chained bend files have 40 steps: the smallest of one value each, the largest of 3,233 each, 129,320 in all. To\n\
-         read all of a file is one call for each step, and each call looks at all 40 trailers. The original has no files.\n",
+         read all of a file is one call for each step, and each call looks at all 40 trailers. The original has no files.\n\n\
+         An exact row sum is a free motion and 32 products, from empty words. The time of a product is that of the row over\n\
+         32; nearest is taken of the sums of 64 such rows. The original has no exact sums.\n",
         processor(),
         env!("COMPARE_RUSTC")
     )

@@ -21,7 +21,7 @@ pub const NUMBERS: [&str; 34] = [
     "above",
 ];
 
-/// The numbers of the worked examples of chained bend files.
+/// The numbers of worked examples, from 1.
 pub const EXAMPLES: [&str; 70] = [
     "1", "2", "3", "4", "5", "6", "7", "8", "9", "10", "11", "12", "13", "14", "15", "16", "17",
     "18", "19", "20", "21", "22", "23", "24", "25", "26", "27", "28", "29", "30", "31", "32", "33",

@@ -3,12 +3,15 @@
 
 mod bench;
 mod bench_chain;
+mod bench_exact;
 mod bendsolve;
 mod calls;
 mod cases;
 #[cfg(test)]
 mod chain_tests;
 mod coverage;
+#[cfg(test)]
+mod exact_tests;
 mod mutations;
 #[cfg(original)]
 mod original;
@@ -23,8 +26,11 @@ mod vectors;
 use calls::bend::Bend;
 use calls::chain::Chain;
 use calls::chain_writer::ChainWriter;
+use calls::exact::Exact;
+use calls::exact_row::ExactRow;
 use calls::joins::Joins;
 use calls::least_norm::LeastNorm;
+use calls::nearest::Nearest;
 use calls::solve::Solve;
 use calls::tallied::Tallied;
 use calls::Call;
@@ -42,6 +48,8 @@ compare COMMAND
   mutations [EACH [RULE]] each error (or one) put into the reference: is it caught?
   bend [EACH [RUNS]]      bend files: the call on EACH (30,000) of a family, the program on RUNS (2,000)
   chains [FILES]          chained bend files: at least FILES (1,000,000) read, and a half as many written
+  exact [ROWS]            row sums without rounding: at least ROWS (10,000,000), a half as many term by term, and
+                          as many roundings to the nearest
   vectors DIR             writes the original's answers for replay
   files DIR               writes bend files with what bendsolve must print for each
   bench [--write]         times of port and original; --write: docs/PERFORMANCE.md and performance.svg
@@ -150,6 +158,8 @@ fn main() -> ExitCode {
         },
         ["chains"] => chains(1_000_000),
         ["chains", files] => number(files).map_or_else(usage, chains),
+        ["exact"] => exact(10_000_000),
+        ["exact", rows] => number(rows).map_or_else(usage, exact),
         ["files", folder] => outcome(bendsolve::write(folder.as_ref())),
         ["bench"] => outcome(bench::run(false)),
         ["bench", "--write"] => outcome(bench::run(true)),
@@ -202,6 +212,9 @@ fn short(with_original: bool) -> ExitCode {
     checks.totals::<Bend>(&run::<Bend>(1, 10_000), false);
     checks.totals::<Chain>(&run::<Chain>(1, 4_000), false);
     checks.totals::<ChainWriter>(&run::<ChainWriter>(1, 4_000), false);
+    checks.totals::<Exact>(&run::<Exact>(1, 20_000), false);
+    checks.totals::<ExactRow>(&run::<ExactRow>(1, 40_000), false);
+    checks.totals::<Nearest>(&run::<Nearest>(1, 100_000), false);
     println!("{:.0} s", start.elapsed().as_secs_f64());
     checks.end()
 }
@@ -243,6 +256,7 @@ fn long(cases: u64) -> ExitCode {
     );
     differing += long_call::<Bend>(&mut checks, seed, each(Bend::families().len(), cases / 30));
     differing += chain_calls(&mut checks, seed, cases / 10);
+    differing += exact_calls(&mut checks, seed, cases);
     println!("{:.0} s", start.elapsed().as_secs_f64());
     println!("differing {differing}");
     checks.end()
@@ -291,6 +305,36 @@ fn chain_calls(checks: &mut Checks, seed: u64, files: u64) -> u64 {
     long_call::<Chain>(checks, seed, reads) + long_call::<ChainWriter>(checks, seed, writes)
 }
 
+/// Row sums without rounding.
+fn exact(rows: u64) -> ExitCode {
+    let mut checks = Checks::default();
+    for (name, missing) in [
+        ("exact sums", port::EXACT.is_none()),
+        (Nearest::NAME, port::EXACT_NEAREST.is_none()),
+    ] {
+        if missing {
+            checks.note(
+                false,
+                &format!("{name}: the static library has no such call"),
+            );
+        }
+    }
+    let differing = exact_calls(&mut checks, 3, rows);
+    println!("differing {differing}");
+    checks.end()
+}
+
+/// At least so many rows at once, a half as many term by term, and as many
+/// roundings to the nearest.
+fn exact_calls(checks: &mut Checks, seed: u64, rows: u64) -> u64 {
+    let by_row = rows.div_ceil(ExactRow::families().len() as u64);
+    let by_term = (rows / 2).div_ceil(Exact::families().len() as u64);
+    let nearest = rows.div_ceil(Nearest::families().len() as u64);
+    long_call::<Exact>(checks, seed, by_term)
+        + long_call::<ExactRow>(checks, seed, by_row)
+        + long_call::<Nearest>(checks, seed, nearest)
+}
+
 fn long_call<C: Call>(checks: &mut Checks, seed: u64, each: u64) -> u64 {
     let start = Instant::now();
     let totals = run::<C>(seed, each);
@@ -337,7 +381,10 @@ fn one(family: &str, seed: Option<u64>, index: Option<u64>) -> ExitCode {
         || show::<Tallied>(family, seed, index)
         || show::<Bend>(family, seed, index)
         || show::<Chain>(family, seed, index)
-        || show::<ChainWriter>(family, seed, index);
+        || show::<ChainWriter>(family, seed, index)
+        || show::<Exact>(family, seed, index)
+        || show::<ExactRow>(family, seed, index)
+        || show::<Nearest>(family, seed, index);
     if !shown {
         eprintln!("compare: no family of that name");
     }
@@ -353,6 +400,9 @@ fn families() -> ExitCode {
         Bend::families(),
         Chain::families(),
         ChainWriter::families(),
+        Exact::families(),
+        ExactRow::families(),
+        Nearest::families(),
     ];
     names.concat().iter().for_each(|name| println!("{name}"));
     ExitCode::SUCCESS

@@ -4,8 +4,11 @@
 use crate::calls::bend::Bend;
 use crate::calls::chain::Chain;
 use crate::calls::chain_writer::ChainWriter;
+use crate::calls::exact::Exact;
+use crate::calls::exact_row::ExactRow;
 use crate::calls::joins::Joins;
 use crate::calls::least_norm::LeastNorm;
+use crate::calls::nearest::Nearest;
 use crate::calls::solve::Solve;
 use crate::calls::tallied::Tallied;
 use crate::calls::{Call, Zeros};
@@ -130,6 +133,9 @@ fn surveys(each: u64, name: Option<&str>) -> Vec<(Rule, Caught)> {
         survey::<Bend>(1, each, name),
         survey::<Chain>(1, each, name),
         survey::<ChainWriter>(1, each, name),
+        survey::<Exact>(1, each, name),
+        survey::<ExactRow>(1, each, name),
+        survey::<Nearest>(1, each, name),
     ];
     let mut all: Vec<(Rule, Caught)> = Vec::new();
     for (rule, caught) in parts.into_iter().flatten() {

@@ -17,6 +17,14 @@ impl Guard for u32 {
     const GUARD: u32 = 0x4BAD_4BAD;
 }
 
+impl Guard for i8 {
+    const GUARD: i8 = 0x4B;
+}
+
+impl Guard for u64 {
+    const GUARD: u64 = 0x4BAD_4BAD_4BAD_4BAD;
+}
+
 impl Guard for usize {
     const GUARD: usize = 0x4BAD_4BAD_4BAD_4BAD;
 }

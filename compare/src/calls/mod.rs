@@ -4,9 +4,12 @@
 pub mod bend;
 pub mod chain;
 pub mod chain_writer;
+pub mod exact;
+pub mod exact_row;
 pub mod guard;
 pub mod joins;
 pub mod least_norm;
+pub mod nearest;
 pub mod solve;
 pub mod sqrt;
 pub mod tallied;

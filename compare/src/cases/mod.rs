@@ -4,6 +4,8 @@
 pub mod aimed;
 pub mod chain_examples;
 pub mod chains;
+pub mod exact;
+pub mod exact_examples;
 pub mod files;
 pub mod least_norm;
 pub mod lengths;
@@ -15,4 +17,5 @@ pub mod rays;
 pub mod reports;
 pub mod roots;
 pub mod solve;
+pub mod sums;
 pub mod sweeps;

@@ -15,6 +15,7 @@
 pub mod bend;
 pub mod chain;
 pub mod chain_writer;
+pub mod exact;
 pub mod float;
 pub mod least_norm;
 pub mod pass;
@@ -25,5 +26,6 @@ pub mod report;
 pub mod rule;
 pub mod solve;
 pub mod state;
+pub mod whole;
 
 pub use rule::Rule;

@@ -12,6 +12,9 @@ pub enum Place {
     Bend,
     Chain,
     ChainWriter,
+    Exact,
+    ExactRow,
+    Nearest,
 }
 
 macro_rules! rules {
@@ -305,6 +308,38 @@ rules! {
     WriterOrderReversed, ChainWriter, "the steps written newest first";
     WriterNanKept, ChainWriter, "a NaN's own pattern written";
     WriterRestCleared, ChainWriter, "output past the file cleared";
+
+    SeventeenFirst, Exact, "17 tested before 18";
+    SeventeenCounts, Exact, "17: a refused term counts";
+    ZeroTimesInfinityTaken, Exact, "17: 0 times infinity or NaN taken as 0";
+    ZerosUncounted, Exact, "18: a free motion or product of 0 not counted";
+    Product33Taken, Exact, "18: a 33rd product taken";
+    FullAtMostOnly, Exact, "18: more than 32 products held, and another taken";
+    HiddenDigitOfSubnormals, Exact, "terms: subnormal numbers with the hidden digit";
+    SubnormalsTooLow, Exact, "terms: subnormal numbers one exponent too low";
+    SignsIgnored, Exact, "terms: the signs left out";
+    UnitsTooLarge, Exact, "terms: a free motion in units of 2^-2147";
+    ProductRounded, Exact, "terms: a product's lower half cut off";
+    SixtySixWords, Exact, "66 words";
+    SignOfRounded, Exact, "sign: that of the rounded sum";
+    SignOfTopWord, Exact, "sign: that of the top word alone";
+
+    RowSeventeenFirst, ExactRow, "row: 17 tested before 18";
+    RowOf33, ExactRow, "row: more than 32 products taken";
+    RowLooksPast, ExactRow, "row: 17 for a value past the shorter slice";
+    RowWithoutFree, ExactRow, "row: the free motion left out";
+    RowAddsToLent, ExactRow, "row: added to what the words hold";
+    RowRefusalClears, ExactRow, "row: a refused call clears the words";
+
+    CutOff, Nearest, "nearest: cut off, not rounded";
+    TiesAway, Nearest, "nearest: ties away from zero";
+    TiesToOdd, Nearest, "nearest: ties to odd";
+    MinusZero, Nearest, "nearest: -0 of a negative sum";
+    OverflowLargest, Nearest, "nearest: the largest f64 of an overflow";
+    InfinityLate, Nearest, "nearest: infinite only from 2^1024 on";
+    TwiceRounded, Nearest, "nearest: to 53 digits, then to a subnormal number";
+    GuardWordOnly, Nearest, "nearest: digits more than a word below are lost";
+    SubnormalsFlushed, Nearest, "nearest: 0 of a subnormal number";
 }
 
 impl Rule {
