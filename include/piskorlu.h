@@ -35,7 +35,7 @@ extern "C" {
 /* Solve: motion is no whole number of rows of n values. */
 #define PISKORLU_REFUSED_MOTION 9u
 /* Solve: workspace, states, rows, counts or residual too short; chained bend
- * files: any buffer too short. */
+ * files and exact sums: any buffer too short. */
 #define PISKORLU_REFUSED_SHORT 10u
 /* Tallied solve: the tally might not hold one solve more. */
 #define PISKORLU_REFUSED_TALLY 11u
@@ -65,6 +65,11 @@ extern "C" {
 
 /* The answer where a chained bend file has no such step. It is no refusal. */
 #define PISKORLU_NO_STEP 0xFFFFFFFFu
+
+/* Exact sums: a value that is NaN or infinite. */
+#define PISKORLU_REFUSED_NOT_FINITE 17u
+/* Exact sums: a product after 32, or a second free motion. */
+#define PISKORLU_REFUSED_EXACT_FULL 18u
 
 /* The most rows of a problem; the most rows and columns of a least-norm system. */
 #define PISKORLU_MOST 32
@@ -230,6 +235,51 @@ uint32_t piskorlu_tallied(uint32_t *tally, size_t tally_len,
                           double *workspace, size_t workspace_len,
                           size_t *counts, size_t counts_len,
                           double *residual, size_t residual_len);
+
+/*
+ * A row sum u_free + W nu without rounding, in an accumulator: a whole number
+ * of 2^-2148 in words of 64 bits, the lowest first, two's complement, and two
+ * counts, how many products it holds and whether it holds a free motion (0 or
+ * 1; on entry any other value is yes, too). An empty one is all zeros.
+ *
+ * words      the words, at least PISKORLU_EXACT_WORDS; they are read, and
+ *            receive the sum. Later ones are kept.
+ * counts     the counts, at least PISKORLU_EXACT_COUNTS, likewise.
+ *
+ * Each call returns PISKORLU_ACCEPTED; or PISKORLU_REFUSED_SHORT at once where
+ * words or counts is too short, else PISKORLU_REFUSED_EXACT_FULL, else
+ * PISKORLU_REFUSED_NOT_FINITE, and then nothing is written.
+ */
+#define PISKORLU_EXACT_WORDS 67
+#define PISKORLU_EXACT_COUNTS 2
+
+/* The free motion u is added; a second one is refused, one of 0 counts. */
+uint32_t piskorlu_exact_free(double u,
+                             uint64_t *words, size_t words_len,
+                             uint32_t *counts, size_t counts_len);
+
+/* The product w * nu is added; a 33rd one is refused. */
+uint32_t piskorlu_exact_product(double w, double nu,
+                                uint64_t *words, size_t words_len,
+                                uint32_t *counts, size_t counts_len);
+
+/*
+ * A whole row: from an empty accumulator the free motion u, then the products
+ * w[j] * nu[j] for j rising, over the shorter of the two. More than 32 of them
+ * are refused. What words and counts held before is of no account.
+ */
+uint32_t piskorlu_exact_row(double u,
+                            const double *w, size_t w_len,
+                            const double *nu, size_t nu_len,
+                            uint64_t *words, size_t words_len,
+                            uint32_t *counts, size_t counts_len);
+
+/*
+ * The sign of the exact sum, -1, 0 or 1, in sign[0]; sign_len is at least 1.
+ * Returns PISKORLU_ACCEPTED or PISKORLU_REFUSED_SHORT.
+ */
+uint32_t piskorlu_exact_sign(const uint64_t *words, size_t words_len,
+                             int8_t *sign, size_t sign_len);
 
 /* The fewest bytes of a buffer for piskorlu_bend. */
 #define PISKORLU_BEND_ROOM 2048

@@ -5,3 +5,4 @@ pub mod Room
 pub mod Solving
 pub mod Entering
 pub mod ChainWriter
+pub mod Sums

@@ -1,4 +1,5 @@
 pub mod Chains
+pub mod Exact
 pub mod LeastNorm
 pub mod ExactNearest
 pub mod Reports

@@ -16,6 +16,7 @@ use least_norm::Outcome;
 mod bend;
 mod chain;
 mod chain_writer;
+mod exact;
 mod exact_nearest;
 mod reports;
 mod solves;

@@ -13,7 +13,7 @@ pub fn flag(b: bool) -> u32
     if b { 1 } else { 0 }
 }
 
-fn flagged(k: u32) -> bool
+pub fn flagged(k: u32) -> bool
     ensures { λ r. ⌜ r ≡ def.flagged k ⌝ }
 {
     k != 0
