@@ -381,8 +381,6 @@ uint32_t piskorlu_chain_write(const size_t *rows, size_t rows_len,
                               const double *values, size_t values_len,
                               uint8_t *out, size_t out_len,
                               size_t *written, size_t written_len);
-/* The words of an exact row sum. */
-#define PISKORLU_EXACT_WORDS 67
 
 /*
  * The double nearest to an exact row sum: a whole number of 2^-2148 in
