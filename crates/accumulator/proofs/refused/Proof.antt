@@ -6,7 +6,6 @@ use Rattle.accumulator.proofs.refused.Tie as tie
 use Rattle.accumulator.proofs.refused.Reads as reads
 use Rattle.accumulator.proofs.refused.Lts as lts
 
--- src/lib.rt:99:1
 returns : tie.Need-returns
 returns c = search (refused-is, needs)
 

@@ -12,43 +12,33 @@ use Rattle.accumulator.proofs.rows.shorter.Reads as shorter-reads
 use Rattle.accumulator.proofs.rows.usable.Reads as usable-reads
 use Rattle.accumulator.proofs.term.add_free.Reads as add-free-reads
 
--- src/lib.rt:113:9
 shorter-requires : tie.Need-shorter-requires
 shorter-requires c κs = search needs
 
--- src/lib.rt:115:9
 refused-requires : tie.Need-refused-requires
 refused-requires c κs = search needs
 
--- src/lib.rt:115:9
 returns : tie.Need-returns
 returns c = c .refused .ensures ∙ row-many _ _ _ _ (c .before .before .shorter .ensures) (c .before .if1 .taken)
 
--- src/lib.rt:117:8
 usable-requires : tie.Need-usable-requires
 usable-requires c κs = within _ _ _ (c .before .shorter .ensures)
 
--- src/lib.rt:119:24
 slice-aggregate-add-free : tie.Need-slice-aggregate-add-free
 slice-aggregate-add-free c = search needs
 
--- src/lib.rt:119:9
 add-free-requires : tie.Need-add-free-requires
 add-free-requires c κs = (search needs, usable-first _ _ _ _ (sym (c .before .before .usable .ensures) ∙ c .before .if2 .taken))
 
--- src/lib.rt:120:28
 slice-aggregate-add-products : tie.Need-slice-aggregate-add-products
 slice-aggregate-add-products c = search needs
 
--- src/lib.rt:120:9
 add-products-requires : tie.Need-add-products-requires
 add-products-requires c κs = (search needs, within _ _ _ (c .before .before .before .before .before .before .before .shorter .ensures) .0, within _ _ _ (c .before .before .before .before .before .before .before .shorter .ensures) .1, usable-second _ _ _ _ (sym (c .before .before .before .before .before .usable .ensures) ∙ c .before .before .before .before .if2 .taken))
 
--- src/lib.rt:125:27
 cast-t14 : tie.Need-cast-t14
 cast-t14 c = search needs
 
--- src/lib.rt:121:9
 returns-2 : tie.Need-returns-2
 returns-2 c =
     row-taken _ _ _ _ _ _
@@ -58,11 +48,9 @@ returns-2 c =
     (c .before .before .before .before .add-free .ensures)
     (c .before .add-products .ensures)
 
--- src/lib.rt:130:5
 refused-requires-2 : tie.Need-refused-requires-2
 refused-requires-2 c κs = search needs
 
--- src/lib.rt:110:1
 returns-3 : tie.Need-returns-3
 returns-3 c = c .refused2 .ensures ∙ row-unfit _ _ _ _ (c .before .before .before .before .shorter .ensures) (c .before .before .before .if1 .left) (sym (c .before .before .usable .ensures) ∙ c .before .if2 .left)
 

@@ -9,27 +9,21 @@ use Rattle.accumulator.proofs.Accumulator.add_free.Lts as lts
 use Rattle.accumulator.proofs.term.add_free.Reads as add-free-reads
 use Rattle.floats.proofs.is_finite.Reads as is-finite-reads
 
--- src/lib.rt:39:13
 returns : tie.Need-returns
 returns c = free-again _ _ (c .if1 .taken)
 
--- src/lib.rt:44:12
 is-finite-requires : tie.Need-is-finite-requires
 is-finite-requires c κs = search needs
 
--- src/lib.rt:46:28
 slice-aggregate-add-free : tie.Need-slice-aggregate-add-free
 slice-aggregate-add-free c = search needs
 
--- src/lib.rt:46:13
 add-free-requires : tie.Need-add-free-requires
 add-free-requires c κs = (sym (slice-aggregate-add-free c), sym (c .before .before .before .is-finite .ensures) ∙ c .before .before .if2 .taken)
 
--- src/lib.rt:47:13
 returns-2 : tie.Need-returns-2
 returns-2 c = free-taken _ _ _ (c .before .before .before .before .before .before .if1 .left) (sym (c .before .before .before .before .before .is-finite .ensures) ∙ c .before .before .before .before .if2 .taken) (c .before .add-free .ensures)
 
--- src/lib.rt:35:5
 returns-3 : tie.Need-returns-3
 returns-3 c = free-unfit _ _ (c .before .before .if1 .left) (sym (c .before .is-finite .ensures) ∙ c .if2 .left)
 

@@ -9,31 +9,24 @@ use Rattle.accumulator.proofs.Accumulator.add_product.Lts as lts
 use Rattle.accumulator.proofs.rows.both_finite.Reads as both-finite-reads
 use Rattle.accumulator.proofs.term.add_product.Reads as add-product-reads
 
--- src/lib.rt:67:13
 returns : tie.Need-returns
 returns c = product-again _ _ _ (c .if1 .taken)
 
--- src/lib.rt:72:12
 both-finite-requires : tie.Need-both-finite-requires
 both-finite-requires c κs = search needs
 
--- src/lib.rt:74:31
 slice-aggregate-add-product : tie.Need-slice-aggregate-add-product
 slice-aggregate-add-product c = search needs
 
--- src/lib.rt:74:13
 add-product-requires : tie.Need-add-product-requires
 add-product-requires c κs = (sym (slice-aggregate-add-product c), first-finite _ _ (sym (c .before .before .before .both-finite .ensures) ∙ c .before .before .if2 .taken), second-finite _ _ (sym (c .before .before .before .both-finite .ensures) ∙ c .before .before .if2 .taken))
 
--- src/lib.rt:79:31
 add-t11 : tie.Need-add-t11
 add-t11 c = search needs
 
--- src/lib.rt:75:13
 returns-2 : tie.Need-returns-2
 returns-2 c = product-taken _ _ _ _ (c .before .before .before .before .before .before .before .if1 .left) (sym (c .before .before .before .before .before .before .both-finite .ensures) ∙ c .before .before .before .before .before .if2 .taken) (c .before .before .add-product .ensures)
 
--- src/lib.rt:63:5
 returns-3 : tie.Need-returns-3
 returns-3 c = product-unfit _ _ _ (c .before .before .if1 .left) (sym (c .before .both-finite .ensures) ∙ c .if2 .left)
 

@@ -27,47 +27,36 @@ Inv-loop words₀ w nu n j₀ words j =
 abbrev μ-loop : tie.MeasureT-loop
 μ-loop words₀ w nu n j₀ words j = n - j
 
--- src/rows.rt:54:5
 loop-holds : tie.Need-loop-holds Inv-loop μ-loop
 loop-holds c = search (products-first, needs)
 
--- src/rows.rt:55:34
 mul-add-product : tie.Need-mul-add-product Inv-loop μ-loop
 mul-add-product c = search needs
 
--- src/rows.rt:55:34
 shared-slice-read-add-product : tie.Need-shared-slice-read-add-product Inv-loop μ-loop
 shared-slice-read-add-product c = search needs
 
--- src/rows.rt:55:40
 mul-add-product-2 : tie.Need-mul-add-product-2 Inv-loop μ-loop
 mul-add-product-2 c = search needs
 
--- src/rows.rt:55:40
 shared-slice-read-add-product-2 : tie.Need-shared-slice-read-add-product-2 Inv-loop μ-loop
 shared-slice-read-add-product-2 c = search needs
 
--- src/rows.rt:55:9
 add-product-requires : tie.Need-add-product-requires Inv-loop μ-loop
 add-product-requires c κs = (search needs, first-finite _ _ (finite-at _ _ _ _ (c .before .before .before .loop-test .taken) (c .before .before .before .before .loop .inv .5)), second-finite _ _ (finite-at _ _ _ _ (c .before .before .before .loop-test .taken) (c .before .before .before .before .loop .inv .5)))
 
--- src/rows.rt:56:9
 add-j : tie.Need-add-j Inv-loop μ-loop
 add-j c = search needs
 
--- src/rows.rt:54:5
 loop-less : tie.Need-loop-less Inv-loop μ-loop
 loop-less c = search needs
 
--- src/rows.rt:54:5
 loop-again : tie.Need-loop-again Inv-loop μ-loop
 loop-again c = (search needs, search needs, search needs, search needs, search needs, search needs, products-again _ _ _ _ _ _ (c .before .before .before .before .before .before .before .loop .inv .6) (c .before .before .add-product .ensures))
 
--- src/rows.rt:47:1
 same-length : tie.Need-same-length Inv-loop μ-loop
 same-length c = search needs
 
--- src/rows.rt:47:1
 returns : tie.Need-returns Inv-loop μ-loop
 returns c = products-done _ _ _ _ _ _ (c .before .loop .inv .0) (c .loop-test .left) (c .before .loop .inv .6)
 

@@ -19,47 +19,36 @@ Inv-loop w nu n j₀ j = (j ≤ n) × (n ≤ length w) × (n ≤ length nu) × (
 abbrev μ-loop : tie.MeasureT-loop
 μ-loop w nu n j₀ j = n - j
 
--- src/rows.rt:36:5
 loop-holds : tie.Need-loop-holds Inv-loop μ-loop
 loop-holds c = search (finite-first, needs)
 
--- src/rows.rt:37:24
 mul-both-finite : tie.Need-mul-both-finite Inv-loop μ-loop
 mul-both-finite c = search needs
 
--- src/rows.rt:37:24
 shared-slice-read-both-finite : tie.Need-shared-slice-read-both-finite Inv-loop μ-loop
 shared-slice-read-both-finite c = search needs
 
--- src/rows.rt:37:30
 mul-both-finite-2 : tie.Need-mul-both-finite-2 Inv-loop μ-loop
 mul-both-finite-2 c = search needs
 
--- src/rows.rt:37:30
 shared-slice-read-both-finite-2 : tie.Need-shared-slice-read-both-finite-2 Inv-loop μ-loop
 shared-slice-read-both-finite-2 c = search needs
 
--- src/rows.rt:37:12
 both-finite-requires : tie.Need-both-finite-requires Inv-loop μ-loop
 both-finite-requires c κs = search needs
 
--- src/rows.rt:38:13
 add-j : tie.Need-add-j Inv-loop μ-loop
 add-j c = search needs
 
--- src/rows.rt:36:5
 loop-less : tie.Need-loop-less Inv-loop μ-loop
 loop-less c = search needs
 
--- src/rows.rt:36:5
 loop-again : tie.Need-loop-again Inv-loop μ-loop
 loop-again c = (search needs, search needs, search needs, finite-again _ _ _ (c .before .before .before .before .before .loop .inv .3) (sym (c .before .both-finite .ensures) ∙ c .if1 .taken))
 
--- src/rows.rt:40:13
 returns : tie.Need-returns Inv-loop μ-loop
 returns c = finite-not _ _ _ _ (c .before .before .before .before .loop-test .taken) (sym (c .before .both-finite .ensures) ∙ c .if1 .left)
 
--- src/rows.rt:31:1
 returns-2 : tie.Need-returns-2 Inv-loop μ-loop
 returns-2 c = finite-done _ _ _ _ (c .before .loop .inv .0) (c .loop-test .left) (c .before .loop .inv .3)
 

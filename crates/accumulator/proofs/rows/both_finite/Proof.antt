@@ -7,19 +7,15 @@ use Rattle.accumulator.proofs.rows.both_finite.Reads as reads
 use Rattle.accumulator.proofs.rows.both_finite.Lts as lts
 use Rattle.floats.proofs.is_finite.Reads as is-finite-reads
 
--- src/rows.rt:24:8
 is-finite-requires : tie.Need-is-finite-requires
 is-finite-requires c κs = search needs
 
--- src/rows.rt:25:9
 is-finite-requires-2 : tie.Need-is-finite-requires-2
 is-finite-requires-2 c κs = search needs
 
--- src/rows.rt:25:9
 returns : tie.Need-returns
 returns c = and-then _ _ _ _ (c .before .before .is-finite .ensures) (c .before .if1 .taken) (c .is-finite2 .ensures)
 
--- src/rows.rt:21:1
 returns-2 : tie.Need-returns-2
 returns-2 c = and-not _ _ _ (c .before .is-finite .ensures) (c .if1 .left)
 

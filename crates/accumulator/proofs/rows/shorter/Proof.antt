@@ -6,11 +6,9 @@ use Rattle.accumulator.proofs.rows.shorter.Tie as tie
 use Rattle.accumulator.proofs.rows.shorter.Reads as reads
 use Rattle.accumulator.proofs.rows.shorter.Lts as lts
 
--- src/rows.rt:16:9
 returns : tie.Need-returns
 returns c = search (shorter-first, needs)
 
--- src/rows.rt:12:1
 returns-2 : tie.Need-returns-2
 returns-2 c = search (shorter-second, needs)
 

@@ -8,19 +8,15 @@ use Rattle.accumulator.proofs.rows.usable.Lts as lts
 use Rattle.accumulator.proofs.rows.all_finite.Reads as all-finite-reads
 use Rattle.floats.proofs.is_finite.Reads as is-finite-reads
 
--- src/rows.rt:51:8
 is-finite-requires : tie.Need-is-finite-requires
 is-finite-requires c κs = search needs
 
--- src/rows.rt:52:9
 all-finite-requires : tie.Need-all-finite-requires
 all-finite-requires c κs = search needs
 
--- src/rows.rt:52:9
 returns : tie.Need-returns
 returns c = and-then _ _ _ _ (c .before .before .is-finite .ensures) (c .before .if1 .taken) (c .all-finite .ensures)
 
--- src/rows.rt:47:1
 returns-2 : tie.Need-returns-2
 returns-2 c = and-not _ _ _ (c .before .is-finite .ensures) (c .if1 .left)
 

@@ -16,35 +16,27 @@ Inv-loop words i₀ i = (i ≤ length words) × ((k : ℕ) → k < i → getD wo
 abbrev μ-loop : tie.MeasureT-loop
 μ-loop words i₀ i = length words - i
 
--- src/sign.rt:12:5
 loop-holds : tie.Need-loop-holds Inv-loop μ-loop
 loop-holds c = search needs
 
--- src/sign.rt:13:12
 mul-if1 : tie.Need-mul-if1 Inv-loop μ-loop
 mul-if1 c = search needs
 
--- src/sign.rt:13:12
 shared-slice-read-if1 : tie.Need-shared-slice-read-if1 Inv-loop μ-loop
 shared-slice-read-if1 c = search needs
 
--- src/sign.rt:14:13
 returns : tie.Need-returns Inv-loop μ-loop
 returns c = some-word _ _ (c .if1 .taken)
 
--- src/sign.rt:16:9
 add-i : tie.Need-add-i Inv-loop μ-loop
 add-i c = search needs
 
--- src/sign.rt:12:5
 loop-less : tie.Need-loop-less Inv-loop μ-loop
 loop-less c = search needs
 
--- src/sign.rt:12:5
 loop-again : tie.Need-loop-again Inv-loop μ-loop
 loop-again c = (search needs, below-more _ _ (c .before .before .before .loop .inv .1) (omega arith))
 
--- src/sign.rt:8:1
 returns-2 : tie.Need-returns-2 Inv-loop μ-loop
 returns-2 c = no-word _ _ (c .loop-test .left) (c .before .loop .inv .1)
 

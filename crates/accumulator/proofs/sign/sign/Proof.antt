@@ -8,23 +8,18 @@ use Rattle.accumulator.proofs.sign.sign.Reads as reads
 use Rattle.accumulator.proofs.sign.sign.Lts as lts
 use Rattle.accumulator.proofs.sign.is_zero.Reads as is-zero-reads
 
--- src/sign.rt:26:8
 shared-slice-read-if1 : tie.Need-shared-slice-read-if1
 shared-slice-read-if1 c = search needs
 
--- src/sign.rt:27:9
 returns : tie.Need-returns
 returns c = sign-below _ (record { all = c .before .before .before .pre; each = c .before .before .shared-slice-known .given }) (c .if1 .taken)
 
--- src/sign.rt:29:8
 is-zero-requires : tie.Need-is-zero-requires
 is-zero-requires c κs = search needs
 
--- src/sign.rt:30:9
 returns-2 : tie.Need-returns-2
 returns-2 c = sign-zero _ (record { all = c .before .before .before .before .before .pre; each = c .before .before .before .before .shared-slice-known .given }) (c .before .before .if1 .left) (sym (c .before .is-zero .ensures) ∙ c .if2 .taken)
 
--- src/sign.rt:22:1
 returns-3 : tie.Need-returns-3
 returns-3 c = sign-above _ (record { all = c .before .before .before .before .before .pre; each = c .before .before .before .before .shared-slice-known .given }) (c .before .before .if1 .left) (sym (c .before .is-zero .ensures) ∙ c .if2 .left)
 

@@ -10,23 +10,18 @@ use Rattle.accumulator.proofs.term.add_free.Lts as lts
 use Rattle.accumulator.proofs.term.add.Reads as add-reads
 use Rattle.accumulator.proofs.term.units.Reads as units-reads
 
--- src/term.rt:119:9
 units-requires : tie.Need-units-requires
 units-requires c κs = search needs
 
--- src/term.rt:120:41
 add-add : tie.Need-add-add
 add-add c = search needs
 
--- src/term.rt:120:5
 add-requires : tie.Need-add-requires
 add-requires c κs = search needs
 
--- src/term.rt:115:1
 same-length : tie.Need-same-length
 same-length c = search needs
 
--- src/term.rt:115:1
 returns : tie.Need-returns
 returns c = c .before .before .add .ensures ∙ ap (added _) (free-is (c .before .before .before .before .before .before .before .args .u) _ _ _ (c .before .before .before .before .before .units .ensures))
 

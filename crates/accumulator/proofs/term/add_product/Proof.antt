@@ -11,31 +11,24 @@ use Rattle.accumulator.proofs.term.add.Reads as add-reads
 use Rattle.accumulator.proofs.term.product.Reads as product-reads
 use Rattle.accumulator.proofs.term.units.Reads as units-reads
 
--- src/term.rt:128:9
 units-requires : tie.Need-units-requires
 units-requires c κs = search needs
 
--- src/term.rt:129:9
 units-requires-2 : tie.Need-units-requires-2
 units-requires-2 c κs = search needs
 
--- src/term.rt:130:9
 product-requires : tie.Need-product-requires
 product-requires c κs = search needs
 
--- src/term.rt:136:9
 add-add : tie.Need-add-add
 add-add c = search needs
 
--- src/term.rt:131:5
 add-requires : tie.Need-add-requires
 add-requires c κs = search needs
 
--- src/term.rt:124:1
 same-length : tie.Need-same-length
 same-length c = search needs
 
--- src/term.rt:124:1
 returns : tie.Need-returns
 returns c =
     c .before .before .add .ensures ∙ ap

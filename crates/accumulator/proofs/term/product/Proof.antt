@@ -9,43 +9,33 @@ use Rattle.accumulator.proofs.term.above.Reads as above-reads
 use Rattle.accumulator.proofs.term.small_times.Reads as small-times-reads
 use Rattle.accumulator.proofs.term.times.Reads as times-reads
 
--- src/term.rt:88:9
 times-requires : tie.Need-times-requires
 times-requires c κs = search needs
 
--- src/term.rt:89:18
 small-times-requires : tie.Need-small-times-requires
 small-times-requires c κs = search needs
 
--- src/term.rt:89:38
 small-times-requires-2 : tie.Need-small-times-requires-2
 small-times-requires-2 c κs = search needs
 
--- src/term.rt:89:18
 add-middle : tie.Need-add-middle
 add-middle c = search needs
 
--- src/term.rt:89:18
 add-middle-2 : tie.Need-add-middle-2
 add-middle-2 c = search needs
 
--- src/term.rt:91:14
 mul-t12 : tie.Need-mul-t12
 mul-t12 c = search needs
 
--- src/term.rt:91:14
 add-t10 : tie.Need-add-t10
 add-t10 c = search needs
 
--- src/term.rt:92:21
 small-times-requires-3 : tie.Need-small-times-requires-3
 small-times-requires-3 c κs = search needs
 
--- src/term.rt:92:15
 above-requires : tie.Need-above-requires
 above-requires c κs = search needs
 
--- src/term.rt:80:1
 returns : tie.Need-returns
 returns c = search (halved-above, needs)
 

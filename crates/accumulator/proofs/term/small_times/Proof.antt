@@ -6,11 +6,9 @@ use Rattle.accumulator.proofs.term.small_times.Tie as tie
 use Rattle.accumulator.proofs.term.small_times.Reads as reads
 use Rattle.accumulator.proofs.term.small_times.Lts as lts
 
--- src/term.rt:68:5
 mul-result : tie.Need-mul-result
 mul-result c = omega (arith, below-53 (c .args .a) (c .args .b) (c .pre .0) (c .pre .1))
 
--- src/term.rt:64:1
 returns : tie.Need-returns
 returns c = search (below-53, needs)
 

@@ -14,23 +14,18 @@ use Rattle.accumulator.proofs.term.of_magnitude.Reads as of-magnitude-r
 held : (c : tie.Start) → T (fits binary64 (c .args .v))
 held c = subst T (sym (c .good .0 .1)) tt
 
--- src/term.rt:48:13
 float-to-bits-b : tie.Need-float-to-bits-b
 float-to-bits-b c = no-nan (c .args .v) (c .pre)
 
--- src/term.rt:50:9
 of-magnitude-requires : tie.Need-of-magnitude-requires
 of-magnitude-requires c κs = plus-lt (c .before .args .v) (held (c .before)) (c .before .pre) (c .if1 .taken)
 
--- src/term.rt:50:9
 returns : tie.Need-returns
 returns c = scales-at _ _ _ _ _ (of-plus (c .before .before .args .v) (held (c .before .before))) (c .of-magnitude .ensures)
 
--- src/term.rt:52:5
 of-magnitude-requires-2 : tie.Need-of-magnitude-requires-2
 of-magnitude-requires-2 c κs = minus-lt (c .before .args .v) (held (c .before)) (c .before .pre) (c .if1 .left)
 
--- src/term.rt:44:1
 returns-2 : tie.Need-returns-2
 returns-2 c = scales-at _ _ _ _ _ (of-minus (c .before .before .args .v) (held (c .before .before)) (c .before .if1 .left)) (c .of-magnitude2 .ensures)
 

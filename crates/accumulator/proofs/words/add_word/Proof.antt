@@ -7,31 +7,24 @@ use Rattle.accumulator.proofs.words.add_word.Reads as reads
 use Rattle.accumulator.proofs.words.add_word.Lts as lts
 use Rattle.accumulator.proofs.words.add_carry.Reads as add-carry-reads
 
--- src/words.rt:66:23
 mul-add-carry : tie.Need-mul-add-carry
 mul-add-carry c = search needs
 
--- src/words.rt:66:23
 slice-read-add-carry : tie.Need-slice-read-add-carry
 slice-read-add-carry c = search needs
 
--- src/words.rt:66:9
 add-carry-requires : tie.Need-add-carry-requires
 add-carry-requires c κs = search needs
 
--- src/words.rt:67:5
 mul-words : tie.Need-mul-words
 mul-words c = search needs
 
--- src/words.rt:67:5
 slice-write-words : tie.Need-slice-write-words
 slice-write-words c = search needs
 
--- src/words.rt:60:1
 same-length : tie.Need-same-length
 same-length c = search needs
 
--- src/words.rt:60:1
 returns : tie.Need-returns
 returns c = search (word-added, needs)
 

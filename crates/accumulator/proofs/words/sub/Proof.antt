@@ -8,39 +8,30 @@ use Rattle.accumulator.proofs.words.sub.Lts as lts
 use Rattle.accumulator.proofs.words.borrow_on.Reads as borrow-on-reads
 use Rattle.accumulator.proofs.words.sub_word.Reads as sub-word-reads
 
--- src/words.rt:137:9
 sub-word-requires : tie.Need-sub-word-requires
 sub-word-requires c κs = search needs
 
--- src/words.rt:138:29
 add-sub-word : tie.Need-add-sub-word
 add-sub-word c = search needs
 
--- src/words.rt:138:9
 sub-word-requires-2 : tie.Need-sub-word-requires-2
 sub-word-requires-2 c κs = search needs
 
--- src/words.rt:139:29
 add-sub-word-2 : tie.Need-add-sub-word-2
 add-sub-word-2 c = search needs
 
--- src/words.rt:139:9
 sub-word-requires-3 : tie.Need-sub-word-requires-3
 sub-word-requires-3 c κs = search needs
 
--- src/words.rt:141:26
 add-borrow-on : tie.Need-add-borrow-on
 add-borrow-on c = search needs
 
--- src/words.rt:141:9
 borrow-on-requires : tie.Need-borrow-on-requires
 borrow-on-requires c κs = search needs
 
--- src/words.rt:133:1
 same-length : tie.Need-same-length
 same-length c = search needs
 
--- src/words.rt:133:1
 returns : tie.Need-returns
 returns c =
     all-taken _ _ _ _ _ _ _
@@ -50,11 +41,9 @@ returns c =
     (c .before .before .before .before .before .before .before .sub-word3 .ensures .1)
     (three-taken _ _ _ _ _ _ _ _ _ _ _ (c .before .before .before .before .before .before .before .sub-word3 .ensures .0) (c .before .before .before .before .before .before .before .before .before .before .before .sub-word2 .ensures .0) (c .before .before .before .before .before .before .before .before .before .before .before .before .before .before .before .sub-word .ensures .0))
 
--- src/words.rt:133:1
 same-length-2 : tie.Need-same-length-2
 same-length-2 c = search needs
 
--- src/words.rt:133:1
 returns-2 : tie.Need-returns-2
 returns-2 c =
     taken-alone _ _ _ _ _

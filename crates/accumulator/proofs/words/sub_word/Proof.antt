@@ -7,31 +7,24 @@ use Rattle.accumulator.proofs.words.sub_word.Reads as reads
 use Rattle.accumulator.proofs.words.sub_word.Lts as lts
 use Rattle.accumulator.proofs.words.sub_borrow.Reads as sub-borrow-reads
 
--- src/words.rt:78:24
 mul-sub-borrow : tie.Need-mul-sub-borrow
 mul-sub-borrow c = search needs
 
--- src/words.rt:78:24
 slice-read-sub-borrow : tie.Need-slice-read-sub-borrow
 slice-read-sub-borrow c = search needs
 
--- src/words.rt:78:9
 sub-borrow-requires : tie.Need-sub-borrow-requires
 sub-borrow-requires c κs = search needs
 
--- src/words.rt:79:5
 mul-words : tie.Need-mul-words
 mul-words c = search needs
 
--- src/words.rt:79:5
 slice-write-words : tie.Need-slice-write-words
 slice-write-words c = search needs
 
--- src/words.rt:72:1
 same-length : tie.Need-same-length
 same-length c = search needs
 
--- src/words.rt:72:1
 returns : tie.Need-returns
 returns c = search (word-taken, needs)
 

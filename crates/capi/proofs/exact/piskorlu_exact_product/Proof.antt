@@ -11,31 +11,24 @@ use Rattle.capi.proofs.exact.leave.Reads as leave-reads
 use Rattle.capi.proofs.exact.state.Reads as state-reads
 use Rattle.capi.proofs.exact.taken.Reads as taken-reads
 
--- src/exact.rt:100:8
 taken-requires : tie.Need-taken-requires
 taken-requires c κs = search needs
 
--- src/exact.rt:101:21
 state-requires : tie.Need-state-requires
 state-requires c κs = room _ _ (sym (c .before .before .before .taken .ensures) ∙ c .before .before .if1 .taken)
 
--- src/exact.rt:101:13
 add-product-requires : tie.Need-add-product-requires
 add-product-requires c κs = search needs
 
--- src/exact.rt:102:9
 leave-requires : tie.Need-leave-requires
 leave-requires c κs = room _ _ (sym (c .before .before .before .before .before .before .before .taken .ensures) ∙ c .before .before .before .before .before .before .if1 .taken)
 
--- src/exact.rt:102:9
 same-length : tie.Need-same-length
 same-length c = search needs
 
--- src/exact.rt:102:9
 same-length-2 : tie.Need-same-length-2
 same-length-2 c = search needs
 
--- src/exact.rt:102:9
 returns : tie.Need-returns
 returns c =
     product-left _ _ _ _ _ _
@@ -44,15 +37,12 @@ returns c =
     (c .before .before .before .before .before .before .before .before .state .ensures)
     (c .before .before .before .before .before .before .before .add-product .ensures)
 
--- src/exact.rt:92:1
 same-length-3 : tie.Need-same-length-3
 same-length-3 c = search needs
 
--- src/exact.rt:92:1
 same-length-4 : tie.Need-same-length-4
 same-length-4 c = search needs
 
--- src/exact.rt:92:1
 returns-2 : tie.Need-returns-2
 returns-2 c = left-short _ _ _ (sym (c .before .taken .ensures) ∙ c .if1 .left)
 

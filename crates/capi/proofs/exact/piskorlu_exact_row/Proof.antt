@@ -10,39 +10,30 @@ use Rattle.accumulator.proofs.row.Reads as row-reads
 use Rattle.capi.proofs.exact.leave.Reads as leave-reads
 use Rattle.capi.proofs.exact.taken.Reads as taken-reads
 
--- src/exact.rt:115:8
 taken-requires : tie.Need-taken-requires
 taken-requires c κs = search needs
 
--- src/exact.rt:116:13
 row-requires : tie.Need-row-requires
 row-requires c κs = search needs
 
--- src/exact.rt:117:9
 leave-requires : tie.Need-leave-requires
 leave-requires c κs = room _ _ (sym (c .before .before .before .before .taken .ensures) ∙ c .before .before .before .if1 .taken)
 
--- src/exact.rt:117:9
 same-length : tie.Need-same-length
 same-length c = search needs
 
--- src/exact.rt:117:9
 same-length-2 : tie.Need-same-length-2
 same-length-2 c = search needs
 
--- src/exact.rt:117:9
 returns : tie.Need-returns
 returns c = row-left _ _ _ _ _ _ (sym (c .before .before .before .before .before .before .before .before .before .taken .ensures) ∙ c .before .before .before .before .before .before .before .before .if1 .taken) (c .before .before .before .before .leave .ensures) _ _ _ (c .before .before .before .before .before .before .before .row .ensures)
 
--- src/exact.rt:108:1
 same-length-3 : tie.Need-same-length-3
 same-length-3 c = search needs
 
--- src/exact.rt:108:1
 same-length-4 : tie.Need-same-length-4
 same-length-4 c = search needs
 
--- src/exact.rt:108:1
 returns-2 : tie.Need-returns-2
 returns-2 c = left-short _ _ _ (sym (c .before .taken .ensures) ∙ c .if1 .left)
 

@@ -10,43 +10,33 @@ use Rattle.accumulator.proofs.Accumulator.sign.Reads as sign-reads
 use Rattle.capi.proofs.exact.copy.Reads as copy-reads
 use Rattle.capi.proofs.exact.sign_taken.Reads as sign-taken-reads
 
--- src/exact.rt:129:8
 sign-taken-requires : tie.Need-sign-taken-requires
 sign-taken-requires c κs = search needs
 
--- src/exact.rt:131:14
 slice-aggregate-copy : tie.Need-slice-aggregate-copy
 slice-aggregate-copy c = took (c .before .before .before .before .before .args .words .now) (sign-room _ _ (sym (c .before .before .sign-taken .ensures) ∙ c .before .if1 .taken) .0)
 
--- src/exact.rt:131:28
 slice-aggregate-copy-2 : tie.Need-slice-aggregate-copy-2
 slice-aggregate-copy-2 c = search needs
 
--- src/exact.rt:131:9
 copy-requires : tie.Need-copy-requires
 copy-requires c κs = take-fits (c .before .before .before .before .before .before .args .words .now) (sign-room _ _ (sym (c .before .before .before .sign-taken .ensures) ∙ c .before .before .if1 .taken) .0)
 
--- src/exact.rt:137:19
 sign-requires : tie.Need-sign-requires
 sign-requires c κs = search needs
 
--- src/exact.rt:137:9
 slice-set-from-sign : tie.Need-slice-set-from-sign
 slice-set-from-sign c = sign-room _ _ (sym (c .before .before .before .before .before .before .sign-taken .ensures) ∙ c .before .before .before .before .before .if1 .taken) .1
 
--- src/exact.rt:138:9
 same-length : tie.Need-same-length
 same-length c = search needs
 
--- src/exact.rt:138:9
 returns : tie.Need-returns
 returns c = sign-long _ _ _ _ (sym (c .before .before .before .before .before .before .sign-taken .ensures) ∙ c .before .before .before .before .before .if1 .taken) (c .before .before .copy .ensures) (c .sign .ensures)
 
--- src/exact.rt:123:1
 same-length-2 : tie.Need-same-length-2
 same-length-2 c = search needs
 
--- src/exact.rt:123:1
 returns-2 : tie.Need-returns-2
 returns-2 c = sign-short _ _ (sym (c .before .sign-taken .ensures) ∙ c .if1 .left)
 

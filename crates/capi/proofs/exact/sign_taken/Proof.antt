@@ -7,12 +7,10 @@ use Rattle.capi.proofs.exact.sign_taken.Tie as tie
 use Rattle.capi.proofs.exact.sign_taken.Reads as reads
 use Rattle.capi.proofs.exact.sign_taken.Lts as lts
 
--- src/exact.rt:27:9
 returns : tie.Need-returns
 unfolding def.signTaken
 returns c = rw (lt-leb _ _ (c .if1 .taken))
 
--- src/exact.rt:23:1
 returns-2 : tie.Need-returns-2
 unfolding def.signTaken
 returns-2 c = rw (le-leb _ _ (c .if1 .left))

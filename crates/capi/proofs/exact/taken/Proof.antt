@@ -7,12 +7,10 @@ use Rattle.capi.proofs.exact.taken.Tie as tie
 use Rattle.capi.proofs.exact.taken.Reads as reads
 use Rattle.capi.proofs.exact.taken.Lts as lts
 
--- src/exact.rt:17:9
 returns : tie.Need-returns
 unfolding def.taken
 returns c = rw (lt-leb _ _ (c .if1 .taken))
 
--- src/exact.rt:13:1
 returns-2 : tie.Need-returns-2
 unfolding def.taken
 returns-2 c = rw (le-leb _ _ (c .if1 .left))
