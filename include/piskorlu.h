@@ -1,28 +1,81 @@
 /*
- * Piskorlu: box-bounded pad loads, for C.
+ * Piskorlu: box-bounded pad loads, for C and C++. docs/SPECIFICATION.md defines
+ * what every call answers.
  *
- * Link with target/staticlib/libcapi.a, which `rt staticlib capi` makes for
- * x86-64. Nothing is allocated, no state is kept between calls, and no call
- * fails to return: every function ends on any lengths and any values, NaN and
- * infinities included.
+ * Link with libpiskorlu.a, which tools/install.sh installs for x86-64 (in the
+ * repository it is target/staticlib/libcapi.a). It needs memcpy and memset of
+ * the C library and nothing else. Nothing is allocated, no state is kept
+ * between calls, and no call fails to return: every function ends on any
+ * lengths and any values, NaN and infinities included.
  *
- * A buffer is lent as a pointer and the number of its values. It must be
- * readable and writable for that many values and must not overlap another one
- * lent in the same call. A call that cannot be taken returns the number of its
- * refusal and writes nothing at all.
+ * Buffers. A buffer is lent as a pointer and the number of its values. A const
+ * one is only read: it may lie in read-only memory and overlap other const
+ * ones. Any other one must be writable for that many values and must not
+ * overlap any buffer lent in the same call. A pointer is aligned for its type.
+ * Where the number is 0 the pointer is not used, and NULL will do. A call that
+ * cannot be taken returns the number of its refusal and writes nothing at all.
+ *
+ * Threads. Calls use their buffers and their stack alone, so that any number of
+ * threads may call at once, each with its own writable buffers. A call may be
+ * made from a signal handler.
+ *
+ * Stack. A call takes at most as many bytes as the PISKORLU_.._STACK beside it
+ * says (PISKORLU_CALL_STACK where there is none), whatever its input, and
+ * touches them page by page, so that a guard page stops it where the stack is
+ * too small.
+ *
+ * Floating point. The proofs are about IEEE 754 double precision, rounding to
+ * nearest, with subnormal numbers. Another rounding mode, or subnormal numbers
+ * taken or given as zero, gives other answers; gcc and clang switch to the
+ * latter for a whole program that is linked with -Ofast or -ffast-math. Ask
+ * piskorlu_float_environment_ok() once in each thread. Exceptions must be
+ * masked, as they are where a program starts; their flags are changed.
+ *
+ * When the loads may be used. PISKORLU_ACCEPTED says only that the call was
+ * taken. Use the multipliers nu only where piskorlu_usable() says so:
+ *
+ *   outcome     is PISKORLU_SOLVED. After an infeasible answer nu and states
+ *               are where the solver stopped, and are no loads.
+ *   converged   is 1. A solved answer may be one that had not settled after 200
+ *               sweeps.
+ *   residual    is small enough. An exact answer of an ill-conditioned problem
+ *               may leave more than 1e-9.
+ *   nu          is finite, every value. One NaN in u_free, in W or in the start
+ *               gives NaN loads in an answer that is solved, converged and
+ *               exact with residual 0.
+ *
+ * Two things show in the input alone: a row whose diagonal is NaN or not above
+ * 0 is left out (counts[PISKORLU_COUNT_IDLE] tells how many), and a bound that
+ * is NaN bounds nothing.
  */
 #ifndef PISKORLU_H
 #define PISKORLU_H
 
+#include <float.h>
 #include <stddef.h>
 #include <stdint.h>
+#include <string.h>
 
 #ifdef __cplusplus
 extern "C" {
 #endif
 
+#define PISKORLU_VERSION "1.0.0"
+
+/* The most stack of a call that has no number of its own. */
+#define PISKORLU_CALL_STACK 4096
+
 /* A call was taken. */
 #define PISKORLU_ACCEPTED 0u
+
+/* Bend file: under 16 or over 65,536 bytes. */
+#define PISKORLU_REFUSED_FILE_SIZE 1u
+/* Bend file: its last four bytes are not the mark 42 45 4E 44. */
+#define PISKORLU_REFUSED_FILE_MARK 2u
+/* Bend file: more than PISKORLU_MOST rows or PISKORLU_MOST_MOTION motion values. */
+#define PISKORLU_REFUSED_FILE_LIMITS 3u
+/* Bend file: its count does not fit rows and coords, or its length the count. */
+#define PISKORLU_REFUSED_FILE_COUNT 4u
 
 /* Solve: more than PISKORLU_MOST rows or PISKORLU_MOST_MOTION motion values. */
 #define PISKORLU_REFUSED_TOO_LARGE 5u
@@ -87,6 +140,7 @@ extern "C" {
  * The square root of v, rounded to nearest, ties to even, as IEEE 754 asks.
  * Zeros and plus infinity give themselves; NaN and negative numbers give NaN.
  */
+#define PISKORLU_SQRT_STACK 256
 double piskorlu_sqrt(double v);
 
 /*
@@ -104,6 +158,7 @@ double piskorlu_sqrt(double v);
  * and x is zero. Returns PISKORLU_ACCEPTED, or PISKORLU_REFUSED_LEAST_NORM
  * where a length is not as said here, and then nothing is written.
  */
+#define PISKORLU_LEAST_NORM_STACK 2048
 uint32_t piskorlu_least_norm(double *a, size_t a_len, size_t m, size_t n,
                              double *b, size_t b_len,
                              double *x, size_t x_len,
@@ -127,16 +182,16 @@ uint32_t piskorlu_least_norm(double *a, size_t a_len, size_t m, size_t n,
  * scale      a load's size at each row, finite and above 0.
  * motion     rows of n values, one for each coordinate that is watched; the
  *            sweeps may stop where none moves by more than tolerance.
- * nu         the multipliers to start from; receives the answer.
+ * nu         the multipliers to start from; receives the answer. Ask
+ *            piskorlu_usable() before you take them for loads.
  * states     receives each row's state: PISKORLU_INSIDE and so on. Later ones
  *            are kept.
- * rows       receives the rows that fight at its front, rising, if there is no
- *            answer. Later ones are kept; at least n.
+ * rows       receives the rows of an infeasible answer at its front, rising.
+ *            Later ones are kept; at least n.
  * workspace  at least PISKORLU_SOLVE_WORKSPACE values, of any contents. The
  *            first that many are overwritten, later ones are kept.
- * counts     receives PISKORLU_SOLVE_COUNTS counts: the outcome, sweeps, exact
- *            passes, converged and exact (0 or 1), Idle rows, and how many
- *            rows fight.
+ * counts     receives PISKORLU_SOLVE_COUNTS counts, at the places
+ *            PISKORLU_COUNT_OUTCOME and so on.
  * residual   receives the largest natural residual in residual[0].
  *
  * Returns PISKORLU_ACCEPTED, or one of the numbers 5 to 10, the first that
@@ -144,12 +199,31 @@ uint32_t piskorlu_least_norm(double *a, size_t a_len, size_t m, size_t n,
  * is written.
  */
 #define PISKORLU_SOLVE_COUNTS 7
+#define PISKORLU_SOLVE_STACK 14336
 
-/* The outcome: solved, or no motion meets every row, and how that was found. */
+/* The places of the counts: converged and exact are 0 or 1, idle is the number
+   of Idle rows, listed the number of rows at the front of `rows`. */
+#define PISKORLU_COUNT_OUTCOME 0
+#define PISKORLU_COUNT_SWEEPS 1
+#define PISKORLU_COUNT_EXACT_PASSES 2
+#define PISKORLU_COUNT_CONVERGED 3
+#define PISKORLU_COUNT_EXACT 4
+#define PISKORLU_COUNT_IDLE 5
+#define PISKORLU_COUNT_LISTED 6
+
+/* The outcome: solved, or infeasible, and how that was found. By growth: a
+   multiplier passed a million times its scale, which a scale that is far too
+   small gives too. In a pass or after a sweep: multipliers were found that can
+   grow together without end, so that no motion meets every row. */
 #define PISKORLU_SOLVED 0u
-#define PISKORLU_FIGHT_BY_GROWTH 1u
-#define PISKORLU_FIGHT_IN_PASS 2u
-#define PISKORLU_FIGHT_AFTER_SWEEP 3u
+#define PISKORLU_INFEASIBLE_BY_GROWTH 1u
+#define PISKORLU_INFEASIBLE_IN_PASS 2u
+#define PISKORLU_INFEASIBLE_AFTER_SWEEP 3u
+
+/* The same three by their names before version 1.0.0. */
+#define PISKORLU_FIGHT_BY_GROWTH PISKORLU_INFEASIBLE_BY_GROWTH
+#define PISKORLU_FIGHT_IN_PASS PISKORLU_INFEASIBLE_IN_PASS
+#define PISKORLU_FIGHT_AFTER_SWEEP PISKORLU_INFEASIBLE_AFTER_SWEEP
 
 #define PISKORLU_INSIDE 0u
 #define PISKORLU_AT_LO 1u
@@ -171,13 +245,150 @@ uint32_t piskorlu_solve(const double *w, size_t w_len,
                         double *residual, size_t residual_len);
 
 /*
- * Reports of solves joined. A report is nine counts and a residual; the counts
- * are, in this order: increments, iterations, most_iterations, rejected,
- * anchors, sweeps, exact_passes, and the flags converged and exact, where 0 is
- * no and any other value yes (a joined report has 1 for yes). The report of no
- * solve at all is {0, 0, 0, 0, 0, 0, 0, 1, 1} with residual 0.
+ * Whether the calling thread's floating-point operations are those that the
+ * proofs are about: rounded to nearest, ties to even, subnormal numbers kept.
+ * The values are volatile, so that they are computed where the call is made and
+ * not by the compiler, whatever its options.
+ */
+static inline int piskorlu_float_environment_ok(void)
+{
+    volatile double one = 1.0, two = 2.0, smallest_normal = DBL_MIN;
+    volatile double half_unit = DBL_EPSILON / 2.0;
+    volatile double more_than_half = DBL_EPSILON * 0.75;
+    volatile double next = 1.0 + DBL_EPSILON, result;
+
+    result = one + half_unit;
+    if (result != one)
+        return 0;
+    result = one + more_than_half;
+    if (result != next)
+        return 0;
+    result = smallest_normal / two;
+    result = result * two;
+    return result == smallest_normal;
+}
+
+/* Whether v is neither NaN nor an infinity, whatever the compiler's options. */
+static inline int piskorlu_finite(double v)
+{
+    uint64_t bits;
+
+    memcpy(&bits, &v, sizeof bits);
+    return (bits >> 52 & 0x7FFu) != 0x7FFu;
+}
+
+/*
+ * Whether the loads of an accepted solve may be used: solved, converged, a
+ * residual of at most most_residual (1e-9, say), and every one of the n
+ * multipliers finite. Where every row should act, ask also that
+ * counts[PISKORLU_COUNT_IDLE] is 0.
+ */
+static inline int piskorlu_usable(const size_t *counts, double residual,
+                                  const double *nu, size_t n,
+                                  double most_residual)
+{
+    size_t i;
+
+    if (counts[PISKORLU_COUNT_OUTCOME] != PISKORLU_SOLVED
+        || counts[PISKORLU_COUNT_CONVERGED] == 0 || !(residual <= most_residual))
+        return 0;
+    for (i = 0; i < n; i++)
+        if (!piskorlu_finite(nu[i]))
+            return 0;
+    return 1;
+}
+
+/* The number that a call returned, in words. */
+static inline const char *piskorlu_number_in_words(uint32_t number)
+{
+    switch (number) {
+    case PISKORLU_ACCEPTED:
+        return "accepted";
+    case PISKORLU_REFUSED_FILE_SIZE:
+        return "bend file: under 16 or over 65,536 bytes";
+    case PISKORLU_REFUSED_FILE_MARK:
+        return "bend file: its last four bytes are not the mark";
+    case PISKORLU_REFUSED_FILE_LIMITS:
+        return "bend file: more than 32 rows or 2,048 motion values";
+    case PISKORLU_REFUSED_FILE_COUNT:
+        return "bend file: count or length does not fit";
+    case PISKORLU_REFUSED_TOO_LARGE:
+        return "solve: more than 32 rows or 2,048 motion values";
+    case PISKORLU_REFUSED_NOT_SQUARE:
+        return "solve: w is not n by n";
+    case PISKORLU_REFUSED_UNEQUAL:
+        return "solve: lo, hi, scale or nu has not one value for each row";
+    case PISKORLU_REFUSED_SCALE:
+        return "solve: a scale that is not finite and above 0";
+    case PISKORLU_REFUSED_MOTION:
+        return "solve: motion is no whole number of rows";
+    case PISKORLU_REFUSED_SHORT:
+        return "solve: workspace, states, rows, counts or residual too short";
+    case PISKORLU_REFUSED_TALLY:
+        return "tallied solve: the tally might not hold one solve more";
+    case PISKORLU_REFUSED_LEAST_NORM:
+        return "least norm: lengths that do not agree, or too large or too small";
+    case PISKORLU_REFUSED_JOIN:
+        return "joins: a count's sum too large, or a buffer too short";
+    default:
+        return "not a number of this library";
+    }
+}
+
+/* counts[PISKORLU_COUNT_OUTCOME] in words. */
+static inline const char *piskorlu_outcome_in_words(size_t outcome)
+{
+    switch (outcome) {
+    case PISKORLU_SOLVED:
+        return "solved";
+    case PISKORLU_INFEASIBLE_BY_GROWTH:
+        return "infeasible: a multiplier passed a million times its scale";
+    case PISKORLU_INFEASIBLE_IN_PASS:
+        return "infeasible: an exact pass found multipliers that grow without end";
+    case PISKORLU_INFEASIBLE_AFTER_SWEEP:
+        return "infeasible: after a sweep multipliers grow without end";
+    default:
+        return "not an outcome of this library";
+    }
+}
+
+/* A row's state in words. */
+static inline const char *piskorlu_state_in_words(uint8_t state)
+{
+    switch (state) {
+    case PISKORLU_INSIDE:
+        return "inside";
+    case PISKORLU_AT_LO:
+        return "at lo";
+    case PISKORLU_AT_HI:
+        return "at hi";
+    case PISKORLU_IDLE:
+        return "idle";
+    default:
+        return "not a state of this library";
+    }
+}
+
+/*
+ * Reports of solves joined. A report is nine counts, at the places below, and a
+ * residual. Of the flags converged and exact, 0 is no and any other value yes
+ * (a joined report has 1 for yes). The report of no solve at all has the counts
+ * PISKORLU_REPORT_OF_NO_SOLVE, an initializer, and residual 0.
  */
 #define PISKORLU_REPORT_COUNTS 9
+#define PISKORLU_REPORT_INCREMENTS 0
+#define PISKORLU_REPORT_ITERATIONS 1
+#define PISKORLU_REPORT_MOST_ITERATIONS 2
+#define PISKORLU_REPORT_REJECTED 3
+#define PISKORLU_REPORT_ANCHORS 4
+#define PISKORLU_REPORT_SWEEPS 5
+#define PISKORLU_REPORT_EXACT_PASSES 6
+#define PISKORLU_REPORT_CONVERGED 7
+#define PISKORLU_REPORT_EXACT 8
+
+#define PISKORLU_REPORT_OF_NO_SOLVE {0u, 0u, 0u, 0u, 0u, 0u, 0u, 1u, 1u}
+
+#define PISKORLU_JOIN_STACK 256
 
 /*
  * Two reports together, as one procedure's: counts added, the larger
@@ -220,6 +431,7 @@ uint32_t piskorlu_continued(const uint32_t *a, size_t a_len, double a_residual,
  * tally has 4,294,967,295 increments, more than 4,294,967,095 sweeps or more
  * than 4,294,967,286 exact passes; and then nothing is written.
  */
+#define PISKORLU_TALLIED_STACK 14336
 uint32_t piskorlu_tallied(uint32_t *tally, size_t tally_len,
                           double *tally_residual, size_t tally_residual_len,
                           const double *w, size_t w_len,
@@ -283,6 +495,7 @@ uint32_t piskorlu_exact_sign(const uint64_t *words, size_t words_len,
 
 /* The fewest bytes of a buffer for piskorlu_bend. */
 #define PISKORLU_BEND_ROOM 2048
+#define PISKORLU_BEND_STACK 61440
 
 /*
  * What the program bendsolve writes for a bend file.

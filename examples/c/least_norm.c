@@ -1,10 +1,11 @@
 /*
  * The least-norm answer of 3 x + 4 y = 5, and a square root.
  *
- * From the repository's root, after `rt staticlib capi`:
+ * From the repository's root, with the library installed under PREFIX by
+ * tools/install.sh:
  *
- *   cc -std=c99 -Wall -Wextra -I include examples/c/least_norm.c \
- *      target/staticlib/libcapi.a -o target/least_norm && target/least_norm
+ *   cc -std=c99 -Wall -Wextra -I PREFIX/include examples/c/least_norm.c \
+ *      -L PREFIX/lib -lpiskorlu -o least_norm && ./least_norm
  *
  * It prints
  *
@@ -26,7 +27,8 @@ int main(void)
     uint32_t number = piskorlu_least_norm(a, 2, 1, 2, b, 1, x, 2, workspace,
                                           PISKORLU_LEAST_NORM_WORKSPACE, rank, 1);
     if (number != PISKORLU_ACCEPTED) {
-        fprintf(stderr, "refused %u\n", (unsigned)number);
+        fprintf(stderr, "refused %u: %s\n", (unsigned)number,
+                piskorlu_number_in_words(number));
         return 1;
     }
     printf("3 x + 4 y = 5: rank %u, x = %.17g, y = %.17g\n", (unsigned)rank[0], x[0], x[1]);

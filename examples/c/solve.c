@@ -1,24 +1,24 @@
 /*
  * Two pads on a shaft: the first carries the load, the second lifts off. Then
- * two stops that fight.
+ * two stops that cannot both be met, and a cell that gave NaN. It uses the
+ * loads only where they may be used.
  *
- * From the repository's root, after `rt staticlib capi`:
+ * From the repository's root, with the library installed under PREFIX by
+ * tools/install.sh:
  *
- *   cc -std=c99 -Wall -Wextra -I include examples/c/solve.c \
- *      target/staticlib/libcapi.a -o target/solve && target/solve
+ *   cc -std=c99 -Wall -Wextra -I PREFIX/include examples/c/solve.c \
+ *      -L PREFIX/lib -lpiskorlu -o solve && ./solve
  */
 #include <math.h>
 #include <stdio.h>
 
 #include "piskorlu.h"
 
-static const char STATES[] = "ILHZ";
-
-/* Solves a problem of two rows and prints its answer; whether it was taken. */
-static int show(const char *name, const double *w, const double *u_free,
-                const double *hi)
+/* Solves a problem of two pads and prints its answer; whether it was taken. */
+static int show(const char *name, const double *w, const double *u_free)
 {
-    const double lo[2] = {0.0, 0.0}, scale[2] = {1.0, 1.0};
+    const double lo[2] = {0.0, 0.0}, hi[2] = {INFINITY, INFINITY};
+    const double scale[2] = {1.0, 1.0};
     double nu[2] = {0.0, 0.0}, residual[1];
     double workspace[PISKORLU_SOLVE_WORKSPACE];
     uint8_t states[2];
@@ -29,18 +29,22 @@ static int show(const char *name, const double *w, const double *u_free,
         rows, 2, workspace, PISKORLU_SOLVE_WORKSPACE, counts,
         PISKORLU_SOLVE_COUNTS, residual, 1);
     if (number != PISKORLU_ACCEPTED) {
-        fprintf(stderr, "%s: refused %u\n", name, (unsigned)number);
+        fprintf(stderr, "%s: refused %u: %s\n", name, (unsigned)number,
+                piskorlu_number_in_words(number));
         return 0;
     }
-    if (counts[0] == PISKORLU_SOLVED) {
-        printf("%s: loads %.17g %c, %.17g %c sweeps %zu\n", name, nu[0],
-               STATES[states[0]], nu[1], STATES[states[1]], counts[1]);
+    printf("%s: %s", name,
+           piskorlu_outcome_in_words(counts[PISKORLU_COUNT_OUTCOME]));
+    if (piskorlu_usable(counts, residual[0], nu, 2, 1e-9)) {
+        for (size_t i = 0; i < 2; i++)
+            printf("; pad %zu: %.17g, %s", i, nu[i],
+                   piskorlu_state_in_words(states[i]));
     } else {
-        printf("%s: no motion meets every row; they fight:", name);
-        for (size_t k = 0; k < counts[6]; k++)
-            printf(" %zu", rows[k]);
-        printf("\n");
+        printf("; no loads");
+        for (size_t k = 0; k < counts[PISKORLU_COUNT_LISTED]; k++)
+            printf("; row %zu", rows[k]);
     }
+    printf("\n");
     return 1;
 }
 
@@ -48,10 +52,14 @@ int main(void)
 {
     const double w[4] = {2.0, 1.0, 1.0, 2.0}, u_free[2] = {-3.0, 1.0};
     const double stiff[4] = {1.0, -1.0, -1.0, 1.0}, apart[2] = {-1.0, -1.0};
-    const double unlimited[2] = {INFINITY, INFINITY};
+    const double torn[2] = {-3.0, NAN};
 
-    return show("two pads", w, u_free, unlimited)
-                   && show("two stops", stiff, apart, unlimited)
+    if (!piskorlu_float_environment_ok()) {
+        fprintf(stderr, "floating point is not as the solver needs it\n");
+        return 1;
+    }
+    return show("two pads", w, u_free) && show("two stops", stiff, apart)
+                   && show("torn wire", w, torn)
                ? 0
                : 1;
 }
