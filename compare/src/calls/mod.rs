@@ -1,5 +1,6 @@
 //! What is compared: one module for each public call. A call that the port
-//! gains needs its wrapper in `port`, its symbol in build.rs and `port` here.
+//! gains needs its call in bindings/rust, its line in `port`, its symbol in
+//! build.rs and `port` here.
 
 pub mod bend;
 pub mod chain;
