@@ -18,7 +18,8 @@ import sys
 
 import drawing
 import rig
-from bendfile import answers, as_csv, as_json, binary, chain, describe, exact_tables, numbers, output, picture, pull_picture, pull_tables, tables
+from bendfile import answers, as_csv, as_json, binary, chain, describe, exact_tables, numbers, output, picture, validation
+from bendfile import pull_picture, pull_tables, tables
 from bendfile import pull as pull_file
 from bendfile.problem import Labels
 
@@ -48,7 +49,7 @@ class Maker:
         data = self._answer(path, bend)
         self.put(path + ".answer.txt", data)
         answer = answers.read(data)
-        answers.check_belongs(answer, problem)
+        validation.check(answer, problem)
         return problem, answer
 
     def _answer(self, path, bend):

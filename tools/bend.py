@@ -25,9 +25,9 @@ import argparse
 import os
 import sys
 
-from bendfile import answers, as_csv, as_json, binary, chain, describe, exact_tables, numbers, output, picture
-from bendfile import pull, pull_picture, pull_tables, tables
-from bendfile.problem import LARGEST_FILE, BadInput, check_scales, warnings
+from bendfile import answers, as_csv, as_json, binary, chain, describe, exact_tables, input_warnings, validation
+from bendfile import numbers, output, picture, pull, pull_picture, pull_tables, tables
+from bendfile.problem import LARGEST_FILE, BadInput, check_scales
 
 READERS = {"json": as_json.read, "csv": as_csv.read}
 
@@ -77,7 +77,7 @@ def load_steps(paths):
     if len(found) != len(steps.problems):
         raise BadInput(f"{paths[-1]}: found {len(found)} answers to {tables.counted(len(steps.problems), 'step')}; expected one per step")
     for (path, answer), problem in zip(found, steps.problems):
-        named(path, answers.check_belongs, answer, problem)
+        named(path, validation.check, answer, problem)
     return steps, [answer for _, answer in found]
 
 
@@ -102,7 +102,7 @@ def _made(reader, data, options, free):
     if not options.any_scale:
         check_scales(problem)
     made = binary.encode(problem)
-    for warning in warnings(problem):
+    for warning in input_warnings.of_input(problem):
         print(f"bend.py: warning: {options.input}: {warning}", file=sys.stderr)
     return made
 
@@ -149,11 +149,11 @@ def split(options):
 
 def answer_(options):
     steps, found = load_steps(options.files)
-    text = _number_text(options)
+    form = _number_text(options), _loud(options)
     if steps is not None and steps.places is not None:
-        shown = named(options.files[-1], pull_tables.answer_table, steps, found, text)
+        shown = named(options.files[-1], pull_tables.answer_table, steps, found, *form)
     else:
-        shown = "\n".join(tables.answer_table(answer, steps.problems[0] if steps else None, text) for answer in found)
+        shown = "\n".join(tables.answer_table(answer, steps.problems[0] if steps else None, *form) for answer in found)
     output.write(options.output, shown.encode("utf-8"))
 
 
@@ -176,6 +176,14 @@ def exact_(options):
         raise BadInput(f"{options.answers[0]}: {tables.headline(found[0])}; there are no loads to add")
     shown = [exact_tables.show(answer, problem, _number_text(options)) for answer, problem in zip(found, steps.problems)]
     output.write(options.output, "\n".join(shown).encode("utf-8"))
+
+
+def _loud(options):
+    """How notes are written: red on a terminal that takes colours."""
+    terminal = options.output == "-" and sys.stdout is not None and sys.stdout.isatty()
+    if not terminal or "NO_COLOR" in os.environ or os.environ.get("TERM", "dumb") == "dumb":
+        return str
+    return lambda words: f"\x1b[31m{words}\x1b[0m"
 
 
 def _number_text(options):

@@ -18,7 +18,7 @@ from fixtures import BOUNDARY, EXAMPLE, EXAMPLE_ANSWER, EXAMPLE_BYTES, FIGHT_ANS
 from fixtures import Folder, run, some_bits, some_problem  # noqa: E402
 
 import make  # noqa: E402
-from bendfile import answers, as_json, binary, describe, numbers, picture, problem, svg  # noqa: E402
+from bendfile import answers, as_json, binary, describe, numbers, picture, problem, svg, validation  # noqa: E402
 from bendfile.axis import Axis  # noqa: E402
 
 
@@ -412,7 +412,7 @@ class Answers(Folder):
         status, out, _ = run("answer", self.put("a.txt", FIGHT_ANSWER))
         self.assertEqual(status, 0)
         shown = out.decode()
-        for words in ("infeasible (pass): an exact pass found", "  0  Inside     1  fights\n", "Rows that fight: row 0, row 1.", "not loads of the rig"):
+        for words in ("infeasible (pass): an exact pass found", "  0  stopped (Inside)     1  fights\n", "Rows that fight: row 0, row 1.", "not loads of the rig"):
             self.assertIn(words, shown)
 
     def test_causes(self):
@@ -625,7 +625,7 @@ class Examples(Folder):
         for path in example_files(".bend"):
             made = binary.decode(content(path))
             answer = answers.read(content(path.replace(".bend", ".answer.txt")))
-            answers.check_belongs(answer, made)
+            validation.check(answer, made)
             if answer.outcome != "solved":
                 continue
             self.assertTrue(answer.exact and answer.converged)

@@ -4,16 +4,7 @@ import re
 from dataclasses import dataclass, field
 
 from . import numbers
-from .problem import MOST_ROWS, BadInput, place
-
-STATES = {"I": "Inside", "L": "AtLo", "H": "AtHi", "Z": "Idle"}
-
-# What a state says of a pad or a stop that stands as solved, by the row's kind.
-MEANINGS = {
-    "contact": {"I": "closed, pushes", "L": "open", "H": "on its upper bound", "Z": "cannot act"},
-    "friction": {"I": "holds still", "L": "slides up", "H": "slides down", "Z": "cannot act"},
-    "custom": {"I": "between its bounds", "L": "on its lower bound", "H": "on its upper bound", "Z": "cannot act"},
-}
+from .problem import MOST_ROWS, BadInput
 
 CAUSES = {
     "growth": "a load grew past a million times its row's scale",
@@ -160,37 +151,21 @@ def row_sums(problem, answer):
     return sums
 
 
-def _clamp(value, lo, hi):
+def clamp(value, lo, hi):
     return lo if value < lo else hi if value > hi else value
+
+
+def own_residual(problem, answer, row, total):
+    """A row's natural residual, where `total` is its motion."""
+    load, lo, hi, scale = (numbers.to_float(part[row]) for part in (answer.loads, problem.lo, problem.hi, problem.scale))
+    return abs(load - clamp(load - total / numbers.to_float(problem.matrix[row][row]), lo, hi)) / scale
 
 
 def residual(problem, answer):
     """The largest natural residual over the rows that can act, by document 01's rule; a row whose residual is NaN adds nothing."""
     worst = 0.0
-    for i, total in enumerate(row_sums(problem, answer)):
-        if answer.states[i] == "Z":
-            continue
-        load, lo, hi, scale = (numbers.to_float(part[i]) for part in (answer.loads, problem.lo, problem.hi, problem.scale))
-        own = abs(load - _clamp(load - total / numbers.to_float(problem.matrix[i][i]), lo, hi)) / scale
-        if own > worst:
-            worst = own
+    for row, total in enumerate(row_sums(problem, answer)):
+        if answer.states[row] != "Z":
+            own = own_residual(problem, answer, row, total)
+            worst = own if own > worst else worst
     return worst
-
-
-def check_belongs(answer, problem):
-    """Refuses an answer to another file. Rows, Idle rows and residual follow from the file and the loads, so they tell."""
-    if answer.outcome == "refused":
-        return
-    if len(answer.states) != problem.rows:
-        raise BadInput(f"the answer has {len(answer.states)} rows, the bend file {problem.rows}; expected the answer to this file, whole")
-    for i, state in enumerate(answer.states):
-        if (state == "Z") != problem.idle(i):
-            own = numbers.exact(problem.matrix[i][i])
-            wrong = f"{place(problem, i)} has state {state}, and its own entry of the file's matrix is {own}"
-            raise BadInput(f"{wrong}; expected the answer to this file")
-    if any(not numbers.to_float(bits) > 0 or not numbers.is_finite(bits) for bits in problem.scale):
-        raise BadInput("the bend file has a scale that the solver refuses (number 8); expected the answer to this file")
-    found = residual(problem, answer)
-    if numbers.to_bits(found) != answer.residual:
-        wrong = f"the answer's residual is {numbers.exact(answer.residual)}, and its loads in the bend file give {found!r}"
-        raise BadInput(f"{wrong}; expected the answer to this file")

@@ -1,9 +1,10 @@
 """A table of the motions left, rounded as the solver adds them and exact."""
 
 from . import exact, numbers
-from .answers import STATES, row_sums
+from .answers import row_sums
 from .problem import place
-from .tables import headline, table, unit
+from .states import STATES
+from .tables import headline, notes, table, unit
 
 WORDS = """
 The motion left of each row is its free motion + W · load.
@@ -16,7 +17,7 @@ off by:  exact minus rounded.
 def show(answer, problem, text=numbers.short):
     """The exact motion left of each row beside the rounded one."""
     labels = problem.labels
-    out = [f"{labels.title}\n" if labels.title else "", headline(answer) + "\n"]
+    out = [f"{labels.title}\n" if labels.title else "", headline(answer, problem) + "\n"]
     if answer.outcome == "refused":
         return "".join(out)
     sums = exact.row_sums(problem, answer)
@@ -29,6 +30,7 @@ def show(answer, problem, text=numbers.short):
     out.append("\n" + table(header, lines))
     out.append(WORDS)
     out += [f"\n{place(problem, i)} has no exact motion: {sum_}\n" for i, sum_ in enumerate(sums) if isinstance(sum_, str)]
+    out += [f"\n{note}\n" for note in notes(answer, problem)]
     return "".join(out)
 
 

@@ -1,49 +1,67 @@
 """An SVG of the rows' loads between their bounds.
 
 One strip per row: its name and bounds on the left, its load against a common axis in the middle, its load and state in words on the right.
-A state has a colour and a shape, so that the picture can be read without colours.
+A state has a colour and a shape, so that the picture can be read without colours. What a reader must know before using the loads is in red.
 """
 
-import textwrap
 from xml.sax.saxutils import escape
 
-from . import numbers, svg, tables
+from . import numbers, states, svg, tables
+from .answers import row_sums
 from .axis import Axis
 from .svg import GREY, INK, RED, WIDTH, fitted, text
 
+LEFT, EDGE = 12, WIDTH - 12
 PLOT_LEFT, PLOT_RIGHT = 178, 570
 WORDS = 584
 STRIP = 42
-BAND = "#E3E6EA"
-COLOURS = {"I": "#0072B2", "L": "#C77700", "H": "#7B3294", "Z": "#9A9A9A"}
+BAND, PALE_RED = "#E3E6EA", "#FBE4E4"
+COLOURS = {"I": "#0072B2", "L": "#C77700", "H": "#7B3294", "Z": "#9A9A9A", "S": "#4D4D4D"}
+MARKS = {
+    "I": "Inside its bounds",
+    "L": "At its lower bound",
+    "H": "At its upper bound",
+    "Z": "Idle: cannot act",
+    "S": "Where the solver stopped",
+}
 
 
 def draw(answer, problem):
     """The picture, as the text of an SVG file."""
-    body, y = _heading(answer, problem)
+    notes = tables.notes(answer, problem)
+    body, y = _heading(answer, problem, bool(notes))
     axis = Axis(answer.loads, problem.lo + problem.hi, problem.scale, PLOT_LEFT, PLOT_RIGHT)
-    legend, y = _legend(y, answer, axis)
+    words = strip_words(answer, problem)
+    legend, y = _legend(y, answer, problem, axis)
     body += legend
     top = y + 24
     bottom = top + STRIP * problem.rows
-    backgrounds = [_background(answer, i, top + STRIP * i) for i in range(problem.rows)]
-    body += backgrounds + _axis(axis, problem, top, bottom)
+    body += [_background(answer, i, top + STRIP * i) for i in range(problem.rows)] + _axis(axis, problem, top, bottom)
     for i in range(problem.rows):
-        body.append(_strip(answer, problem, axis, i, top + STRIP * i))
+        body.append(_strip(answer, problem, axis, i, top + STRIP * i, words[i]))
     if not problem.rows:
-        body.append(text(12, top + 4, "This file has no rows."))
+        body.append(text(LEFT, top + 4, "This file has no rows."))
         bottom = top + 10
-    last = bottom + 10
-    for line in _notes(answer, problem):
-        last += 17
-        body.append(text(12, last, line, size=12, fill=RED if answer.outcome == "infeasible" else INK))
-    return _document(body, last + 16, answer, problem)
+    lines, last = written(notes, bottom + 10)
+    return _document(body + lines, last + 16, answer, problem, words)
 
 
-def _document(body, height, answer, problem):
+def written(notes, y):
+    """Notes below a picture, in red."""
+    lines = [line for note in notes for line in svg.wrapped(note, EDGE - LEFT, 12)]
+    return [text(LEFT, y + 17 * i, line, size=12, fill=RED) for i, line in enumerate(lines, 1)], y + 17 * len(lines)
+
+
+def strip_words(answer, problem):
+    """Each row's state in words."""
+    sums = row_sums(problem, answer)
+    return [states.words(answer, problem, i, sums[i]) for i in range(problem.rows)]
+
+
+def _document(body, height, answer, problem, words):
     title = problem.labels.title or "Loads of the rows between their bounds"
-    rows = " ".join(_sentence(answer, problem, i) for i in range(problem.rows))
-    summary = f"{tables.headline(answer)}; {tables.counts(answer)}. {rows} {' '.join(tables.notes(answer, problem))}".strip()
+    rows = " ".join(_sentence(answer, problem, i, words[i]) for i in range(problem.rows))
+    summary = f"{tables.headline(answer, problem)}; {tables.counts(answer)}. {rows} {' '.join(tables.notes(answer, problem))}".strip()
     return svg.document(title, summary, body, height)
 
 
@@ -55,38 +73,49 @@ def _bounds(problem, row):
     return f"{numbers.short(problem.lo[row])} to {_with_unit(problem.hi[row], problem)}"
 
 
-def _sentence(answer, problem, row):
+def _sentence(answer, problem, row, words):
     """A strip in words, for a reader who hears the picture."""
     fights = ", fights" if row in answer.fights else ""
-    load, state = _with_unit(answer.loads[row], problem), tables.state_text(answer, problem, row)
-    return f"{problem.name(row)}: load {load}, bounds {_bounds(problem, row)}, {state}{fights}."
+    return f"{problem.name(row)}: load {_with_unit(answer.loads[row], problem)}, bounds {_bounds(problem, row)}, {words}{fights}."
 
 
-def _heading(answer, problem):
+def _heading(answer, problem, doubtful):
     title = problem.labels.title or "Loads of the rows between their bounds"
-    lines = textwrap.wrap(title, 66)[:2]
-    body = [text(12, 28 + 22 * i, line, size=17, bold=True) for i, line in enumerate(lines)]
+    lines = svg.wrapped(title, EDGE - LEFT, 17, most=2)
+    body = [text(LEFT, 28 + 22 * i, line, size=17, bold=True) for i, line in enumerate(lines)]
     y = 28 + 22 * len(lines)
-    body.append(text(12, y, tables.headline(answer), fill=RED if answer.outcome == "infeasible" else INK))
-    body.append(text(12, y + 18, tables.counts(answer), size=12))
+    body.append(text(LEFT, y, fitted(tables.headline(answer, problem), EDGE - LEFT), fill=RED if doubtful else INK))
+    body.append(text(LEFT, y + 18, tables.counts(answer), size=12))
     return body, y + 42
 
 
-def _legend(y, answer, axis):
-    """The marks that the picture uses, with their meaning."""
-    body, x = [], 20
-    for letter, words in (("I", "Inside its bounds"), ("L", "At its lower bound"), ("H", "At its upper bound"), ("Z", "Idle: cannot act")):
-        body += [_marker(x, y - 4, letter), text(x + 12, y, words, size=12)]
-        x += 172
-    y += 22
-    body += [svg.rect(14, y - 11, 44, 14, BAND), _bracket(14, y - 4, 1, 7), _bracket(58, y - 4, -1, 7), text(68, y, "from bound to bound", size=12)]
-    body += [svg.rect(222, y - 11, 30, 14, BAND), _arrow(252, y - 4, 1), text(268, y, "no bound on this side", size=12)]
-    x = 428
+def _legend(y, answer, problem, axis):
+    """The marks that the picture uses, with their meaning, as many on a line as fit."""
+    used = {states.mark(answer, problem, i) for i in range(problem.rows)}
+    entries = [(_mark_entry(letter), 20, words, INK) for letter, words in MARKS.items() if letter in used]
+    entries.append((lambda x, y: [svg.rect(x + 2, y - 11, 44, 14, BAND), _bracket(x + 2, y - 4, 1, 7), _bracket(x + 46, y - 4, -1, 7)], 56, "from bound to bound", INK))
+    entries.append((lambda x, y: [svg.rect(x + 2, y - 11, 30, 14, BAND), _arrow(x + 32, y - 4, 1)], 48, "no bound on this side", INK))
     if axis.cut:
-        body += [svg.rect(x, y - 11, 24, 14, BAND), _arrow(x + 24, y - 4, 1, filled=True), text(x + 40, y, "bound outside the picture", size=12)]
-        x += 212
+        far = lambda x, y: [svg.rect(x + 2, y - 11, 24, 14, BAND), _arrow(x + 26, y - 4, 1, filled=True)]  # noqa: E731
+        entries.append((far, 42, "bound outside the picture", INK))
     if answer.fights:
-        body += [svg.rect(x, y - 12, 22, 16, "#FBE4E4"), svg.rect(x, y - 12, 4, 16, RED), text(x + 28, y, "fights", size=12, fill=RED, bold=True)]
+        entries.append((lambda x, y: [svg.rect(x, y - 12, 22, 16, PALE_RED), svg.rect(x, y - 12, 4, 16, RED)], 28, tables.listed_word(answer), RED))
+    return flowed(entries, y)
+
+
+def _mark_entry(letter):
+    return lambda x, y: [marker(x + 8, y - 4, letter)]
+
+
+def flowed(entries, y):
+    """Legend entries one after the other: each how it is drawn at a place, where its words begin, the words and their colour."""
+    body, x = [], LEFT
+    for drawn, at, words, ink in entries:
+        wide = at + svg.width(words, 12)
+        if x > LEFT and x + wide > EDGE:
+            x, y = LEFT, y + 22
+        body += [*drawn(x, y), text(x + at, y, words, size=12, fill=ink, bold=ink == RED)]
+        x += wide + 14
     return body, y + 28
 
 
@@ -94,7 +123,7 @@ def _axis(axis, problem, top, bottom):
     """The axis with its ticks above the strips, the zero line and the grid behind them."""
     if not problem.rows:
         return []
-    body = [text(12, top - 8, tables.unit("load", problem.labels.load_unit), size=12)]
+    body = [text(LEFT, top - 8, fitted(tables.unit("load", problem.labels.load_unit), PLOT_LEFT - LEFT - 24, 12), size=12)]
     for x, label, zero in axis.ticks():
         body.append(svg.line(x, top - 2, x, bottom, "#555555" if zero else "#D4D4D4", 1.5 if zero else 1))
         body.append(text(x, top - 8, label, size=11, anchor="middle"))
@@ -104,23 +133,24 @@ def _axis(axis, problem, top, bottom):
 def _background(answer, row, y):
     """Behind the grid: a row that fights is marked over its whole width."""
     if row in answer.fights:
-        return svg.rect(0, y + 1, WIDTH, STRIP - 2, "#FBE4E4") + svg.rect(0, y + 1, 4, STRIP - 2, RED)
-    return svg.line(12, y, WIDTH - 12, y, "#E8E8E8")
+        return svg.rect(0, y + 1, WIDTH, STRIP - 2, PALE_RED) + svg.rect(0, y + 1, 4, STRIP - 2, RED)
+    return svg.line(LEFT, y, EDGE, y, "#E8E8E8")
 
 
-def _strip(answer, problem, axis, row, y):
+def _strip(answer, problem, axis, row, y, words):
     """One row."""
-    letter, middle = answer.states[row], y + STRIP / 2
-    ink = GREY if letter == "Z" else INK
-    parts = [f"<title>{escape(_sentence(answer, problem, row))}</title>"]
-    parts.append(text(12, middle - 3, fitted(problem.name(row), 17), fill=ink, bold=True))
-    parts.append(text(12, middle + 13, fitted(_bounds(problem, row), 26), size=11, fill=ink if letter == "Z" else "#444444"))
+    middle, idle = y + STRIP / 2, answer.states[row] == "Z"
+    ink, small, listed = GREY if idle else INK, GREY if idle else "#444444", row in answer.fights
+    parts = [f"<title>{escape(_sentence(answer, problem, row, words))}</title>"]
+    parts.append(text(LEFT, middle - 3, fitted(problem.name(row), PLOT_LEFT - LEFT - 8), fill=ink, bold=True))
+    parts.append(text(LEFT, middle + 13, fitted(_bounds(problem, row), PLOT_LEFT - LEFT - 8, 11), size=11, fill=small))
     parts += _box(problem, axis, row, middle)
-    parts += _load(answer, axis, row, middle)
-    parts.append(text(WORDS, middle - 3, _with_unit(answer.loads[row], problem), fill=ink, bold=True))
-    parts.append(text(WORDS, middle + 13, tables.state_text(answer, problem, row), size=11, fill=ink if letter == "Z" else "#444444"))
-    if row in answer.fights:
-        parts.append(text(WIDTH - 12, middle - 3, "fights", fill=RED, anchor="end", bold=True))
+    parts += _load(answer, problem, axis, row, middle)
+    room = EDGE - WORDS - (54 if listed else 0)
+    parts.append(text(WORDS, middle - 3, fitted(_with_unit(answer.loads[row], problem), room), fill=ink, bold=True))
+    parts.append(text(WORDS, middle + 13, fitted(words, EDGE - WORDS, 11), size=11, fill=small))
+    if listed:
+        parts.append(text(EDGE, middle - 3, tables.listed_word(answer), fill=RED, anchor="end", bold=True))
     return "<g>\n" + "\n".join(parts) + "\n</g>"
 
 
@@ -141,40 +171,47 @@ def _box(problem, axis, row, y):
     return parts
 
 
-def _load(answer, axis, row, y):
-    """The bar from zero to the load, and the state's mark at its end."""
-    letter, load = answer.states[row], numbers.to_float(answer.loads[row])
+def _load(answer, problem, axis, row, y):
+    """The bar from zero to the load, and the mark at its end."""
+    letter, load = states.mark(answer, problem, row), numbers.to_float(answer.loads[row])
     if load != load:
         return [text(axis.place(0.0) + 8, y + 5, "NaN: no load", fill=RED, bold=True)]
     zero = axis.place(0.0)
     end = axis.place(load) if axis.holds(load) else PLOT_RIGHT if load > 0 else PLOT_LEFT
     parts = [svg.rect(min(zero, end), y - 5, abs(end - zero), 10, COLOURS[letter])]
-    return parts + [_marker(end, y, letter)]
+    return parts + [marker(end, y, letter)]
 
 
-def _marker(x, y, letter):
-    """The state's mark: a disc inside, a triangle that points to the bound it is on, a ring where the row cannot act."""
-    colour = COLOURS[letter]
-    if letter == "I":
-        return f'<circle cx="{svg.place(x)}" cy="{svg.place(y)}" r="6" fill="{colour}" stroke="#FFFFFF" stroke-width="1.5"/>'
-    if letter == "Z":
-        return f'<circle cx="{svg.place(x)}" cy="{svg.place(y)}" r="5" fill="#FFFFFF" stroke="{colour}" stroke-width="2.5"/>'
-    tip = -8 if letter == "L" else 8
-    points = f"M{svg.place(x + tip)} {svg.place(y)} L{svg.place(x - tip * 0.6)} {svg.place(y - 8)} L{svg.place(x - tip * 0.6)} {svg.place(y + 8)} Z"
-    return svg.path(points, "#FFFFFF", fill=colour, width=1.5)
+def marker(x, y, letter, size=6.0, lower=(-1, 0)):
+    """A row's mark: a disc inside, a triangle that points to the bound it is on, a ring where it cannot act, a diamond where it only stopped.
+    `lower` is the direction in which lower loads lie."""
+    colour, place = COLOURS[letter], svg.place
+    if letter in "IZ":
+        fill, stroke, wide = (colour, "#FFFFFF", 1.5) if letter == "I" else ("#FFFFFF", colour, 2.5)
+        radius = size if letter == "I" else size * 0.85
+        return f'<circle cx="{place(x)}" cy="{place(y)}" r="{place(radius)}" fill="{fill}" stroke="{stroke}" stroke-width="{wide}"/>'
+    if letter == "S":
+        corners = [(0, -size), (size, 0), (0, size), (-size, 0)]
+        return _polygon(x, y, corners, "#FFFFFF", colour, 2)
+    along = 1 if letter == "L" else -1
+    (dx, dy), tip, half = lower, size * 1.33 * along, size * 1.33
+    corners = [(dx * tip, dy * tip), (-dx * tip * 0.6 - dy * half, -dy * tip * 0.6 - dx * half), (-dx * tip * 0.6 + dy * half, -dy * tip * 0.6 + dx * half)]
+    return _polygon(x, y, corners, colour, "#FFFFFF", 1.5)
+
+
+def _polygon(x, y, corners, fill, stroke, wide):
+    points = " L".join(f"{svg.place(x + dx)} {svg.place(y + dy)}" for dx, dy in corners)
+    return svg.path(f"M{points} Z", stroke, fill=fill, width=wide)
 
 
 def _bracket(x, y, inward, half):
     """A bound: a bracket open towards the inside of the box."""
     serif = 5 * inward
-    return svg.path(f"M{svg.place(x + serif)} {svg.place(y - half)} L{svg.place(x)} {svg.place(y - half)} L{svg.place(x)} {svg.place(y + half)} L{svg.place(x + serif)} {svg.place(y + half)}", INK)
+    points = [(x + serif, y - half), (x, y - half), (x, y + half), (x + serif, y + half)]
+    return svg.path("M" + " L".join(f"{svg.place(px)} {svg.place(py)}" for px, py in points), INK)
 
 
 def _arrow(x, y, side, filled=False):
     """No bound on this side: an open arrow. A filled one stands for a bound too far out to be drawn."""
     points = f"M{svg.place(x)} {svg.place(y - 8)} L{svg.place(x + 8 * side)} {svg.place(y)} L{svg.place(x)} {svg.place(y + 8)}"
     return svg.path(points + " Z" if filled else points, INK, fill=INK if filled else "none")
-
-
-def _notes(answer, problem):
-    return [line for note in tables.notes(answer, problem) for line in textwrap.wrap(note, 104)]

@@ -94,23 +94,3 @@ def check_scales(problem):
 def place(problem, row):
     """How a message names a row."""
     return f"row {row} ({numbers.quoted(problem.name(row))})" if problem.labels.names else f"row {row}"
-
-
-def warnings(problem):
-    """What the solver takes, but the person who wrote the description has probably not meant."""
-    found = []
-    for i in range(problem.rows):
-        where = place(problem, i)
-        if numbers.to_float(problem.lo[i]) > numbers.to_float(problem.hi[i]):
-            found.append(f"{where}: lo {numbers.exact(problem.lo[i])} is above hi {numbers.exact(problem.hi[i])}")
-        if problem.idle(i):
-            found.append(f"{where}: its own entry of the matrix is {numbers.exact(problem.matrix[i][i])}, not above 0, so the row cannot act (Idle)")
-    for i in range(problem.rows):
-        for j in range(i):
-            if problem.matrix[i][j] != problem.matrix[j][i]:
-                found.append(
-                    f"matrix: entry ({i}, {j}) is {numbers.exact(problem.matrix[i][j])}, entry ({j}, {i}) is "
-                    f"{numbers.exact(problem.matrix[j][i])}; the solver expects a symmetric matrix"
-                )
-                return found
-    return found

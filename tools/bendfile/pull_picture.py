@@ -4,40 +4,41 @@ One strip per row, the steps from left to right, every strip on the same scale. 
 A step whose loads are no loads of the rig has a red column and no bars.
 """
 
-import textwrap
 from xml.sax.saxutils import escape
 
-from . import numbers, svg, tables
+from . import numbers, states, svg, tables
 from .axis import Axis
-from .picture import BAND, COLOURS, PLOT_LEFT, PLOT_RIGHT, WORDS
-from .pull_tables import notes, usable
+from .picture import BAND, COLOURS, EDGE, LEFT, MARKS, PALE_RED, PLOT_LEFT, PLOT_RIGHT, WORDS, flowed, marker, written
+from .pull_tables import notes
+from .states import usable
 from .svg import GREY, INK, RED, WIDTH, fitted, text
 
 STRIP, MARGIN = 66, 6
 WIDEST_BAR = 26
-PALE_RED = "#FBE4E4"
+DOWN = (0, 1)
 
 
 def draw(pull, answers):
     """The picture, as the text of an SVG file."""
-    names, title = pull.names(), f"Loads over a pull of {tables.counted(len(answers), 'step')}"
-    scale = _scale(pull, answers)
-    body = [text(12, 28, title, size=17, bold=True), text(12, 50, _ended(answers), size=13, fill=INK if all(map(usable, answers)) else RED)]
-    body += _legend(76)
-    top = 116
+    names, told = pull.names(), notes(pull, answers)
+    title, ended = f"Loads over a pull of {tables.counted(len(answers), 'step')}", _ended(pull, answers)
+    body = [text(LEFT, 28, title, size=17, bold=True)]
+    lines = svg.wrapped(ended, EDGE - LEFT, 13)
+    body += [text(LEFT, 50 + 18 * i, line, fill=RED if told else INK) for i, line in enumerate(lines)]
+    legend, y = _legend(pull, answers, 58 + 18 * len(lines))
+    top = y + 12
     bottom = top + STRIP * len(names)
-    body += [text(12, top - 8, fitted(f"{tables.unit('load', pull.unit('load_unit'))} at step", 24), size=12), *_steps(answers, top, bottom)]
+    body += [*legend, text(LEFT, top - 8, fitted(f"{tables.unit('load', pull.unit('load_unit'))} at step", PLOT_LEFT - LEFT - 12, 12), size=12)]
+    body += _steps(answers, top, bottom)
+    scale = _scale(pull, answers)
     for i, name in enumerate(names):
         body.append(_strip(pull, answers, scale, name, top + STRIP * i))
     if not names:
-        body.append(text(12, top, "These steps have no rows."))
+        body.append(text(LEFT, top, "These steps have no rows."))
     titles, last = _titles(pull, answers, bottom + 10)
-    body += titles
-    for line in _notes(pull, answers):
-        last += 17
-        body.append(text(12, last, line, size=12, fill=RED))
+    below, last = written(told, last)
     rows = " ".join(_sentence(pull, answers, name) for name in names)
-    return svg.document(title, f"{_ended(answers)}. {rows} {' '.join(_notes(pull, answers))}".strip(), body, last + 16)
+    return svg.document(title, f"{ended}. {rows} {' '.join(told)}".strip(), body + titles + below, last + 16)
 
 
 def _scale(pull, answers):
@@ -47,18 +48,27 @@ def _scale(pull, answers):
     return Axis(loads, bounds, [scale for problem in pull.problems for scale in problem.scale], 0.0, 1.0)
 
 
-def _ended(answers):
+def _ended(pull, answers):
     """How many steps ended in which way."""
-    ways = [f"refused {a.number}" if a.outcome == "refused" else "infeasible" if a.outcome == "infeasible" else tables.headline(a) for a in answers]
+    ways = [_way(problem, answer) for problem, answer in zip(pull.problems, answers)]
     return "; ".join(f"{tables.counted(ways.count(way), 'step')} {way}" for way in dict.fromkeys(ways))
 
 
-def _legend(y):
-    body, x = [], 20
-    for letter, words in (("I", "Inside its bounds"), ("L", "At its lower bound"), ("H", "At its upper bound"), ("Z", "Idle: cannot act")):
-        body += [_marker(x, y - 4, letter, 5), text(x + 12, y, words, size=12)]
-        x += 152
-    return body + [svg.rect(x, y - 11, 22, 14, BAND), text(x + 30, y, "between its bounds", size=12)]
+def _way(problem, answer):
+    if answer.outcome == "solved":
+        return tables.headline(answer, problem)
+    return f"refused {answer.number}" if answer.outcome == "refused" else f"infeasible ({answer.cause})"
+
+
+def _legend(pull, answers, y):
+    shown = [(p, a) for p, a in zip(pull.problems, answers) if usable(a)]
+    used = {states.mark(a, p, i) for p, a in shown for i in range(p.rows) if not numbers.is_nan(a.loads[i])}
+    entries = [(_mark_entry(letter), 20, words, INK) for letter, words in MARKS.items() if letter in used]
+    return flowed([*entries, (lambda x, y: [svg.rect(x, y - 11, 22, 14, BAND)], 30, "between its bounds", INK)], y)
+
+
+def _mark_entry(letter):
+    return lambda x, y: [marker(x + 8, y - 4, letter, 5, DOWN)]
 
 
 def _middle(step, many):
@@ -84,15 +94,15 @@ def _steps(answers, top, bottom):
 def _strip(pull, answers, scale, name, y):
     """One row over the steps."""
     rows, unit = pull.rows(name), pull.unit("load_unit")
-    parts = [f"<title>{escape(_sentence(pull, answers, name))}</title>", svg.line(12, y, WIDTH - 12, y, "#E8E8E8")]
-    parts.append(text(12, y + 19, fitted(name, 15), bold=True))
+    parts = [f"<title>{escape(_sentence(pull, answers, name))}</title>", svg.line(LEFT, y, EDGE, y, "#E8E8E8")]
+    parts.append(text(LEFT, y + 19, fitted(name, PLOT_LEFT - LEFT - 36), bold=True))
     parts += _ticks(scale, y)
     for step, (problem, answer, row) in enumerate(zip(pull.problems, answers, rows)):
         if row is not None:
             parts += _one(problem, answer, row, _Cell(scale, y, _middle(step, len(answers)), len(answers)))
-    first, *more = _words(answers, rows, unit)
-    parts.append(text(WORDS, y + 19, fitted(first, 24), bold=True))
-    parts += [text(WORDS, y + 34 + 13 * i, fitted(line, 34), size=11) for i, line in enumerate(more)]
+    first, *more = _words(pull, answers, rows, unit)
+    parts.append(text(WORDS, y + 19, fitted(first, EDGE - WORDS), bold=True))
+    parts += [text(WORDS, y + 34 + 13 * i, fitted(line, EDGE - WORDS, 11), size=11) for i, line in enumerate(more)]
     return "<g>\n" + "\n".join(parts) + "\n</g>"
 
 
@@ -131,37 +141,25 @@ def _one(problem, answer, row, cell):
     if lo <= hi:
         top, foot = cell.height(hi), cell.height(lo)
         parts.append(svg.rect(cell.middle - cell.bar / 2 - 1, top, cell.bar + 2, foot - top, BAND))
-    load, letter = numbers.to_float(answer.loads[row]), answer.states[row]
+    load, letter = numbers.to_float(answer.loads[row]), states.mark(answer, problem, row)
     if load != load:
         return [*parts, text(cell.middle, cell.height(0.0) - 3, "NaN" if cell.wide > 24 else "×", size=9, fill=RED, anchor="middle", bold=True)]
     zero, end = cell.height(0.0), cell.height(load)
     parts.append(svg.rect(cell.middle - cell.bar / 3, min(zero, end), cell.bar / 1.5, abs(end - zero), COLOURS[letter]))
-    return [*parts, _marker(cell.middle, end, letter, min(5.0, cell.wide * 0.3))]
+    return [*parts, marker(cell.middle, end, letter, min(5.0, cell.wide * 0.3), DOWN)]
 
 
-def _marker(x, y, letter, size):
-    """The state's mark: a disc inside, a triangle that points to the bound it is on, a ring where the row cannot act."""
-    colour, place = COLOURS[letter], svg.place
-    if letter in "IZ":
-        inside = (colour, "#FFFFFF", 1) if letter == "I" else ("#FFFFFF", colour, 2)
-        fill, stroke, width = inside
-        return f'<circle cx="{place(x)}" cy="{place(y)}" r="{place(size)}" fill="{fill}" stroke="{stroke}" stroke-width="{width}"/>'
-    tip = size * 1.3 if letter == "L" else -size * 1.3
-    points = f"M{place(x)} {place(y + tip)} L{place(x - size * 1.2)} {place(y - tip * 0.6)} L{place(x + size * 1.2)} {place(y - tip * 0.6)} Z"
-    return svg.path(points, "#FFFFFF", fill=colour, width=1)
-
-
-def _words(answers, rows, unit):
+def _words(pull, answers, rows, unit):
     """A row's largest load and the steps at which it was on a bound."""
-    shown = [(step, a.loads[row], a.states[row]) for step, (a, row) in enumerate(zip(answers, rows), 1) if row is not None and usable(a)]
-    loads = [(step, load) for step, load, _ in shown if not numbers.is_nan(load)]
+    steps = [(i, p, a, row) for i, (p, a, row) in enumerate(zip(pull.problems, answers, rows), 1) if row is not None and usable(a)]
+    loads = [(i, a.loads[row]) for i, _, a, row in steps if not numbers.is_nan(a.loads[row])]
     if not loads:
         return ["no load"]
     largest, load = max(loads, key=lambda pair: abs(numbers.to_float(pair[1])))
     words = [f"{numbers.short(load)} {unit}".strip()]
     words.append(f"largest, at step {largest}" if any(other != load for _, other in loads) else "at every step")
     for letter, side in (("L", "lower"), ("H", "upper")):
-        at = [step for step, _, state in shown if state == letter]
+        at = [i for i, p, a, row in steps if states.mark(a, p, row) == letter]
         if at:
             words.append(f"at its {side} bound: {'step' if len(at) == 1 else 'steps'} {spans(at)}")
     return words
@@ -184,8 +182,8 @@ def _titles(pull, answers, y):
         return [], y
     half, body = (len(answers) + 1) // 2, []
     for i, title in enumerate(pull.titles()):
-        x, line = (12, i) if i < half else (WIDTH / 2, i - half)
-        body.append(text(x, y + 16 * (line + 1), fitted(f"{i + 1}  {title or '-'}", 56), size=11))
+        x, line = (LEFT, i) if i < half else (WIDTH / 2, i - half)
+        body.append(text(x, y + 16 * (line + 1), fitted(f"{i + 1}  {title or '-'}", WIDTH / 2 - 24, 11), size=11))
     return body, y + 16 * half + 4
 
 
@@ -194,9 +192,5 @@ def _sentence(pull, answers, name):
     unit, told = pull.unit("load_unit"), []
     for step, (answer, row) in enumerate(zip(answers, pull.rows(name)), 1):
         if row is not None and usable(answer):
-            told.append(f"step {step} {numbers.short(answer.loads[row])} {unit}".strip() + f" {tables.STATES[answer.states[row]]}")
+            told.append(f"step {step} {numbers.short(answer.loads[row])} {unit}".strip() + f" {states.words(answer, None, row)}")
     return f"{name}: {', '.join(told) or 'no load'}."
-
-
-def _notes(pull, answers):
-    return [line for note in notes(pull, answers) for line in textwrap.wrap(note, 104)]

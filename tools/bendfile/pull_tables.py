@@ -1,6 +1,7 @@
 """Tables of a whole pull: its steps, and how the loads go over them."""
 
-from . import numbers, tables
+from . import numbers, states, tables
+from .states import usable
 from .tables import counted, headline, table, unit
 
 COLUMNS = 8
@@ -18,14 +19,16 @@ def show(pull, text=numbers.short):
     return "".join(out)
 
 
-def answer_table(pull, answers, text=numbers.short):
+def answer_table(pull, answers, text=numbers.short, highlight=str):
     """The answers of a pull: how each step ended, and the load of each row over the pull."""
     out = [f"A pull of {counted(len(pull.problems), 'step')}\n\n"]
     header = ["step", "<title", "<outcome", "sweeps", "passes", "residual", "<states"]
-    out.append(table(header, [_line(i, t, a) for i, (t, a) in enumerate(zip(pull.titles(), answers), 1)]))
+    out.append(table(header, [_line(i, p, a) for i, (p, a) in enumerate(zip(pull.problems, answers), 1)]))
+    if any(letter(a, p, i).islower() for p, a in zip(pull.problems, answers) for i in range(len(a.states))):
+        out.append("A small letter: the row stopped there, or is near its bound and not on it.\n")
     out.append(f"\n{unit('load', pull.unit('load_unit'))} of each row over the pull\n")
     out.append(_over(pull, lambda step, row: load_text(answers[step], row, text)))
-    out.extend(f"\n{note}\n" for note in notes(pull, answers))
+    out.extend(f"\n{highlight(note)}\n" for note in notes(pull, answers))
     return "".join(out)
 
 
@@ -38,11 +41,6 @@ def notes(pull, answers):
     return found
 
 
-def usable(answer):
-    """Whether an answer's loads are loads of the rig."""
-    return answer.outcome == "solved" and answer.converged
-
-
 def load_text(answer, row, text):
     """A load in the table. What is no load of the rig stands in brackets; a refused step has none."""
     if answer.outcome == "refused":
@@ -51,11 +49,19 @@ def load_text(answer, row, text):
     return shown if usable(answer) and not numbers.is_nan(answer.loads[row]) else f"({shown})"
 
 
-def _line(number, title, answer):
+def _line(number, problem, answer):
+    title = problem.labels.title or "-"
     if answer.outcome == "refused":
-        return [str(number), title or "-", f"refused {answer.number}", "-", "-", "-", "-"]
-    ended = f"infeasible ({answer.cause})" if answer.outcome == "infeasible" else headline(answer)
-    return [str(number), title or "-", ended, str(answer.sweeps), str(answer.passes), numbers.short(answer.residual), "".join(answer.states) or "-"]
+        return [str(number), title, f"refused {answer.number}", "-", "-", "-", "-"]
+    ended = f"infeasible ({answer.cause})" if answer.outcome == "infeasible" else headline(answer, problem)
+    counts = [str(answer.sweeps), str(answer.passes), numbers.short(answer.residual)]
+    return [str(number), title, ended, *counts, "".join(letter(answer, problem, i) for i in range(problem.rows)) or "-"]
+
+
+def letter(answer, problem, row):
+    """The state's letter; small where the row only stopped there or is only near its bound."""
+    shown = answer.states[row]
+    return shown if states.mark(answer, problem, row) == shown else shown.lower()
 
 
 def _over(pull, cell):

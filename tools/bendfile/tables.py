@@ -2,8 +2,8 @@
 
 import unicodedata
 
-from . import numbers
-from .answers import CAUSES, MEANINGS, REFUSALS, STATES, row_sums
+from . import input_warnings, numbers, states
+from .answers import CAUSES, REFUSALS, row_sums
 
 MATRIX_COLUMNS = 8
 
@@ -53,6 +53,7 @@ def show(problem, size, text=numbers.short):
     out.append(f"\n{unit('motion', per)}: motion of the line's coordinate for a load of 1 on the column's row\n")
     out.append(_blocks(coordinates, problem.motion, text))
     out.append(f"\n{unit('tolerance', labels.motion_unit)} {text(problem.tolerance)}\n")
+    out.extend(f"\nInput, {doubt}.\n" for doubt in input_warnings.of_input(problem))
     return "".join(out)
 
 
@@ -68,16 +69,25 @@ def _blocks(names, lines, text):
     return "\n".join(shown)
 
 
-def headline(answer):
-    """How a solve ended, in one line."""
+def headline(answer, problem=None):
+    """How a solve ended, in one line. Solved is said plainly only where every row has a load and the input leaves no doubt."""
     if answer.outcome == "refused":
         reason = REFUSALS.get(answer.number, "not a number of document 01's table")
         return f"refused {answer.number}: {reason}"
     if answer.outcome == "infeasible":
         return f"infeasible ({answer.cause}): {CAUSES[answer.cause]}"
-    if answer.exact:
-        return "solved, exact"
-    return "solved by sweeps, converged" if answer.converged else "solved by sweeps, not converged"
+    ended = "solved, exact" if answer.exact else "solved by sweeps, converged" if answer.converged else "solved by sweeps, not converged"
+    if states.missing(answer):
+        return f"{ended}, but {counted(len(states.missing(answer)), 'row')} without a load: do not use"
+    if not answer.converged:
+        return f"{ended}: do not use"
+    doubtful = answer.idle or (problem is not None and input_warnings.serious(problem))
+    return f"{ended}, but see the notes below" if doubtful else ended
+
+
+def listed_word(answer):
+    """What a listed row did: the rows of a ray fight each other, and a row that grew may be alone."""
+    return "grew" if answer.cause == "growth" else "fights"
 
 
 def counts(answer):
@@ -85,52 +95,73 @@ def counts(answer):
     return ", ".join(parts) + f", residual {numbers.short(answer.residual)}"
 
 
-def state_text(answer, problem, row):
-    """The state's word; where a load was found, also what it means for this kind of row."""
-    word = STATES[answer.states[row]]
-    if problem is None or answer.outcome != "solved" or numbers.is_nan(answer.loads[row]):
-        return word
-    return f"{word}: {MEANINGS[problem.kind(row)][answer.states[row]]}"
-
-
-def answer_table(answer, problem=None, text=numbers.short):
-    """An answer as a table, with names, bounds and motions where the bend file is known."""
-    out = [headline(answer) + "\n"]
+def answer_table(answer, problem=None, text=numbers.short, highlight=str):
+    """An answer as a table, with names, bounds and motions where the bend file is known. `highlight` is how the notes are written."""
+    title = problem.labels.title if problem is not None else ""
+    told = notes(answer, problem) if answer.outcome != "refused" else []
+    first = headline(answer, problem)
+    out = [f"{title}\n" if title and answer.outcome != "refused" else "", (highlight(first) if told else first) + "\n"]
     if answer.outcome == "refused":
-        return out[0]
-    out.append(counts(answer) + "\n")
-    header, extra = ["row", "<state", "load"], []
-    if problem is not None:
-        out.insert(0, f"{problem.labels.title}\n" if problem.labels.title else "")
-        load, motion = problem.labels.load_unit, problem.labels.motion_unit
-        header = ["row", "<name", "<state", unit("load", load), unit("lo", load), unit("hi", load), unit("motion left", motion)]
-        sums = [numbers.to_bits(v) for v in row_sums(problem, answer)]
-        extra = [[text(problem.lo[i]), text(problem.hi[i]), text(sums[i])] for i in range(problem.rows)]
-    fights = answer.outcome == "infeasible"
-    lines = []
-    for i, load in enumerate(answer.loads):
-        name = [problem.name(i)] if problem is not None else []
-        line = [str(i), *name, state_text(answer, problem, i), text(load), *(extra[i] if extra else [])]
-        lines.append(line + (["fights" if i in answer.fights else ""] if fights else []))
-    out.append("\n" + table(header + (["<"] if fights else []), lines))
-    out.extend(f"\n{note}\n" for note in notes(answer, problem))
+        return "".join(out)
+    out.append(counts(answer) + "\n\n")
+    header, lines = _rows_alone(answer, text) if problem is None else _rows_with_bounds(answer, problem, text)
+    if answer.outcome == "infeasible":
+        header = [*header, "<"]
+        lines = [[*line, listed_word(answer) if i in answer.fights else ""] for i, line in enumerate(lines)]
+    out.append(table(header, lines))
+    out.extend(f"\n{highlight(note)}\n" for note in told)
     return "".join(out)
+
+
+def _rows_alone(answer, text):
+    lines = [[str(i), states.words(answer, None, i), text(load)] for i, load in enumerate(answer.loads)]
+    return ["row", "<state", "load"], lines
+
+
+def _rows_with_bounds(answer, problem, text):
+    load, motion = problem.labels.load_unit, problem.labels.motion_unit
+    header = ["row", "<name", "<state", unit("load", load), unit("lo", load), unit("hi", load), unit("motion left", motion)]
+    lines = []
+    for i, sum_ in enumerate(row_sums(problem, answer)):
+        shown = [text(bits) for bits in (answer.loads[i], problem.lo[i], problem.hi[i], numbers.to_bits(sum_))]
+        lines.append([str(i), problem.name(i), states.words(answer, problem, i, sum_), *shown])
+    return header, lines
 
 
 def notes(answer, problem=None):
     """What a reader must know before using the numbers."""
-    found = []
-    if answer.outcome == "infeasible":
-        who = [problem.name(i) if problem is not None else f"row {i}" for i in answer.fights]
-        found.append(f"Rows that fight: {', '.join(who)}. No position of the shaft meets every row.")
-        found.append("The loads and states are where the solver stopped; they are not loads of the rig.")
-        return found
-    missing = [i for i, load in enumerate(answer.loads) if numbers.is_nan(load)]
+    found = _of_infeasible(answer, problem) if answer.outcome == "infeasible" else _of_solved(answer, problem)
+    if problem is not None:
+        return found + [f"Input, {doubt}." for doubt in input_warnings.of_input(problem)]
+    idle = [f"row {i}" for i, letter in enumerate(answer.states) if letter == "Z"]
+    return found + ([f"Cannot act (Idle): {', '.join(idle)}. Their own entries of the matrix are NaN or not above 0."] if idle else [])
+
+
+def _of_infeasible(answer, problem):
+    who = ", ".join(problem.name(i) if problem is not None else f"row {i}" for i in answer.fights)
+    if answer.cause == "growth":
+        why = "Either no position of the shaft meets every row, or a scale is too small for the loads of this rig."
+        told = f"Rows whose load grew past a million times its scale: {who}. {why}"
+    elif problem is not None and not input_warnings.of_input(problem):
+        told = f"Rows that fight: {who}. No position of the shaft meets every row."
+    else:
+        told = f"Rows that fight: {who}."
+    return [told, "The loads and states are where the solver stopped; they are not loads of the rig."]
+
+
+def _of_solved(answer, problem):
+    found, missing = [], states.missing(answer)
     if missing:
-        who = ", ".join(f"row {i}" for i in missing)
-        found.append(f"No load was found for {who}: a number behind it is NaN or went out of range. Do not use this answer.")
+        who = ", ".join(problem.name(i) if problem is not None else f"row {i}" for i in missing)
+        found.append(f"No load was found for {who}: {_why_missing(problem)}. The residual does not count such rows. Do not use this answer.")
     if not answer.converged:
         found.append("The sweeps ended at their cap before the loads settled. Do not use this answer.")
     if numbers.to_float(answer.residual) > 1e-9:
         found.append("The residual is above 1e-9: some row is off by more than a part in a thousand million of its scale.")
     return found
+
+
+def _why_missing(problem):
+    if problem is None:
+        return "a number behind it is NaN or went out of range"
+    return "the input has the doubtful numbers named below" if input_warnings.serious(problem) else "a sum went out of range, though every number of the input is finite"
