@@ -1,120 +1,74 @@
 #!/usr/bin/env python3
-"""Bend files for people: make one from a description, show one, and read bendsolve's answer as a table or a picture.
+"""Bend files for people: make one from a description, solve it, and show it and its answer as a table or a picture.
 
+    bend.py solve FILE..                            a description, a bend file or a pull, solved and shown
+    bend.py solve FILE.. --picture OUT.svg
     bend.py make INPUT.json -o OUT.bend
-    bend.py show FILE.bend
-    bend.py answer ANSWER.txt FILE.bend
-    bend.py picture ANSWER.txt FILE.bend -o OUT.svg
-
-A whole pull in one file, its steps oldest first:
-
-    bend.py chain STEP.bend.. -o PULL
+    bend.py show FILE..
+    bend.py answer ANSWER.txt.. FILE..
+    bend.py picture ANSWER.txt.. FILE.. -o OUT.svg
+    bend.py exact FILE ANSWER.txt..                 the motions left without rounding
+    bend.py chain STEP.bend.. -o PULL               a whole pull in one file, its steps oldest first
     bend.py split PULL -o FOLDER
-    bend.py show PULL
-    bend.py answer ANSWER.txt.. PULL
-    bend.py picture ANSWER.txt.. PULL -o OUT.svg
 
-The motions left without rounding:
-
-    bend.py exact FILE.bend ANSWER.txt
-
-Exit status: 0 fine, 1 input that cannot be taken or output that cannot be written, 2 wrong usage.
+FILE is a bend file or a pull; several are the steps of a pull. Exit status: 0 fine, 1 input that cannot be taken or output that cannot be
+written, 2 wrong usage.
 """
 
 import argparse
 import os
 import sys
 
-from bendfile import answers, as_csv, as_json, binary, chain, describe, exact_tables, input_warnings, validation
-from bendfile import numbers, output, picture, pull, pull_picture, pull_tables, tables
+from bendfile import VERSION, as_csv, as_json, binary, chain, describe, exact_tables, input_warnings, inputs, numbers, output
+from bendfile import picture, pull, pull_picture, pull_tables, solver, tables
+from bendfile.inputs import LARGEST_DESCRIPTION, named
 from bendfile.problem import LARGEST_FILE, BadInput, check_scales
 
 READERS = {"json": as_json.read, "csv": as_csv.read}
+WRITERS = {"json": as_json.write, "csv": as_csv.write}
 
 
-def load(path, most=-1):
-    """A file's bytes; `-` is standard input."""
-    try:
-        if path == "-":
-            return sys.stdin.buffer.read(most)
-        with open(path, "rb") as file:
-            return file.read(most)
-    except OSError as wrong:
-        raise BadInput(f"{path}: cannot be read: {wrong.strerror}") from None
-
-
-def named(path, call, *arguments):
-    """Calls with the file's name in front of what goes wrong."""
-    try:
-        return call(*arguments)
-    except BadInput as wrong:
-        raise BadInput(f"{'standard input' if path == '-' else path}: {wrong}") from None
-
-
-def load_bend(path):
-    """A bend file's bytes and its problem. One byte over the largest file is read, to find that it is too long."""
-    data = load(path, LARGEST_FILE + 1)
-    return data, named(path, binary.decode, data)
-
-
-def load_pull(path):
-    """A pull; a single bend file is one of one step."""
-    return named(path, pull.read, load(path, chain.LARGEST_PULL + 1))
-
-
-def load_answers(paths):
-    """The answers in the files, in their order. A file may hold several, as several runs of bendsolve print them."""
-    return [(path, answer) for path in paths for answer in named(path, answers.read_all, load(path))]
-
-
-def load_steps(paths):
-    """Answers and the steps they answer: one answer file alone, or answer files and then a bend file or a pull."""
-    found = load_answers(paths[:-1] or paths)
-    # A file that bendsolve refused may be one that cannot be read here either; its answer is shown all the same.
-    if len(paths) == 1 or (len(found) == 1 and found[0][1].outcome == "refused"):
-        return None, [answer for _, answer in found]
-    steps = load_pull(paths[-1])
-    if len(found) != len(steps.problems):
-        raise BadInput(f"{paths[-1]}: found {len(found)} answers to {tables.counted(len(steps.problems), 'step')}; expected one per step")
-    for (path, answer), problem in zip(found, steps.problems):
-        named(path, validation.check, answer, problem)
-    return steps, [answer for _, answer in found]
+def form_of(path):
+    """What form a description has by its name, or nothing that is known."""
+    return os.path.splitext(path)[1][1:].lower()
 
 
 def make(options):
-    form = options.form or os.path.splitext(options.input)[1][1:].lower()
+    form = options.form or form_of(options.input)
     if form not in READERS:
         options.parser.error(f"{options.input}: is it JSON or CSV? Expected a name that ends in .json or .csv, or --from")
     if options.output != "-" and os.path.realpath(options.input) == os.path.realpath(options.output):
         options.parser.error(f"{options.output}: is the input; expected another name")
-    free = load(options.free) if options.free else None
-    data = named(options.input, _made, READERS[form], load(options.input), options, free)
-    output.write(options.output, data)
-
-
-def _made(reader, data, options, free):
-    """The bend file's bytes. What the solver would take but nobody means is said on standard error."""
-    problem = describe.build(reader(data))
+    free = inputs.bounded(options.free, LARGEST_FILE, "free bytes") if options.free else None
+    problem = described(options.input, form)
     if free is not None:
         problem.before = free
     elif options.labels:
         problem.before = binary.label_bytes(problem.labels)
     if not options.any_scale:
-        check_scales(problem)
-    made = binary.encode(problem)
-    for warning in input_warnings.of_input(problem):
-        print(f"bend.py: warning: {options.input}: {warning}", file=sys.stderr)
-    return made
+        named(options.input, check_scales, problem)
+    made = named(options.input, binary.encode, problem)
+    # What the solver would take but nobody means is said on standard error.
+    for doubt in input_warnings.of_input(problem):
+        report(f"warning: {inputs.shown(options.input)}: {doubt}")
+    output.write(options.output, made)
+
+
+def described(path, form):
+    """The problem that a description means."""
+    data = inputs.bounded(path, LARGEST_DESCRIPTION, "a description")
+    return named(path, lambda: describe.build(READERS[form](data)))
 
 
 def show(options):
-    steps = load_pull(options.file)
-    if steps.places is None or options.step is not None:
-        shown = _shown_step(options, *_chosen(steps, options))
+    steps = inputs.pulls(options.files)
+    if not steps.whole or options.step is not None:
+        problem, size = _chosen(steps, options)
+        shown = WRITERS[options.form](describe.texts(problem)) if options.form else tables.show(problem, size, *_look(options))
     elif options.form:
-        options.parser.error(f"{options.file}: is a pull; --{options.form} is of one step, so expected --step and its number")
+        options.parser.error(f"{options.files[0]}: is a pull; --{options.form} is of one step, so expected --step and its number")
     else:
-        shown = named(options.file, pull_tables.show, steps, _number_text(options))
+        shown = named(options.files[0], pull_tables.show, steps, *_look(options))
     output.write(options.output, shown.encode("utf-8"))
 
 
@@ -122,85 +76,117 @@ def _chosen(steps, options):
     """The problem of the step that is asked for, and how many bytes it has."""
     number = 1 if options.step is None else options.step
     if not 1 <= number <= len(steps.problems):
-        raise BadInput(f"{options.file}: --step {number}; expected 1 to {len(steps.problems)}")
-    place = steps.places[number - 1] if steps.places else None
-    return steps.problems[number - 1], place.end - place.linked if place else steps.size
-
-
-def _shown_step(options, problem, size):
-    if options.form:
-        return {"json": as_json, "csv": as_csv}[options.form].write(describe.texts(problem))
-    return tables.show(problem, size, _number_text(options))
+        raise BadInput(f"{options.files[0]}: --step {number}; expected 1 to {len(steps.problems)}")
+    return steps.problems[number - 1], steps.sizes[number - 1]
 
 
 def chain_(options):
     chain.check_number(len(options.files))
     if os.path.realpath(options.output) in map(os.path.realpath, options.files):
         options.parser.error(f"{options.output}: is one of the steps; expected another name")
-    files = [load_bend(path)[0] for path in options.files]
+    files = [inputs.bend_file(path) for path in options.files]
     output.write(options.output, named(options.output, chain.joined, files, options.free))
 
 
 def split(options):
-    data = load(options.file, chain.LARGEST_PULL + 1)
+    data = inputs.read(options.file, chain.LARGEST_PULL)
     files = named(options.file, chain.cut, data, options.free)
     output.write_folder(options.output, [(f"step-{i:02}.bend", part) for i, part in enumerate(files, 1)])
 
 
 def answer_(options):
-    steps, found = load_steps(options.files)
-    form = _number_text(options), _loud(options)
-    if steps is not None and steps.places is not None:
-        shown = named(options.files[-1], pull_tables.answer_table, steps, found, *form)
-    else:
-        shown = "\n".join(tables.answer_table(answer, steps.problems[0] if steps else None, *form) for answer in found)
-    output.write(options.output, shown.encode("utf-8"))
+    steps, found = inputs.steps(options.files)
+    output.write(options.output, table_of(options, options.files[-1], steps, found).encode("utf-8"))
+
+
+def table_of(options, name, steps, found):
+    """The table of one answer or of a pull's; `name` is the file that a message names."""
+    if steps is not None and steps.whole:
+        return named(name, pull_tables.answer_table, steps, found, *_look(options))
+    return "\n".join(tables.answer_table(answer, steps.problems[0] if steps else None, *_look(options)) for answer in found)
 
 
 def picture_(options):
     if len(options.files) < 2:
         options.parser.error("expected ANSWER.txt and the bend file or pull that it answers")
-    steps, found = load_steps(options.files)
-    if steps is None:
-        raise BadInput(f"{options.files[0]}: {tables.headline(found[0])}; there are no loads to draw")
-    if steps.places is not None:
-        drawn = named(options.files[-1], pull_picture.draw, steps, found)
-    else:
-        drawn = picture.draw(found[0], steps.problems[0])
-    output.write(options.output, drawn.encode("utf-8"))
+    steps, found = inputs.steps(options.files)
+    if steps is None and found[0].outcome != "refused":
+        options.parser.error("expected ANSWER.txt and the bend file or pull that it answers")
+    output.write(options.output, picture_of(options.files, steps, found).encode("utf-8"))
+
+
+def picture_of(files, steps, found):
+    """The picture of one answer or of a pull's."""
+    if steps is None or (not steps.whole and found[0].outcome == "refused"):
+        raise BadInput(f"{inputs.shown(files[0])}: {tables.headline(found[0])}; there are no loads to draw")
+    if steps.whole:
+        return named(files[-1], pull_picture.draw, steps, found)
+    return picture.draw(found[0], steps.problems[0])
 
 
 def exact_(options):
-    steps, found = load_steps([*options.answers, options.file])
+    steps, found = inputs.steps([*options.answers, options.file])
     if steps is None:
-        raise BadInput(f"{options.answers[0]}: {tables.headline(found[0])}; there are no loads to add")
-    shown = [exact_tables.show(answer, problem, _number_text(options)) for answer, problem in zip(found, steps.problems)]
+        raise BadInput(f"{inputs.shown(options.answers[0])}: {tables.headline(found[0])}; there are no loads to add")
+    shown = [exact_tables.show(answer, problem, *_look(options)) for answer, problem in zip(found, steps.problems)]
     output.write(options.output, "\n".join(shown).encode("utf-8"))
 
 
-def _loud(options):
-    """How notes are written: red on a terminal that takes colours."""
+def solve(options):
+    parts = [_to_solve(path) for path in options.files]
+    program = solver.found(options.solver)
+    solved = [named(path, solver.solve, program, problem) for path, part in zip(options.files, parts) for problem in part.problems]
+    steps, found = pull.together(parts), [answer for _, answer in solved]
+    # Table and picture are made before anything is written.
+    shown = table_of(options, options.files[0], steps, found).encode("utf-8")
+    drawn = picture_of(options.files, steps, found).encode("utf-8") if options.picture else None
+    if options.answers:
+        output.write(options.answers, b"".join(data for data, _ in solved))
+    if options.picture:
+        output.write(options.picture, drawn)
+    output.write(options.output, shown)
+
+
+def _to_solve(path):
+    """A description, made into a step in memory; or a bend file, or a pull."""
+    if form_of(path) not in READERS:
+        return inputs.pulls([path])
+    problem = described(path, form_of(path))
+    return pull.Pull([problem], [len(named(path, binary.encode, problem))], whole=False)
+
+
+def _look(options):
+    """How numbers and notes are written: six digits or all, and notes red on a terminal that takes colours."""
+    text = numbers.exact if options.full else numbers.short
     terminal = options.output == "-" and sys.stdout is not None and sys.stdout.isatty()
     if not terminal or "NO_COLOR" in os.environ or os.environ.get("TERM", "dumb") == "dumb":
-        return str
-    return lambda words: f"\x1b[31m{words}\x1b[0m"
-
-
-def _number_text(options):
-    return numbers.exact if options.full else numbers.short
+        return text, str
+    return text, lambda words: f"\x1b[31m{words}\x1b[0m"
 
 
 def parser():
     top = argparse.ArgumentParser(prog="bend.py", description="Bend files for people.")
+    top.add_argument("--version", action="version", version=f"bend.py {VERSION}")
     commands = top.add_subparsers(dest="command", required=True, metavar="COMMAND")
+    _solve_options(commands.add_parser("solve", help="solve a description, a bend file or a pull with bendsolve, and show the answer"))
     _make_options(commands.add_parser("make", help="make a bend file from a JSON or CSV description"))
     _show_options(commands.add_parser("show", help="show a bend file as tables, or as a description"))
     _answer_options(commands.add_parser("answer", help="show bendsolve's answer as a table"))
     _picture_options(commands.add_parser("picture", help="draw an answer's loads between their bounds, or a pull's over its steps"))
+    _exact_options(commands.add_parser("exact", help="show the motions left without rounding, beside the rounded ones"))
     _chain_options(commands.add_parser("chain", help="put the bend files of a pull into one file"))
     _split_options(commands.add_parser("split", help="cut a pull into its bend files"))
-    _exact_options(commands.add_parser("exact", help="show the motions left without rounding, beside the rounded ones"))
     return top
+
+
+def _solve_options(command):
+    what = "a description (.json or .csv), a bend file or a pull; several are the steps of a pull"
+    command.add_argument("files", metavar="FILE", nargs="+", help=what)
+    command.add_argument("--picture", metavar="OUT.svg", help="draw the loads as well")
+    command.add_argument("--answers", metavar="OUT.txt", help="keep what bendsolve printed")
+    command.add_argument("--solver", metavar="PROGRAM", help="another program than target/bin/bendsolve")
+    _table_options(command)
+    command.set_defaults(call=solve, parser=command)
 
 
 def _make_options(command):
@@ -215,7 +201,7 @@ def _make_options(command):
 
 
 def _show_options(command):
-    command.add_argument("file", metavar="FILE", help="a bend file or a pull, or -")
+    command.add_argument("files", metavar="FILE", nargs="+", help="a bend file or a pull, or -; several are the steps of a pull")
     command.add_argument("--step", type=int, metavar="N", help="one step of a pull, counted from 1, the oldest")
     form = command.add_mutually_exclusive_group()
     form.add_argument("--json", dest="form", action="store_const", const="json", help="the JSON description")
@@ -225,9 +211,15 @@ def _show_options(command):
 
 
 def _answer_options(command):
-    command.add_argument("files", metavar="FILE", nargs="+", help="what bendsolve printed, or -; last the bend file or the pull that is answered")
+    command.add_argument("files", metavar="FILE", nargs="+", help="what bendsolve printed, or -; then the bend files or the pull that are answered")
     _table_options(command)
     command.set_defaults(call=answer_)
+
+
+def _picture_options(command):
+    command.add_argument("files", metavar="FILE", nargs="+", help="what bendsolve printed, or -; then the bend files or the pull that are answered")
+    command.add_argument("-o", "--output", required=True, metavar="OUT.svg", help="the SVG file to write, or -")
+    command.set_defaults(call=picture_, parser=command)
 
 
 def _exact_options(command):
@@ -240,12 +232,6 @@ def _exact_options(command):
 def _table_options(command):
     command.add_argument("--full", action="store_true", help="every digit instead of six")
     command.add_argument("-o", "--output", default="-", metavar="OUT", help="a file to write instead of standard output")
-
-
-def _picture_options(command):
-    command.add_argument("files", metavar="FILE", nargs="+", help="what bendsolve printed, or -; last the bend file or the pull that is answered")
-    command.add_argument("-o", "--output", required=True, metavar="OUT.svg", help="the SVG file to write, or -")
-    command.set_defaults(call=picture_, parser=command)
 
 
 def _chain_options(command):
@@ -266,20 +252,33 @@ def _free_option(command):
     command.add_argument("--no-free", dest="free", action="store_false", help="leave out the free bytes, names and units among them")
 
 
-def main(arguments=None):
-    options = parser().parse_args(arguments)
+def report(words):
+    """A message on standard error, if there is one."""
     try:
+        if sys.stderr is not None:
+            print(f"bend.py: {words}", file=sys.stderr, flush=True)
+    except OSError:
+        pass
+
+
+def main(arguments=None):
+    output.fill_closed_descriptors()
+    try:
+        options = parser().parse_args(arguments)
         options.call(options)
     except BadInput as wrong:
-        print(f"bend.py: {wrong}", file=sys.stderr)
+        report(wrong)
         return 1
     except BrokenPipeError:
         # The reader of standard output has gone; Python would otherwise complain again when it closes it.
         os.dup2(os.open(os.devnull, os.O_WRONLY), sys.stdout.fileno())
         return 1
     except OSError as wrong:
-        print(f"bend.py: standard output: cannot be written: {wrong.strerror}", file=sys.stderr)
+        report(f"standard output: cannot be written: {wrong.strerror}")
         return 1
+    except KeyboardInterrupt:
+        report("interrupted; nothing more was written")
+        return 130
     return 0
 
 

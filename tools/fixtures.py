@@ -86,6 +86,23 @@ def some_problem(source, rows, coordinates, before=b""):
     return problem.Problem(matrix, *parts, motion, some_bits(source), before=before)
 
 
+def rig_problem(source, rows):
+    """A problem as a rig sets it up, symmetric, sometimes with less rank than rows, with pads, stops and rows without limit; and now and then
+    one number that nobody means."""
+    rank = source.choice([1, 2, rows + 1])
+    places = [[source.uniform(-1, 1) for _ in range(rank)] for _ in range(rows)]
+    matrix = [[numbers.to_bits(sum(a * b for a, b in zip(one, other))) for other in places] for one in places]
+    bounds = [source.choice([(0.0, float("inf")), (-2.0, 2.0), (-0.0, 0.0), (float("-inf"), float("inf")), (0.0, 1e-3)]) for _ in range(rows)]
+    lo, hi = ([numbers.to_bits(pair[side]) for pair in bounds] for side in (0, 1))
+    free_motion = [numbers.to_bits(source.uniform(-3, 3)) for _ in range(rows)]
+    scale = [numbers.to_bits(source.choice([1.0, 100.0, 1e-3, 1e-9])) for _ in range(rows)]
+    made = problem.Problem(matrix, free_motion, lo, hi, scale, [0] * rows, [], numbers.to_bits(source.choice([0.0, 1e-6, 1e9])))
+    if rows and source.random() < 0.3:
+        part = source.choice([*made.matrix, made.free_motion, made.lo, made.hi, made.start])
+        part[source.randrange(rows)] = source.choice(BOUNDARY)
+    return made
+
+
 class Folder(unittest.TestCase):
     """Tests that write files."""
 

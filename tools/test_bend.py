@@ -212,10 +212,11 @@ JSON_ERRORS = [
 CSV_EXAMPLE = "bend,1\ntolerance,0\n\nrows,kind,scale,free_motion\npad,contact,1,-4\n\nmatrix,pad\npad,2\n\nmotion,pad\nblade,1\n"
 CSV_ERRORS = [
     ("", 'line 1: found ""; expected bend,1'),
-    ("bend;1\n", 'line 1: found "bend;1"; expected bend,1'),
+    ("bend|1\n", 'line 1: found "bend|1"; expected bend,1 (or bend;1, or a tab between the two)'),
+    ("bend;2\n", 'line 1: found "bend,2"; expected bend,1'),
     ('bend,1\n"x\n', "not CSV: "),
     (CSV_EXAMPLE.replace("tolerance,0", ""), "tolerance: missing; expected a line such as tolerance,1e-6"),
-    (CSV_EXAMPLE.replace("tolerance,0", "tolerance,0,5"), "line 2: tolerance has 2 values; expected one (a value with a comma needs quotes)"),
+    (CSV_EXAMPLE.replace("tolerance,0", "tolerance,0,5"), "line 2: tolerance has 2 values; expected one (a value with a separator in it needs quotes)"),
     (CSV_EXAMPLE.replace("tolerance,0", "tolerances,0"), 'line 2: found "tolerances"; expected title, note'),
     (CSV_EXAMPLE.replace("tolerance,0", "tolerance,0\ntolerance,0"), "line 3: tolerance stands twice; expected once"),
     (CSV_EXAMPLE.replace("rows,kind", "rows,kinds"), 'line 4: found the column "kinds"; expected each once of kind, lo'),

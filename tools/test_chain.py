@@ -282,7 +282,7 @@ class Pulls(Folder):
         lines = out.decode().splitlines()
         self.assertEqual(lines[0], "A pull of 6 steps, 7153 bytes")
         for i, ram in enumerate((40, 80, 120, 160, 80, 0), 1):
-            self.assertRegex(lines[2 + i], rf"^ +{i}  Pull, step {i} of 6, ram {ram} N +8 +2 +20\d +\d+$")
+            self.assertRegex(lines[2 + i], rf"^ +{i}  Pull, step {i} of 6, ram {ram} N +8 +2 +119\d +20\d$")
         self.assertIn("free motion (mm) of each row over the pull", lines)
         self.assertTrue(any(line.startswith("   6        0.4       1.6 ") for line in lines))
 
@@ -359,7 +359,7 @@ class Pulls(Folder):
         """A row that a step does not have leaves its cell empty; names and not places say which row is which."""
         first, second = binary.decode(EXAMPLE_BYTES), binary.decode(EXAMPLE_BYTES)
         first.labels, second.labels = Labels(names=["left"]), Labels(names=["right"])
-        made = pull.Pull([first, second], 0, [])
+        made = pull.Pull([first, second], [0, 0])
         table = pull_tables.answer_table(made, [answers.read(EXAMPLE_ANSWER)] * 2)
         self.assertIn("step  left  right\n   1     2\n   2            2\n", table)
         drawn = ElementTree.fromstring(pull_picture.draw(made, [answers.read(EXAMPLE_ANSWER)] * 2))
@@ -369,7 +369,7 @@ class Pulls(Folder):
         first, second = binary.decode(EXAMPLE_BYTES), binary.decode(EXAMPLE_BYTES)
         first.labels, second.labels = Labels(load_unit="N"), Labels(load_unit="kg")
         with self.assertRaisesRegex(BadInput, "step 2 has the unit kg, step 1 N; expected one unit over a pull"):
-            pull_tables.answer_table(pull.Pull([first, second], 0, []), [answers.read(EXAMPLE_ANSWER)] * 2)
+            pull_tables.answer_table(pull.Pull([first, second], [0, 0]), [answers.read(EXAMPLE_ANSWER)] * 2)
 
     def test_one_step_with_labels(self):
         """A chain of one step is shown with its labels, the link behind them."""
@@ -388,7 +388,7 @@ class Pictures(unittest.TestCase):
             for made in problems:
                 states = ["Z" if made.idle(i) else source.choice("ILH") for i in range(rows)]
                 found.append(answers.Answer("solved", converged=source.random() < 0.9, states=states, loads=[some_bits(source) for _ in states]))
-            tree = ElementTree.fromstring(pull_picture.draw(pull.Pull(problems, 0, []), found))
+            tree = ElementTree.fromstring(pull_picture.draw(pull.Pull(problems, [0] * many), found))
             self.assertEqual(len(tree.findall("{*}g")), rows)
             height = float(tree.get("height"))
             for part in tree.iter():

@@ -13,7 +13,7 @@ sys.path.insert(0, os.path.dirname(os.path.abspath(__file__)))
 
 from fixtures import EXAMPLE_ANSWER, ROOT, Folder, run  # noqa: E402
 
-from bendfile import answers, as_json, binary, describe, numbers, picture, states, svg, validation  # noqa: E402
+from bendfile import answers, as_json, binary, describe, numbers, picture, pull, pull_picture, states, svg, validation  # noqa: E402
 from bendfile.problem import BadInput, Labels  # noqa: E402
 
 REPORT = "sweeps 1 passes 1 converged 1 exact 1 idle 0 residual 0000000000000000\n"
@@ -37,7 +37,7 @@ IDLE = "sweeps 0 passes 0 converged 1 exact 1 idle 1 residual 0000000000000000\n
 NAN = numbers.NAN
 # An input that the solver takes, bendsolve's answer to it, and what must be said.
 DOUBTFUL = [
-    (described([{}], [[0]]), answered(("Z", 0), report=IDLE), 'row 0 ("pad 0"): its own entry of the matrix is 0, not a number above 0, so the row cannot act (Idle)'),
+    (described([{}], [[0]]), answered(("Z", 0), report=IDLE), 'row 0 ("pad 0"): its own entry of the matrix is 0, not a number above 0, so'),
     (described([{}], [["nan"]]), answered(("Z", 0), report=IDLE), 'row 0 ("pad 0"): its own entry of the matrix is nan, not a number above 0'),
     (described([{"lo": "nan"}], [[2]]), answered(("I", 2.0)), 'row 0 ("pad 0"): lo is nan, which limits nothing'),
     (described([{"hi": "nan"}], [[2]]), answered(("I", 2.0)), 'row 0 ("pad 0"): hi is nan, which limits nothing'),
@@ -84,6 +84,11 @@ class Doubts(Folder):
         with open(os.path.join(ROOT, "docs", "WALKTHROUGH.md"), encoding="utf-8") as file:
             self.assertIn("\n```\n" + shown + "```\n", file.read())
 
+    def test_scale(self):
+        """A scale that the solver refuses is told by `show`, and by `make` where it writes it."""
+        made = binary.encode(described([{"scale": 0}], [[2]]))
+        self.assertIn(b"Input, row 0: scale is 0, which the solver refuses (number 8).", run("show", self.put("a.bend", made))[1])
+
     def test_many(self):
         """A matrix full of NaN is told in one line."""
         made = described([{}] * 4, [["nan"] * 4] * 4)
@@ -115,14 +120,28 @@ class Words(Folder):
     def shown(self, made, data):
         return run("answer", self.put("a.txt", data), self.put("a.bend", binary.encode(made)))[1].decode()
 
+    def test_zeros(self):
+        """A zero has no sign among six digits, and keeps it among all."""
+        made = described([{"kind": "friction", "bound": 0, "scale": 1, "free_motion": 4}], [[1]])
+        self.assertNotIn("-0", self.shown(made, answered(("L", -0.0))))
+        self.assertIn("-0.0", run("answer", "--full", self.path("a.txt"), self.path("a.bend"))[1].decode())
+
     def test_growth(self):
         """Document 01's case 3: residual 0, and a position of the shaft that meets the row."""
         made = described([{"free_motion": -1}], [[2.0**-24]])
         report = "sweeps 1 passes 0 converged 0 exact 0 idle 0 residual 0000000000000000\n"
         shown = self.shown(made, answered(("I", 2.0**24), report=report, first="infeasible growth", last="fights 0\n"))
-        self.assertIn("Rows whose load grew past a million times its scale: row 0. Either no position of the shaft meets every row, or a scale is too small", shown)
+        self.assertIn("Rows whose load grew past a million times its scale: row 0. That may be because no position of the shaft", shown)
         self.assertIn("grew\n", shown)
         self.assertNotIn("fight", shown)
+
+    def test_residual(self):
+        """An exact answer whose residual is above 1e-9 is not called plainly exact."""
+        made = described([{"lo": "-inf"}], [[2]])
+        report = f"sweeps 1 passes 1 converged 1 exact 1 idle 0 residual {numbers.to_bits(0.5):016X}\n"
+        shown = self.shown(made, answered(("I", 2.5), report=report))
+        self.assertTrue(shown.startswith("solved, exact, but see the notes below\n"))
+        self.assertIn("The residual is above 1e-9", shown)
 
     def test_fights(self):
         """What a ray shows is said only of an input that leaves no doubt."""
@@ -131,7 +150,7 @@ class Words(Folder):
             made = described([{"free_motion": -1}] * 2, [[1, corner], [-1, 1]])
             answer = answers.read(answered(("I", 0.0), ("I", 0.0), report=report, first="infeasible pass", last="fights 0 1\n"))
             answer.residual = numbers.to_bits(answers.residual(made, answer))
-            self.assertEqual("No position of the shaft meets every row." in " ".join(picture.tables.notes(answer, made)), plain)
+            self.assertEqual("No position of a shaft with this matrix meets every row." in " ".join(picture.tables.notes(answer, made)), plain)
 
     def test_stop_of_bound_0(self):
         """AtLo whichever way it slides; the motion left tells the way."""
@@ -261,7 +280,12 @@ class Fits(unittest.TestCase):
             with self.subTest(words):
                 self.refused(made, data, apply, words)
         free = described([{"free_motion": -3e6, "hi": 5e6, "scale": 4}], [[1]])
-        self.refused(free, answered(("I", 3e6), report=report), lambda a: free.free_motion.__setitem__(0, numbers.to_bits(-4.5e6)) or load(0, 4.5e6)(a), "past a million scales")
+
+        def further(answer):
+            free.free_motion[0] = numbers.to_bits(-4.5e6)
+            load(0, 4.5e6)(answer)
+
+        self.refused(free, answered(("I", 3e6), report=report), further, "past a million scales")
 
     def test_idle(self):
         made = described([{"lo": 3, "hi": 5}], [[0]])
@@ -333,6 +357,19 @@ class Room(unittest.TestCase):
                     self.assertTrue(0 <= left and left + wide <= svg.WIDTH, part.text)
                     if left == picture.LEFT and size in (11, 13) and part.text.startswith((long[:3], "0 to")):
                         self.assertLess(left + wide, picture.PLOT_LEFT)
+
+    def test_pull(self):
+        """The picture of a pull too, also where every step has a note."""
+        for long in ("W" * 90, "漢" * 60):
+            made = described([{}], [[2]])
+            made.labels = Labels(title=long, load_unit=long, names=[long])
+            found = [answers.read(answered(("I", 2.0))), answers.Answer("refused", number=8), answers.read(answered(("I", NAN)))]
+            for many in (1, 13):
+                drawn = pull_picture.draw(pull.Pull([made] * 3 * many, [0] * 3 * many), found * many)
+                for part in ElementTree.fromstring(drawn).iter("{http://www.w3.org/2000/svg}text"):
+                    wide = svg.width(part.text, float(part.get("font-size")))
+                    left = float(part.get("x")) - {"end": wide, "middle": wide / 2}.get(part.get("text-anchor"), 0)
+                    self.assertTrue(0 <= left and left + wide <= svg.WIDTH, part.text)
 
     def test_wrapped(self):
         self.assertEqual(svg.wrapped("a b", 100), ["a b"])

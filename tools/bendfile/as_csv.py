@@ -1,12 +1,14 @@
 """The CSV description, which a spreadsheet can open and write.
 
-The first line is `bend,1`. Lines of a key and a value follow, and three blocks, each ended by an empty line: `rows`, one line per pad or stop
-under the names of the fields; `matrix`, one line per row of W under the rows' names; `motion`, one line per coordinate, likewise.
+The first line is `bend,1`; `bend;1` or a tab between the two says that all cells are parted so. Lines of a key and a value follow, and three
+blocks, each ended by an empty line: `rows`, one line per pad or stop under the names of the fields; `matrix`, one line per row of W under the
+rows' names; `motion`, one line per coordinate, likewise. Where semicolons part the cells, a comma may be the decimal mark, over the whole table.
 """
 
 import csv
 import io
 import itertools
+import re
 
 from . import numbers
 from .describe import ROW_FIELDS, Description, name
@@ -16,10 +18,13 @@ FIRST = ["bend", "1"]
 KEYS = ("title", "note", "load unit", "motion unit", "tolerance", "before_start")
 BLOCKS = ("rows", "matrix", "motion")
 
+_PARTED = re.compile(r'[ ]*"?bend"?[ ]*([,;\t])')
+
 
 def read(data):
     """The description in the bytes of a CSV file."""
-    keys, blocks = _parts(_cells(data))
+    lines, parted = _cells(data)
+    keys, blocks = _parts(lines)
     for key in ("rows", "matrix"):
         if key not in blocks:
             raise BadInput(f"{key}: missing; expected a block that begins with a line {key},... and ends with an empty line")
@@ -32,14 +37,38 @@ def read(data):
     motion, labels.coordinates = _block("motion", *blocks.get("motion", (0, [["motion", *names]])), names, None)
     if all(c == f"coordinate {i}" for i, c in enumerate(labels.coordinates)):
         labels.coordinates = []
-    return Description(rows, matrix, motion, keys["tolerance"], labels, keys.get("before_start", ""))
+    description = Description(rows, matrix, motion, keys["tolerance"], labels, keys.get("before_start", ""))
+    return _with_points(description) if parted == ";" else description
+
+
+def _with_points(description):
+    """The decimal commas of a table made points. Both marks in one table are refused: 1.234 beside 0,5 may mean a thousand and more."""
+    d = description
+    numeric = [row for row in ROW_FIELDS if row not in ("name", "kind")]
+    texts = [d.tolerance, *(row[key] for row in d.rows for key in numeric if key in row), *(v for line in d.matrix + d.motion for v in line)]
+    comma, point = (next((t for t in texts if mark in t), None) for mark in (",", "."))
+    if comma is None:
+        return d
+    if point is not None:
+        raise BadInput(f"found the numbers {numbers.quoted(comma)} and {numbers.quoted(point)}; expected one decimal mark over the whole table")
+    d.tolerance = _with_point(d.tolerance)
+    d.rows = [{key: _with_point(text) if key in numeric else text for key, text in row.items()} for row in d.rows]
+    d.matrix, d.motion = ([[_with_point(text) for text in line] for line in block] for block in (d.matrix, d.motion))
+    return d
+
+
+def _with_point(text):
+    """One comma between digits is a decimal mark; a text with more is left, and then is no number."""
+    return text.replace(",", ".") if text.count(",") == 1 else text
 
 
 def _cells(data):
-    """The lines as lists of cells: spaces around a cell and empty cells at a line's end dropped, as spreadsheets add both."""
+    """The lines as lists of cells, and what parts them: spaces around a cell and empty cells at a line's end dropped, as spreadsheets add both."""
     try:
         text = data.decode("utf-8-sig")
-        reader = csv.reader(io.StringIO(text, newline=""), strict=True)
+        first = _PARTED.match(text)
+        parted = first.group(1) if first else ","
+        reader = csv.reader(io.StringIO(text, newline=""), delimiter=parted, strict=True)
         lines = []
         for cells in reader:
             cells = [c.strip() for c in cells]
@@ -52,8 +81,8 @@ def _cells(data):
         raise BadInput(f"line {reader.line_num}: not CSV: {wrong}") from None
     if not lines or lines[0][1] != FIRST:
         found = ",".join(lines[0][1]) if lines else ""
-        raise BadInput(f"line 1: found {numbers.quoted(found)}; expected bend,1")
-    return lines[1:]
+        raise BadInput(f"line 1: found {numbers.quoted(found)}; expected bend,1 (or bend;1, or a tab between the two)")
+    return lines[1:], parted
 
 
 def _parts(lines):
@@ -72,7 +101,7 @@ def _parts(lines):
         elif cells[0] in KEYS and len(cells) <= 2:
             keys[cells[0]] = cells[1] if len(cells) == 2 else ""
         elif cells[0] in KEYS:
-            raise BadInput(f"line {at}: {cells[0]} has {len(cells) - 1} values; expected one (a value with a comma needs quotes)")
+            raise BadInput(f"line {at}: {cells[0]} has {len(cells) - 1} values; expected one (a value with a separator in it needs quotes)")
         else:
             raise BadInput(f"line {at}: found {numbers.quoted(cells[0])}; expected {', '.join(KEYS)}, or a block {', '.join(BLOCKS)}")
     return keys, blocks

@@ -14,7 +14,7 @@ off by:  exact minus rounded.
 """
 
 
-def show(answer, problem, text=numbers.short):
+def show(answer, problem, text=numbers.short, highlight=str):
     """The exact motion left of each row beside the rounded one."""
     labels = problem.labels
     out = [f"{labels.title}\n" if labels.title else "", headline(answer, problem) + "\n"]
@@ -30,7 +30,7 @@ def show(answer, problem, text=numbers.short):
     out.append("\n" + table(header, lines))
     out.append(WORDS)
     out += [f"\n{place(problem, i)} has no exact motion: {sum_}\n" for i, sum_ in enumerate(sums) if isinstance(sum_, str)]
-    out += [f"\n{note}\n" for note in notes(answer, problem)]
+    out += [f"\n{highlight(note)}\n" for note in notes(answer, problem)]
     return "".join(out)
 
 

@@ -30,6 +30,8 @@ def _row(problem, row):
         found.append(f"{where}: lo {numbers.exact(lo)} is above hi {numbers.exact(hi)}, so no load lies between them")
     elif lo == numbers.PLUS_INFINITY or hi == numbers.MINUS_INFINITY:
         found.append(f"{where}: lo {numbers.exact(lo)} and hi {numbers.exact(hi)} leave no finite load")
+    if not numbers.is_finite(problem.scale[row]) or not numbers.to_float(problem.scale[row]) > 0:
+        found.append(f"{where}: scale is {numbers.exact(problem.scale[row])}, which the solver refuses (number 8)")
     for what, bits in (("free_motion", problem.free_motion[row]), ("start", problem.start[row])):
         if not numbers.is_finite(bits):
             found.append(f"{where}: {what} is {numbers.exact(bits)}")
@@ -38,13 +40,15 @@ def _row(problem, row):
 
 def _entries(problem):
     """Entries of the matrix off its diagonal; one on it is told with its row, unless it is infinite and the row so can act."""
-    bad = [(i, j, v) for i, line in enumerate(problem.matrix) for j, v in enumerate(line) if not numbers.is_finite(v) and (i != j or not problem.idle(i))]
-    return _listed("matrix: entry", bad)
+    return _listed("matrix: entry", [(i, j, v) for i, j, v in _not_finite(problem.matrix) if i != j or not problem.idle(i)])
 
 
 def _coordinates(problem):
-    bad = [(i, j, v) for i, line in enumerate(problem.motion) for j, v in enumerate(line) if not numbers.is_finite(v)]
-    return _listed("motion: value", bad)
+    return _listed("motion: value", _not_finite(problem.motion))
+
+
+def _not_finite(lines):
+    return [(i, j, v) for i, line in enumerate(lines) for j, v in enumerate(line) if not numbers.is_finite(v)]
 
 
 def _listed(what, bad):

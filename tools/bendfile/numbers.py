@@ -84,8 +84,8 @@ def exact(bits):
 
 
 def short(bits):
-    """Six digits, for tables and pictures."""
-    return "NaN" if is_nan(bits) else f"{to_float(bits):.6g}"
+    """Six digits, for tables and pictures. A zero has no sign there."""
+    return "NaN" if is_nan(bits) else f"{to_float(bits) + 0.0:.6g}"
 
 
 def quoted(text):

@@ -8,9 +8,22 @@ import tempfile
 from .problem import BadInput
 
 
+def fill_closed_descriptors():
+    """Opens the null device in the place of closed standard descriptors, or the next file that is opened would get their numbers."""
+    for descriptor in (0, 1, 2):
+        try:
+            os.fstat(descriptor)
+        except OSError:
+            os.open(os.devnull, os.O_RDWR)
+    if sys.stderr is None:
+        sys.stderr = open(os.devnull, "w", encoding="utf-8")  # noqa: SIM115, it is open until the end
+
+
 def write(path, data):
     """Puts the bytes under a temporary name beside the target and renames, so that a reader never sees a part. `-` is standard output."""
     if path == "-":
+        if sys.stdout is None:
+            raise BadInput("standard output: cannot be written: it is closed")
         sys.stdout.flush()
         sys.stdout.buffer.write(data)
         sys.stdout.buffer.flush()
@@ -18,6 +31,9 @@ def write(path, data):
     target = os.path.realpath(path)
     if os.path.exists(target) and not os.path.isfile(target):
         raise BadInput(f"{path}: not a regular file; expected a file's name, or - for standard output")
+    # A file is replaced by a new one under its name, which the folder's permissions alone would allow.
+    if os.path.exists(target) and (not os.stat(target).st_mode & 0o222 or not os.access(target, os.W_OK)):
+        raise BadInput(f"{path}: is there and is read-only; it was not replaced")
     try:
         handle, temporary = tempfile.mkstemp(prefix=".bend-", dir=os.path.dirname(target))
     except OSError as wrong:

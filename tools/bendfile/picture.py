@@ -91,20 +91,32 @@ def _heading(answer, problem, doubtful):
 
 def _legend(y, answer, problem, axis):
     """The marks that the picture uses, with their meaning, as many on a line as fit."""
-    used = {states.mark(answer, problem, i) for i in range(problem.rows)}
+    used = {states.mark(answer, problem, i) for i in range(problem.rows) if i not in states.missing(answer)}
     entries = [(_mark_entry(letter), 20, words, INK) for letter, words in MARKS.items() if letter in used]
-    entries.append((lambda x, y: [svg.rect(x + 2, y - 11, 44, 14, BAND), _bracket(x + 2, y - 4, 1, 7), _bracket(x + 46, y - 4, -1, 7)], 56, "from bound to bound", INK))
-    entries.append((lambda x, y: [svg.rect(x + 2, y - 11, 30, 14, BAND), _arrow(x + 32, y - 4, 1)], 48, "no bound on this side", INK))
-    if axis.cut:
-        far = lambda x, y: [svg.rect(x + 2, y - 11, 24, 14, BAND), _arrow(x + 26, y - 4, 1, filled=True)]  # noqa: E731
-        entries.append((far, 42, "bound outside the picture", INK))
-    if answer.fights:
-        entries.append((lambda x, y: [svg.rect(x, y - 12, 22, 16, PALE_RED), svg.rect(x, y - 12, 4, 16, RED)], 28, tables.listed_word(answer), RED))
+    entries += [(_both_bounds, 56, "from bound to bound", INK), (_one_bound, 48, "no bound on this side", INK)]
+    entries += [(_far_bound, 42, "bound outside the picture", INK)] if axis.cut else []
+    entries += [(_listed_row, 28, tables.listed_word(answer), RED)] if answer.fights else []
     return flowed(entries, y)
 
 
 def _mark_entry(letter):
     return lambda x, y: [marker(x + 8, y - 4, letter)]
+
+
+def _both_bounds(x, y):
+    return [svg.rect(x + 2, y - 11, 44, 14, BAND), _bracket(x + 2, y - 4, 1, 7), _bracket(x + 46, y - 4, -1, 7)]
+
+
+def _one_bound(x, y):
+    return [svg.rect(x + 2, y - 11, 30, 14, BAND), _arrow(x + 32, y - 4, 1)]
+
+
+def _far_bound(x, y):
+    return [svg.rect(x + 2, y - 11, 24, 14, BAND), _arrow(x + 26, y - 4, 1, filled=True)]
+
+
+def _listed_row(x, y):
+    return [svg.rect(x, y - 12, 22, 16, PALE_RED), svg.rect(x, y - 12, 4, 16, RED)]
 
 
 def flowed(entries, y):
@@ -193,9 +205,10 @@ def marker(x, y, letter, size=6.0, lower=(-1, 0)):
     if letter == "S":
         corners = [(0, -size), (size, 0), (0, size), (-size, 0)]
         return _polygon(x, y, corners, "#FFFFFF", colour, 2)
-    along = 1 if letter == "L" else -1
-    (dx, dy), tip, half = lower, size * 1.33 * along, size * 1.33
-    corners = [(dx * tip, dy * tip), (-dx * tip * 0.6 - dy * half, -dy * tip * 0.6 - dx * half), (-dx * tip * 0.6 + dy * half, -dy * tip * 0.6 + dx * half)]
+    (dx, dy), half = lower, size * 1.33
+    tip = half if letter == "L" else -half
+    back_x, back_y = -0.6 * dx * tip, -0.6 * dy * tip
+    corners = [(dx * tip, dy * tip), (back_x - dy * half, back_y - dx * half), (back_x + dy * half, back_y + dx * half)]
     return _polygon(x, y, corners, colour, "#FFFFFF", 1.5)
 
 

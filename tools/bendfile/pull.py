@@ -8,11 +8,11 @@ from .problem import BadInput, Labels
 
 @dataclass
 class Pull:
-    """A pull's steps, oldest first. `places` is where each lies in the chained file; None where the file is a single bend file."""
+    """A pull's steps, oldest first, and how many bytes each has. `whole` is false of one bend file that stands alone."""
 
     problems: list
-    size: int
-    places: list = None
+    sizes: list
+    whole: bool = True
 
     def titles(self):
         return [problem.labels.title for problem in self.problems]
@@ -42,7 +42,7 @@ def read_chain(data):
     for problem, place in zip(problems, places):
         problem.before = data[place.linked : place.numbers - chain.LINK]
         problem.labels = binary.read_labels(problem.before, problem.rows, len(problem.motion)) or Labels()
-    return Pull(problems, len(data), places)
+    return Pull(problems, [place.end - place.linked for place in places])
 
 
 def read(data):
@@ -52,7 +52,7 @@ def read(data):
     one step is a bend file too, and is read as one.
     """
     try:
-        return Pull([binary.decode(data)], len(data))
+        return Pull([binary.decode(data)], [len(data)], whole=False)
     except BadInput as wrong:
         alone = str(wrong)
     try:
@@ -61,3 +61,10 @@ def read(data):
         chained = str(wrong)
     # Mark, sizes and count of the newest step are those of a single file; to tell them twice would help nobody.
     raise BadInput(alone if chained == f"the newest step: {alone}" else f"{alone}; as a pull: {chained}")
+
+
+def together(pulls):
+    """Several files of one pull, in their order."""
+    if len(pulls) == 1:
+        return pulls[0]
+    return Pull([p for one in pulls for p in one.problems], [size for one in pulls for size in one.sizes])

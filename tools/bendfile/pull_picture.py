@@ -157,7 +157,10 @@ def _words(pull, answers, rows, unit):
         return ["no load"]
     largest, load = max(loads, key=lambda pair: abs(numbers.to_float(pair[1])))
     words = [f"{numbers.short(load)} {unit}".strip()]
-    words.append(f"largest, at step {largest}" if any(other != load for _, other in loads) else "at every step")
+    if any(other != load for _, other in loads):
+        words.append(f"largest, at step {largest}")
+    else:
+        words.append("at every step" if len(loads) == len(answers) else f"at steps {spans([i for i, _ in loads])}")
     for letter, side in (("L", "lower"), ("H", "upper")):
         at = [i for i, p, a, row in steps if states.mark(a, p, row) == letter]
         if at:

@@ -1,21 +1,24 @@
 """Tables of a whole pull: its steps, and how the loads go over them."""
 
-from . import numbers, states, tables
+from . import input_warnings, numbers, states, tables
 from .states import usable
 from .tables import counted, headline, table, unit
 
 COLUMNS = 8
 
 
-def show(pull, text=numbers.short):
+def show(pull, text=numbers.short, highlight=str):
     """The steps of a pull, and the free motion of each row over them."""
-    out = [f"A pull of {counted(len(pull.problems), 'step')}, {pull.size} bytes\n\n"]
-    header = ["step", "<title", "rows", "coordinates", "free bytes", "ends at byte"]
-    places = zip(pull.problems, pull.places, pull.titles())
-    lines = [[str(p.rows), str(len(p.motion)), str(at.free), str(at.end)] for p, at, _ in places]
-    out.append(table(header, [[str(i), title or "-", *line] for i, (title, line) in enumerate(zip(pull.titles(), lines), 1)]))
+    out = [f"A pull of {counted(len(pull.problems), 'step')}, {sum(pull.sizes)} bytes\n\n"]
+    header, lines = ["step", "<title", "rows", "coordinates", "bytes", "free bytes"], []
+    for i, (problem, size) in enumerate(zip(pull.problems, pull.sizes), 1):
+        counts = (problem.rows, len(problem.motion), size, len(problem.before))
+        lines.append([str(i), problem.labels.title or "-", *map(str, counts)])
+    out.append(table(header, lines))
     out.append(f"\n{unit('free motion', pull.unit('motion_unit'))} of each row over the pull\n")
     out.append(_over(pull, lambda step, row: text(pull.problems[step].free_motion[row])))
+    for i, problem in enumerate(pull.problems, 1):
+        out.extend(f"\n{highlight(f'Step {i}: input, {doubt}.')}\n" for doubt in input_warnings.of_input(problem))
     return "".join(out)
 
 

@@ -15,7 +15,13 @@ NOTHING = 1e-9
 MEANINGS = {
     "contact": {"I": "closed, pushes", "Lu": "open", "Ls": "just touches"},
     "friction": {"I": "holds still", "Lu": "slides up", "Hd": "slides down", "Ls": "still, at its limit", "Hs": "still, at its limit"},
-    "custom": {"I": "between its bounds", "Lu": "on its lower bound", "Ls": "on its lower bound", "Hd": "on its upper bound", "Hs": "on its upper bound"},
+    "custom": {
+        "I": "between its bounds",
+        "Lu": "on its lower bound",
+        "Ls": "on its lower bound",
+        "Hd": "on its upper bound",
+        "Hs": "on its upper bound",
+    },
 }
 # Where both bounds are one, the state is AtLo whichever way the row moves.
 BOTH = {"u": "slides up", "d": "slides down", "s": "still"}

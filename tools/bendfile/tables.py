@@ -34,7 +34,7 @@ def unit(text, of):
     return f"{text} ({of})" if of else text
 
 
-def show(problem, size, text=numbers.short):
+def show(problem, size, text=numbers.short, highlight=str):
     """A bend file as tables."""
     labels = problem.labels
     out = [f"{labels.title}\n" if labels.title else ""]
@@ -53,7 +53,7 @@ def show(problem, size, text=numbers.short):
     out.append(f"\n{unit('motion', per)}: motion of the line's coordinate for a load of 1 on the column's row\n")
     out.append(_blocks(coordinates, problem.motion, text))
     out.append(f"\n{unit('tolerance', labels.motion_unit)} {text(problem.tolerance)}\n")
-    out.extend(f"\nInput, {doubt}.\n" for doubt in input_warnings.of_input(problem))
+    out.extend(f"\n{highlight(f'Input, {doubt}.')}\n" for doubt in input_warnings.of_input(problem))
     return "".join(out)
 
 
@@ -81,7 +81,7 @@ def headline(answer, problem=None):
         return f"{ended}, but {counted(len(states.missing(answer)), 'row')} without a load: do not use"
     if not answer.converged:
         return f"{ended}: do not use"
-    doubtful = answer.idle or (problem is not None and input_warnings.serious(problem))
+    doubtful = answer.idle or _far(answer) or (problem is not None and input_warnings.serious(problem))
     return f"{ended}, but see the notes below" if doubtful else ended
 
 
@@ -140,10 +140,10 @@ def notes(answer, problem=None):
 def _of_infeasible(answer, problem):
     who = ", ".join(problem.name(i) if problem is not None else f"row {i}" for i in answer.fights)
     if answer.cause == "growth":
-        why = "Either no position of the shaft meets every row, or a scale is too small for the loads of this rig."
+        why = "That may be because no position of the shaft meets every row, or because a scale is too small for the loads of this rig."
         told = f"Rows whose load grew past a million times its scale: {who}. {why}"
     elif problem is not None and not input_warnings.of_input(problem):
-        told = f"Rows that fight: {who}. No position of the shaft meets every row."
+        told = f"Rows that fight: {who}. No position of a shaft with this matrix meets every row."
     else:
         told = f"Rows that fight: {who}."
     return [told, "The loads and states are where the solver stopped; they are not loads of the rig."]
@@ -156,12 +156,19 @@ def _of_solved(answer, problem):
         found.append(f"No load was found for {who}: {_why_missing(problem)}. The residual does not count such rows. Do not use this answer.")
     if not answer.converged:
         found.append("The sweeps ended at their cap before the loads settled. Do not use this answer.")
-    if numbers.to_float(answer.residual) > 1e-9:
+    if _far(answer):
         found.append("The residual is above 1e-9: some row is off by more than a part in a thousand million of its scale.")
     return found
+
+
+def _far(answer):
+    """Whether the worst row is off by more than the solver takes for nothing."""
+    return numbers.to_float(answer.residual) > states.NOTHING
 
 
 def _why_missing(problem):
     if problem is None:
         return "a number behind it is NaN or went out of range"
-    return "the input has the doubtful numbers named below" if input_warnings.serious(problem) else "a sum went out of range, though every number of the input is finite"
+    if input_warnings.serious(problem):
+        return "the input has the doubtful numbers named below"
+    return "a sum went out of range, though every number of the input is finite"
