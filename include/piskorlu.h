@@ -68,11 +68,13 @@ extern "C" {
 /* A call was taken. */
 #define PISKORLU_ACCEPTED 0u
 
-/* Bend file: under 16 or over 65,536 bytes. */
+/* Bend file: under 16 or over 65,536 bytes. Chained: under 16 or over 1,048,576,
+ * or a link of 1 to 15. */
 #define PISKORLU_REFUSED_FILE_SIZE 1u
-/* Bend file: its last four bytes are not the mark 42 45 4E 44. */
+/* Bend file: its last four bytes, or a step's, are not the mark 42 45 4E 44. */
 #define PISKORLU_REFUSED_FILE_MARK 2u
-/* Bend file: more than PISKORLU_MOST rows or PISKORLU_MOST_MOTION motion values. */
+/* Bend file: more than PISKORLU_MOST rows or PISKORLU_MOST_MOTION motion values;
+ * in a step to write, more than 65,535 coordinates too. */
 #define PISKORLU_REFUSED_FILE_LIMITS 3u
 /* Bend file: its count does not fit rows and coords, or its length the count. */
 #define PISKORLU_REFUSED_FILE_COUNT 4u
@@ -99,15 +101,6 @@ extern "C" {
 /* Joins: a count's sum above 4,294,967,295, or a buffer too short. */
 #define PISKORLU_REFUSED_JOIN 13u
 
-/* Chained bend files: fewer than 16 bytes or more than 1 MiB, or a link of 1 to 15. */
-#define PISKORLU_REFUSED_FILE_SIZE 1u
-/* Chained bend files: a step's mark is wrong. */
-#define PISKORLU_REFUSED_FILE_MARK 2u
-/* Chained bend files: a step's rows or coordinates are too many. */
-#define PISKORLU_REFUSED_FILE_LIMITS 3u
-/* Chained bend files: a step's count does not fit its rows and coordinates, or
- * its start and count do not fit its length. */
-#define PISKORLU_REFUSED_FILE_COUNT 4u
 /* Chained bend files: no link before a step's numbers, or one above its own offset. */
 #define PISKORLU_REFUSED_LINK 14u
 /* Chained bend files: more than PISKORLU_MOST_STEPS steps, or none to write. */
@@ -305,7 +298,7 @@ static inline const char *piskorlu_number_in_words(uint32_t number)
     case PISKORLU_ACCEPTED:
         return "accepted";
     case PISKORLU_REFUSED_FILE_SIZE:
-        return "bend file: under 16 or over 65,536 bytes";
+        return "bend file: too few or too many bytes, or a link of 1 to 15";
     case PISKORLU_REFUSED_FILE_MARK:
         return "bend file: its last four bytes are not the mark";
     case PISKORLU_REFUSED_FILE_LIMITS:
@@ -323,13 +316,21 @@ static inline const char *piskorlu_number_in_words(uint32_t number)
     case PISKORLU_REFUSED_MOTION:
         return "solve: motion is no whole number of rows";
     case PISKORLU_REFUSED_SHORT:
-        return "solve: workspace, states, rows, counts or residual too short";
+        return "a buffer that was lent is too short";
     case PISKORLU_REFUSED_TALLY:
         return "tallied solve: the tally might not hold one solve more";
     case PISKORLU_REFUSED_LEAST_NORM:
         return "least norm: lengths that do not agree, or too large or too small";
     case PISKORLU_REFUSED_JOIN:
         return "joins: a count's sum too large, or a buffer too short";
+    case PISKORLU_REFUSED_LINK:
+        return "chained bend file: no link before a step's numbers, or one too high";
+    case PISKORLU_REFUSED_STEPS:
+        return "chained bend file: more than 40 steps, or none to write";
+    case PISKORLU_REFUSED_NOT_FINITE:
+        return "exact sum: a value that is NaN or infinite";
+    case PISKORLU_REFUSED_EXACT_FULL:
+        return "exact sum: more than 32 products, or a second free motion";
     default:
         return "not a number of this library";
     }

@@ -45,7 +45,7 @@ SOLVE_COUNTS = 7
 BEND_ROOM = 2048
 
 NUMBERS = {
-    1: "bend file: under 16 or over 65,536 bytes",
+    1: "bend file: too few or too many bytes, or a link of 1 to 15",
     2: "bend file: its last four bytes are not the mark",
     3: "bend file: more than 32 rows or 2,048 motion values",
     4: "bend file: count or length does not fit",
@@ -54,10 +54,14 @@ NUMBERS = {
     7: "solve: lo, hi, scale or nu has not one value for each row",
     8: "solve: a scale that is not finite and above 0",
     9: "solve: motion is no whole number of rows",
-    10: "solve: workspace, states, rows, counts or residual too short",
+    10: "a buffer that was lent is too short",
     11: "tallied solve: the tally might not hold one solve more",
     12: "least norm: lengths that do not agree, or too large or too small",
     13: "joins: a count's sum too large, or a buffer too short",
+    14: "chained bend file: no link before a step's numbers, or one too high",
+    15: "chained bend file: more than 40 steps, or none to write",
+    17: "exact sum: a value that is NaN or infinite",
+    18: "exact sum: more than 32 products, or a second free motion",
 }
 
 

@@ -69,7 +69,7 @@ impl fmt::Display for Refusal {
             Refusal::Unequal => "solve: lo, hi, scale or nu has not one value for each row",
             Refusal::Scale => "solve: a scale that is not finite and above 0",
             Refusal::Motion => "solve: motion is no whole number of rows",
-            Refusal::Short => "solve: workspace, states, rows, counts or residual too short",
+            Refusal::Short => "a buffer that was lent is too short",
             Refusal::Tally => "tallied solve: the tally might not hold one solve more",
             Refusal::LeastNorm => {
                 "least norm: lengths that do not agree, or too large or too small"
