@@ -1,6 +1,7 @@
 //! The port, through its Rust binding (bindings/rust), which declares the C
-//! interface and has the unsafe code: slices in, a number out. A call that the
-//! static library lacks is `None`.
+//! interface and has the unsafe code: slices in, a number out. The calls of
+//! chained bend files and exact sums, which the binding does not have, are
+//! declared here. A call that the static library lacks is `None`.
 
 pub use piskorlu::calls::{Lent, Report, Tally};
 
@@ -153,7 +154,7 @@ extern "C" {
 
 #[cfg(port_chain)]
 fn chain_steps(file: &[u8], steps: &mut [usize], ends: &mut [usize]) -> u32 {
-    // SAFETY: as for least_norm.
+    // SAFETY: each pointer goes with the length of its own slice.
     unsafe {
         piskorlu_chain(
             file.as_ptr(),
@@ -168,7 +169,7 @@ fn chain_steps(file: &[u8], steps: &mut [usize], ends: &mut [usize]) -> u32 {
 
 #[cfg(port_chain)]
 fn chain_step(file: &[u8], step: usize, lent: StepLent) -> u32 {
-    // SAFETY: as for least_norm.
+    // SAFETY: each pointer goes with the length of its own slice.
     unsafe {
         piskorlu_chain_step(
             file.as_ptr(),
@@ -223,7 +224,7 @@ fn chain_write(
     out: &mut [u8],
     written: &mut [usize],
 ) -> u32 {
-    // SAFETY: as for least_norm.
+    // SAFETY: each pointer goes with the length of its own slice.
     unsafe {
         piskorlu_chain_write(
             rows.as_ptr(),
@@ -333,7 +334,7 @@ extern "C" {
 
 #[cfg(port_exact)]
 fn exact_free(u: f64, words: &mut [u64], counts: &mut [u32]) -> u32 {
-    // SAFETY: as for least_norm.
+    // SAFETY: each pointer goes with the length of its own slice.
     unsafe {
         piskorlu_exact_free(
             u,
@@ -347,7 +348,7 @@ fn exact_free(u: f64, words: &mut [u64], counts: &mut [u32]) -> u32 {
 
 #[cfg(port_exact)]
 fn exact_product(w: f64, nu: f64, words: &mut [u64], counts: &mut [u32]) -> u32 {
-    // SAFETY: as for least_norm.
+    // SAFETY: each pointer goes with the length of its own slice.
     unsafe {
         piskorlu_exact_product(
             w,
@@ -362,7 +363,7 @@ fn exact_product(w: f64, nu: f64, words: &mut [u64], counts: &mut [u32]) -> u32 
 
 #[cfg(port_exact)]
 fn exact_row(u: f64, w: &[f64], nu: &[f64], words: &mut [u64], counts: &mut [u32]) -> u32 {
-    // SAFETY: as for least_norm.
+    // SAFETY: each pointer goes with the length of its own slice.
     unsafe {
         piskorlu_exact_row(
             u,
@@ -380,13 +381,13 @@ fn exact_row(u: f64, w: &[f64], nu: &[f64], words: &mut [u64], counts: &mut [u32
 
 #[cfg(port_exact)]
 fn exact_sign(words: &[u64], sign: &mut [i8]) -> u32 {
-    // SAFETY: as for least_norm.
+    // SAFETY: each pointer goes with the length of its own slice.
     unsafe { piskorlu_exact_sign(words.as_ptr(), words.len(), sign.as_mut_ptr(), sign.len()) }
 }
 
 #[cfg(port_exact_nearest)]
 fn exact_nearest(words: &[u64], result: &mut [f64]) -> u32 {
-    // SAFETY: as for least_norm.
+    // SAFETY: each pointer goes with the length of its own slice.
     unsafe {
         piskorlu_exact_nearest(
             words.as_ptr(),
