@@ -6,3 +6,4 @@ pub mod Signs
 pub mod Tops
 pub mod Calls
 pub mod Exact
+pub mod Together

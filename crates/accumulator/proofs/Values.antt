@@ -47,6 +47,20 @@ word-added l i x w k h e = rw (one-more base i) (carried base (value (set l i w)
 pub word-taken : (l : List ℕ) (i x w k : ℕ) → i < length l → getD l i 0 + base * k ≡ w + x → value l + k * base ^ (i + 1) ≡ value (set l i w) + x * base ^ i
 word-taken l i x w k h e = rw (one-more base i) (carried base (value l) (value (set l i w)) w (getD l i 0) x k (base ^ i) (sym (stored base l i w h)) e)
 
+-- ---- two words and a carry c added in two steps, over any base b: the steps' carries k and l make one
+
+pub steps-sum : (b x y c u k w l : ℕ) → u + b * k ≡ x + y → w + b * l ≡ u + c → w + b * (k + l) ≡ x + (y + c)
+steps-sum b x y c u k w l h g = omega (arith, h, g)
+
+pub steps-carry : (b x y c u k w l : ℕ) → u + b * k ≡ x + y → w + b * l ≡ u + c → x < b → y < b → c < 2 → k < 2 → l < 2 → k + l < 2
+steps-carry b x y c u zero w l h g xb yb cs ks ls = omega (arith, ls)
+steps-carry b x y c u (suc k) w zero h g xb yb cs ks ls = omega (arith, ks)
+steps-carry b x y c u (suc k) w (suc l) h g xb yb cs ks ls =
+    absurd (omega (arith, steps-sum b x y c u (suc k) w (suc l) h g, xb, yb, cs))
+
+pub carries-fit : (k l : ℕ) → k < 2 → l < 2 → k + l < base
+carries-fit k l h g = omega (arith, h, g)
+
 -- ---- a carry handed on: the number and a power of the base are s all along
 
 pub size-is : size ≡ base ^ 67

@@ -3,6 +3,7 @@
 ghost use mathlib.Core.Path.{_≡_};
 ghost use Rattle.accumulator.specs.Accumulators as def;
 
+mod joining;
 mod rows;
 mod sign;
 mod term;

@@ -11,25 +11,27 @@ struct Word {
     carry: u64,
 }
 
-// a + b + c.
+// a + b. A sum that wrapped is below both.
+fn add_two(a: u64, b: u64) -> Word
+    ensures { λ r. ⌜ (r .word + def.base * r .carry ≡ a + b) × (r .carry < 2) ⌝ }
+{
+    let word = std::num::wrapping_add_u64(a, b);
+    if word < a {
+        return Word { word, carry: 1 };
+    }
+    Word { word, carry: 0 }
+}
+
+// a + b + c, with no branch on the words once compiled: they follow no pattern that a processor could foresee.
 fn add_carry(a: u64, b: u64, c: u64) -> Word
     requires { ⌜ c < 2 ⌝ }
     ensures { λ r. ⌜ (r .word + def.base * r .carry ≡ a + (b + c)) × (r .carry < 2) ⌝ }
 {
-    let room = 0xffff_ffff_ffff_ffff - b;
-    if a <= room {
-        let s = a + b;
-        if c <= room - a {
-            return Word {
-                word: s + c,
-                carry: 0,
-            };
-        }
-        return Word { word: 0, carry: 1 };
-    }
+    let s = add_two(a, b);
+    let t = add_two(s.word, c);
     Word {
-        word: a - room - 1 + c,
-        carry: 1,
+        word: t.word,
+        carry: s.carry + t.carry,
     }
 }
 
@@ -58,7 +60,7 @@ fn sub_borrow(a: u64, b: u64, c: u64) -> Word
 }
 
 // x and a carry added to the word at i; the carry out of it.
-fn add_word(words: &mut [u64], i: usize, x: u64, carry: u64) -> u64
+pub fn add_word(words: &mut [u64], i: usize, x: u64, carry: u64) -> u64
     requires { ⌜ (length (now words) ≡ 67) × (i < 67) × (carry < 2) ⌝ }
     ensures { λ r. ⌜
         (def.value (now (words .exit)) + r * def.base ^ (i + 1) ≡ def.value (now (words .entry)) + (x + carry) * def.base ^ i)

@@ -1,0 +1,3 @@
+pub mod Totals
+pub mod Words
+pub mod Orders
