@@ -60,7 +60,7 @@
 extern "C" {
 #endif
 
-#define PISKORLU_VERSION "1.0.0"
+#define PISKORLU_VERSION "1.1.0"
 
 /* The most stack of a call that has no number of its own. */
 #define PISKORLU_CALL_STACK 4096
@@ -114,7 +114,7 @@ extern "C" {
 
 /* Exact sums: a value that is NaN or infinite. */
 #define PISKORLU_REFUSED_NOT_FINITE 17u
-/* Exact sums: a product after 32, or a second free motion. */
+/* Exact sums: a product after 32, or a second free motion; joined ones, too. */
 #define PISKORLU_REFUSED_EXACT_FULL 18u
 
 /* The most rows of a problem; the most rows and columns of a least-norm system. */
@@ -493,6 +493,26 @@ uint32_t piskorlu_exact_row(double u,
  */
 uint32_t piskorlu_exact_sign(const uint64_t *words, size_t words_len,
                              int8_t *sign, size_t sign_len);
+
+/*
+ * The accumulator in other and other_counts is joined to the one in words and
+ * counts, which receive the total: the words add modulo 2^4288, the products
+ * add, and a free motion of either is the total's. Any order and grouping of
+ * the same terms, added or joined, gives the same words and counts, and so the
+ * same sign and the same nearest double.
+ *
+ * other      the other one's words, at least PISKORLU_EXACT_WORDS.
+ * other_counts
+ *            its counts, at least PISKORLU_EXACT_COUNTS.
+ *
+ * Returns PISKORLU_ACCEPTED; or PISKORLU_REFUSED_SHORT at once where any of the
+ * four is too short, else PISKORLU_REFUSED_EXACT_FULL where there would be more
+ * than 32 products or both hold a free motion, and then nothing is written.
+ */
+uint32_t piskorlu_exact_join(uint64_t *words, size_t words_len,
+                             uint32_t *counts, size_t counts_len,
+                             const uint64_t *other, size_t other_len,
+                             const uint32_t *other_counts, size_t other_counts_len);
 
 /* The fewest bytes of a buffer for piskorlu_bend. */
 #define PISKORLU_BEND_ROOM 2048

@@ -23,6 +23,7 @@ from enum import Enum, IntEnum
 __all__ = [
     "Answer",
     "Cause",
+    "ExactSum",
     "LeastNorm",
     "Refused",
     "Report",
@@ -36,13 +37,14 @@ __all__ = [
     "VERSION",
 ]
 
-VERSION = "1.0.0"
+VERSION = "1.1.0"
 
 MOST = 32
 SOLVE_WORKSPACE = 2304
 LEAST_NORM_WORKSPACE = 1056
 SOLVE_COUNTS = 7
 BEND_ROOM = 2048
+EXACT_WORDS = 67
 
 NUMBERS = {
     1: "bend file: too few or too many bytes, or a link of 1 to 15",
@@ -154,12 +156,16 @@ _DOUBLES = ctypes.POINTER(ctypes.c_double)
 _COUNTS = ctypes.POINTER(ctypes.c_uint32)
 _SIZES = ctypes.POINTER(ctypes.c_size_t)
 _BYTES = ctypes.POINTER(ctypes.c_uint8)
+_WORDS = ctypes.POINTER(ctypes.c_uint64)
+_SIGNS = ctypes.POINTER(ctypes.c_int8)
 _SIZE = ctypes.c_size_t
 _DOUBLE = ctypes.c_double
 
 _SOLVE = [_DOUBLES, _SIZE] * 6 + [_DOUBLE] + [_DOUBLES, _SIZE, _BYTES, _SIZE, _SIZES, _SIZE, _DOUBLES, _SIZE, _SIZES, _SIZE, _DOUBLES, _SIZE]
 _JOIN = [_COUNTS, _SIZE, _DOUBLE, _COUNTS, _SIZE, _DOUBLE, _COUNTS, _SIZE, _DOUBLES, _SIZE]
 _LEAST_NORM = [_DOUBLES, _SIZE, _SIZE, _SIZE, _DOUBLES, _SIZE, _DOUBLES, _SIZE, _DOUBLES, _SIZE, _COUNTS, _SIZE]
+
+_ACCUMULATOR = [_WORDS, _SIZE, _COUNTS, _SIZE]
 
 _CALLS = {
     "piskorlu_sqrt": ([_DOUBLE], _DOUBLE),
@@ -169,6 +175,12 @@ _CALLS = {
     "piskorlu_continued": (_JOIN, ctypes.c_uint32),
     "piskorlu_tallied": ([_COUNTS, _SIZE, _DOUBLES, _SIZE] + _SOLVE, ctypes.c_uint32),
     "piskorlu_bend": ([_BYTES, _SIZE, _BYTES, _SIZE], _SIZE),
+    "piskorlu_exact_free": ([_DOUBLE] + _ACCUMULATOR, ctypes.c_uint32),
+    "piskorlu_exact_product": ([_DOUBLE, _DOUBLE] + _ACCUMULATOR, ctypes.c_uint32),
+    "piskorlu_exact_row": ([_DOUBLE, _DOUBLES, _SIZE, _DOUBLES, _SIZE] + _ACCUMULATOR, ctypes.c_uint32),
+    "piskorlu_exact_join": (_ACCUMULATOR + _ACCUMULATOR, ctypes.c_uint32),
+    "piskorlu_exact_sign": ([_WORDS, _SIZE, _SIGNS, _SIZE], ctypes.c_uint32),
+    "piskorlu_exact_nearest": ([_WORDS, _SIZE, _DOUBLES, _SIZE], ctypes.c_uint32),
 }
 
 _loaded = None
@@ -311,6 +323,87 @@ def _joined(call, a, b):
     if number:
         raise Refused(number)
     return _read(counts, residual[0])
+
+
+# ---- row sums without rounding
+
+
+class ExactSum:
+    """A free motion and up to 32 products W_ij * nu_j, added without rounding. Any order and grouping of the same terms, added or joined,
+    gives the same sum. What is refused changes nothing."""
+
+    def __init__(self):
+        self._words, self._counts = (ctypes.c_uint64 * EXACT_WORDS)(), (ctypes.c_uint32 * 2)()
+
+    def _add(self, call, *given):
+        number = call(*given, *_lent(self._words, self._counts))
+        if number:
+            raise Refused(number)
+
+    @classmethod
+    def row(cls, u, w, nu):
+        """A whole row: u, and the products of w and nu over the shorter of the two."""
+        self = cls()
+        self._add(_library().piskorlu_exact_row, u, *_lent(_doubles(w), _doubles(nu)))
+        return self
+
+    def add_free(self, u):
+        """Adds a free motion."""
+        self._add(_library().piskorlu_exact_free, u)
+
+    def add_product(self, w, nu):
+        """Adds a product."""
+        self._add(_library().piskorlu_exact_product, w, nu)
+
+    def copy(self):
+        """The same sum, with words of its own."""
+        other = ExactSum()
+        other._words[:], other._counts[:] = self._words[:], self._counts[:]
+        return other
+
+    def join(self, other):
+        """Joins another sum to this one, which receives the total."""
+        if other is self:
+            other = self.copy()  # the library's buffers may not overlap
+        number = _library().piskorlu_exact_join(*_lent(self._words, self._counts, other._words, other._counts))
+        if number:
+            raise Refused(number)
+
+    @property
+    def sign(self):
+        """The sign of the sum: -1, 0 or 1."""
+        sign = (ctypes.c_int8 * 1)()
+        _library().piskorlu_exact_sign(*_lent(self._words, sign))
+        return sign[0]
+
+    @property
+    def nearest(self):
+        """The float nearest to the sum."""
+        result = (ctypes.c_double * 1)()
+        _library().piskorlu_exact_nearest(*_lent(self._words, result))
+        return result[0]
+
+    @property
+    def words(self):
+        """The sum in units of 2^-2148, two's complement, the lowest word first."""
+        return list(self._words)
+
+    @property
+    def products(self):
+        """How many products it holds."""
+        return self._counts[0]
+
+    @property
+    def has_free(self):
+        """Whether it holds a free motion."""
+        return self._counts[1] != 0
+
+    def __eq__(self, other):
+        if not isinstance(other, ExactSum):
+            return NotImplemented
+        return (self.words, self.products, self.has_free) == (other.words, other.products, other.has_free)
+
+    __hash__ = None
 
 
 def environment_ok():

@@ -25,7 +25,7 @@ ARCHIVE = os.environ.get("PISKORLU_STATICLIB", os.path.join(ROOT, "target", "sta
 sys.dont_write_bytecode = True
 sys.path.insert(0, HERE)
 import piskorlu  # noqa: E402
-from piskorlu import Cause, Refused, Report, State, bend, least_norm, solve, sqrt, tallied  # noqa: E402
+from piskorlu import Cause, ExactSum, Refused, Report, State, bend, least_norm, solve, sqrt, tallied  # noqa: E402
 
 INF, NAN = math.inf, math.nan
 
@@ -158,6 +158,17 @@ class Refusals(unittest.TestCase):
         self.refused(13, Report().both, Report(sweeps=-1))
         self.assertEqual(bend(b""), b"refused 1\n")
 
+    def test_exact_sums(self):
+        full = ExactSum.row(0.0, [0.1] * 32, [0.1] * 32)
+        kept = full.copy()
+        self.refused(18, full.add_product, 1.0, 1.0)
+        self.refused(18, full.add_free, NAN)
+        self.refused(18, full.join, ExactSum.row(0.0, [], []))
+        self.refused(18, full.join, full)
+        self.refused(18, ExactSum.row, 0.0, [0.0] * 33, [0.0] * 33)
+        self.assertEqual(full, kept)
+        self.refused(17, ExactSum().add_product, INF, 0.0)
+
     def test_words_are_the_headers(self):
         with open(os.path.join(ROOT, "include", "piskorlu.h"), encoding="utf-8") as file:
             header = file.read()
@@ -196,6 +207,20 @@ class Others(unittest.TestCase):
             answer, day = tallied(day, [2], [-4], [0], [INF], [1])
             self.assertEqual(answer.nu, [2.0])
         self.assertEqual(day, Report(increments=3, sweeps=3, exact_passes=3))
+
+    def test_exact_sums(self):
+        third = 1 / 3
+        whole = ExactSum.row(-1, [3], [third])
+        self.assertEqual((3 * third - 1, whole.sign, whole.nearest), (0.0, -1, -(2.0**-54)))
+        self.assertEqual((whole.products, whole.has_free, whole.words[32]), (1, True, 0xFFFFC00000000000))
+        first, second = ExactSum(), ExactSum()
+        first.add_free(-1)
+        second.add_product(3, third)
+        for total, other in ((first.copy(), second), (second.copy(), first)):
+            total.join(other)
+            self.assertEqual(total, whole)
+        second.join(second)
+        self.assertEqual((second.nearest, second.products, second.has_free), (2.0, 2, False))
 
     def test_version(self):
         with open(os.path.join(ROOT, "include", "piskorlu.h"), encoding="utf-8") as file:

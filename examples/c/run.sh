@@ -3,7 +3,7 @@
 set -eu
 cd "$(dirname "$0")/../.."
 [ -f target/staticlib/libcapi.a ] || rt staticlib capi
-for name in least_norm solve chain exact; do
+for name in least_norm solve chain exact join; do
     cc -std=c99 -Wall -Wextra -Werror -I include "examples/c/$name.c" target/staticlib/libcapi.a -o "target/$name"
     "target/$name" | tee "target/$name.txt"
     diff "examples/c/$name.txt" "target/$name.txt"

@@ -162,6 +162,102 @@ pub fn bend(file: &[u8], out: &mut [u8]) -> usize {
     unsafe { c::piskorlu_bend(file.as_ptr(), file.len(), out.as_mut_ptr(), out.len()) }
 }
 
+/// piskorlu_exact_free: a free motion added to an accumulator's words and counts.
+#[inline]
+pub fn exact_free(u: f64, words: &mut [u64], counts: &mut [u32]) -> u32 {
+    // SAFETY: see the head of the module.
+    unsafe {
+        c::piskorlu_exact_free(
+            u,
+            words.as_mut_ptr(),
+            words.len(),
+            counts.as_mut_ptr(),
+            counts.len(),
+        )
+    }
+}
+
+/// piskorlu_exact_product: a product added likewise.
+#[inline]
+pub fn exact_product(w: f64, nu: f64, words: &mut [u64], counts: &mut [u32]) -> u32 {
+    // SAFETY: see the head of the module.
+    unsafe {
+        c::piskorlu_exact_product(
+            w,
+            nu,
+            words.as_mut_ptr(),
+            words.len(),
+            counts.as_mut_ptr(),
+            counts.len(),
+        )
+    }
+}
+
+/// piskorlu_exact_row: free motion, row of W and multipliers into words and
+/// counts.
+#[inline]
+pub fn exact_row(u: f64, w: &[f64], nu: &[f64], words: &mut [u64], counts: &mut [u32]) -> u32 {
+    // SAFETY: see the head of the module.
+    unsafe {
+        c::piskorlu_exact_row(
+            u,
+            w.as_ptr(),
+            w.len(),
+            nu.as_ptr(),
+            nu.len(),
+            words.as_mut_ptr(),
+            words.len(),
+            counts.as_mut_ptr(),
+            counts.len(),
+        )
+    }
+}
+
+/// piskorlu_exact_join: the second accumulator joined to the first, which
+/// receives the total.
+#[inline]
+pub fn exact_join(
+    words: &mut [u64],
+    counts: &mut [u32],
+    other: &[u64],
+    other_counts: &[u32],
+) -> u32 {
+    // SAFETY: see the head of the module.
+    unsafe {
+        c::piskorlu_exact_join(
+            words.as_mut_ptr(),
+            words.len(),
+            counts.as_mut_ptr(),
+            counts.len(),
+            other.as_ptr(),
+            other.len(),
+            other_counts.as_ptr(),
+            other_counts.len(),
+        )
+    }
+}
+
+/// piskorlu_exact_sign: the sign of the sum that the words hold.
+#[inline]
+pub fn exact_sign(words: &[u64], sign: &mut [i8]) -> u32 {
+    // SAFETY: see the head of the module.
+    unsafe { c::piskorlu_exact_sign(words.as_ptr(), words.len(), sign.as_mut_ptr(), sign.len()) }
+}
+
+/// piskorlu_exact_nearest: the f64 nearest to it.
+#[inline]
+pub fn exact_nearest(words: &[u64], result: &mut [f64]) -> u32 {
+    // SAFETY: see the head of the module.
+    unsafe {
+        c::piskorlu_exact_nearest(
+            words.as_ptr(),
+            words.len(),
+            result.as_mut_ptr(),
+            result.len(),
+        )
+    }
+}
+
 /// The declarations of include/piskorlu.h.
 mod c {
     /// The solve and the tallied solve differ in what comes first.
@@ -250,5 +346,59 @@ mod c {
             out: *mut u8,
             out_len: usize,
         ) -> usize;
+
+        pub fn piskorlu_exact_free(
+            u: f64,
+            words: *mut u64,
+            words_len: usize,
+            counts: *mut u32,
+            counts_len: usize,
+        ) -> u32;
+
+        pub fn piskorlu_exact_product(
+            w: f64,
+            nu: f64,
+            words: *mut u64,
+            words_len: usize,
+            counts: *mut u32,
+            counts_len: usize,
+        ) -> u32;
+
+        pub fn piskorlu_exact_row(
+            u: f64,
+            w: *const f64,
+            w_len: usize,
+            nu: *const f64,
+            nu_len: usize,
+            words: *mut u64,
+            words_len: usize,
+            counts: *mut u32,
+            counts_len: usize,
+        ) -> u32;
+
+        pub fn piskorlu_exact_join(
+            words: *mut u64,
+            words_len: usize,
+            counts: *mut u32,
+            counts_len: usize,
+            other: *const u64,
+            other_len: usize,
+            other_counts: *const u32,
+            other_counts_len: usize,
+        ) -> u32;
+
+        pub fn piskorlu_exact_sign(
+            words: *const u64,
+            words_len: usize,
+            sign: *mut i8,
+            sign_len: usize,
+        ) -> u32;
+
+        pub fn piskorlu_exact_nearest(
+            words: *const u64,
+            words_len: usize,
+            result: *mut f64,
+            result_len: usize,
+        ) -> u32;
     }
 }

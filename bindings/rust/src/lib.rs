@@ -27,9 +27,11 @@
 compile_error!("libpiskorlu.a is for x86-64 alone");
 
 pub mod calls;
+mod exact;
 mod refusal;
 mod report;
 
+pub use exact::{ExactSum, EXACT_WORDS};
 pub use refusal::Refusal;
 pub use report::{BoxReport, SolveReport};
 

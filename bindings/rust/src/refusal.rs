@@ -24,6 +24,10 @@ pub enum Refusal {
     LeastNorm,
     /// 13: a count's sum above 4,294,967,295.
     Join,
+    /// 17: exact sums: a value that is NaN or infinite.
+    NotFinite,
+    /// 18: exact sums: more than 32 products, or a second free motion.
+    ExactFull,
     /// A number that this version does not know.
     Other(u32),
 }
@@ -40,6 +44,8 @@ impl Refusal {
             11 => Refusal::Tally,
             12 => Refusal::LeastNorm,
             13 => Refusal::Join,
+            17 => Refusal::NotFinite,
+            18 => Refusal::ExactFull,
             other => Refusal::Other(other),
         }
     }
@@ -56,6 +62,8 @@ impl Refusal {
             Refusal::Tally => 11,
             Refusal::LeastNorm => 12,
             Refusal::Join => 13,
+            Refusal::NotFinite => 17,
+            Refusal::ExactFull => 18,
             Refusal::Other(number) => number,
         }
     }
@@ -75,6 +83,8 @@ impl fmt::Display for Refusal {
                 "least norm: lengths that do not agree, or too large or too small"
             }
             Refusal::Join => "joins: a count's sum too large, or a buffer too short",
+            Refusal::NotFinite => "exact sum: a value that is NaN or infinite",
+            Refusal::ExactFull => "exact sum: more than 32 products, or a second free motion",
             Refusal::Other(_) => "not a number of this library",
         };
         write!(out, "refused {}: {words}", self.number())

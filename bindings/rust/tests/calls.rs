@@ -160,8 +160,10 @@ fn numbers_and_words() {
         Refusal::Tally,
         Refusal::LeastNorm,
         Refusal::Join,
+        Refusal::NotFinite,
+        Refusal::ExactFull,
     ];
-    for (refusal, number) in all.into_iter().zip(5..) {
+    for (refusal, number) in all.into_iter().zip((5..14).chain(17..)) {
         assert_eq!(refusal.number(), number);
         assert!(refusal
             .to_string()

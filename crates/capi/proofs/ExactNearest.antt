@@ -1,26 +1,15 @@
--- The exported call for the f64 nearest to an exact row sum: its words copied, and its answers. Assumes nothing.
-use Prim.Native.Nat.{ℕ, _+_, _≤_, _<_}
-use mathlib.Core.Path.{_≡_, sym, ap, _∙_}
+-- The exported call for the f64 nearest to an exact row sum: its answers. Assumes nothing.
+use Prim.Native.Nat.{ℕ, _≤_, _<_}
+use mathlib.Core.Path.{_≡_, ap, _∙_}
 use mathlib.Core.Bool.{true, false}
 use mathlib.Core.List.{List}
-use native.Mathlib.Omega.{arith}
-use native.Mathlib.Numerals.{add-one}
 use lib.Dec.{leb}
-use lib.ListN.{length, getD, take, set}
-use lib.Seq.{take-suc, take-suc-set, take-all}
+use lib.ListN.{length, take, set}
 use borrow.Author.Tests.{le-leb, lt-leb}
 use lib.Ieee.{Float}
 use Rattle.accumulator.specs.Accumulators.{meaning}
 use Rattle.nearest.specs.ToNearest.{nearest}
 use Rattle.capi.specs.ExactNearest.{taken, Answered}
-
--- ---- a list whose front is copied, in the form in which `search` applies it
-
-pub copy-again : (a b : List ℕ) (i : ℕ) → i < length a → i < length b → take i a ≡ take i b → take (i + 1) (set a i (getD b i 0)) ≡ take (i + 1) b
-copy-again a b i h g e = rw (add-one, take-suc-set a i (getD b i 0) h, take-suc b i 0 g, e)
-
-pub copy-done : (a b : List ℕ) (i n : ℕ) → length a ≡ n → i ≤ n → n ≤ i → take i a ≡ take i b → a ≡ take n b
-copy-done a b i n l h g e = let q : i ≡ n = omega arith in sym (take-all n a (omega arith)) ∙ rw (← q) e
 
 -- ---- the answers
 

@@ -21,6 +21,10 @@ state words counts = record { words = take 67 words; products = getD counts 0 0;
 unfoldable pub taken : List ℕ → List ℕ → Bool
 taken words counts = leb 67 (length words) && leb 2 (length counts)
 
+-- two accumulators
+unfoldable pub bothTaken : List ℕ → List ℕ → List ℕ → List ℕ → Bool
+bothTaken words counts other others = taken words counts && taken other others
+
 abbrev pub reply : Bool → Added → Added
 reply true x = x
 reply false x = refused 10 (x .sum)

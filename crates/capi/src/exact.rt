@@ -4,6 +4,7 @@ ghost use Prim.Native.Nat.{_≤_};
 ghost use lib.ListN.{length, take};
 ghost use Rattle.loops.specs.Loops as loops;
 ghost use Rattle.accumulator.specs.Accumulators as exact;
+ghost use Rattle.accumulator.specs.Joins as joins;
 ghost use Rattle.capi.specs.Exact as def;
 use crate::reports;
 use accumulator::Accumulator;
@@ -29,6 +30,20 @@ fn sign_taken(words: &[u64], sign: &[i8]) -> bool
     1 <= sign.len()
 }
 
+// The first 67 words.
+pub fn first(words: &[u64]) -> [u64; 67]
+    requires { ⌜ 67 ≤ length (now words) ⌝ }
+    ensures { λ r. ⌜ r ≡ take 67 (now (words .entry)) ⌝ }
+{
+    let mut own = [0; 67];
+    let mut i = 0;
+    while i < 67 {
+        own[i] = words[i];
+        i += 1;
+    }
+    own
+}
+
 // All of `from` copied to the front of `to`.
 fn copy(from: &[u64], to: &mut [u64])
     requires { ⌜ length (now from) ≤ length (now to) ⌝ }
@@ -46,8 +61,7 @@ fn state(words: &[u64], counts: &[u32]) -> Accumulator
     requires { ⌜ (67 ≤ length (now words)) × (2 ≤ length (now counts)) ⌝ }
     ensures { λ r. ⌜ r ≡ def.state (now (words .entry)) (now (counts .entry)) ⌝ }
 {
-    let mut own = [0; 67];
-    copy(&words[..67], &mut own);
+    let own = first(words);
     Accumulator {
         words: own,
         products: counts[0],
@@ -138,8 +152,7 @@ pub extern "C" fn piskorlu_exact_sign(words: &[u64], sign: &mut [i8]) -> u32
         r (now (words .entry)) (now (sign .entry)) (now (sign .exit)) ⌝ }
 {
     if sign_taken(words, sign) {
-        let mut own = [0; 67];
-        copy(&words[..67], &mut own);
+        let own = first(words);
         let sum = Accumulator {
             words: own,
             products: 0,
@@ -147,6 +160,43 @@ pub extern "C" fn piskorlu_exact_sign(words: &[u64], sign: &mut [i8]) -> u32
         };
         sign[0] = sum.sign();
         return 0;
+    }
+    10
+}
+
+// Whether there is room in both accumulators.
+fn both_taken(words: &[u64], counts: &[u32], other: &[u64], other_counts: &[u32]) -> bool
+    ensures { λ r. ⌜
+        r ≡ def.bothTaken (now (words .entry)) (now (counts .entry)) (now (other .entry)) (now («other_counts» .entry)) ⌝ }
+{
+    if taken(words, counts) {
+        return taken(other, other_counts);
+    }
+    false
+}
+
+// The accumulator in `other` is joined to the one in words and counts, which receive the total: 0; or 10 or 18.
+#[no_mangle]
+pub extern "C" fn piskorlu_exact_join(
+    words: &mut [u64],
+    counts: &mut [u32],
+    other: &[u64],
+    other_counts: &[u32],
+) -> u32
+    ensures { λ r. ⌜
+        def.Left
+        (def.reply
+        (def.bothTaken (now (words .entry)) (now (counts .entry)) (now (other .entry)) (now («other_counts» .entry)))
+        (joins.join
+        (def.state (now (words .entry)) (now (counts .entry)))
+        (def.state (now (other .entry)) (now («other_counts» .entry)))))
+        r (now (words .entry)) (now (words .exit)) (now (counts .entry)) (now (counts .exit)) ⌝ }
+{
+    if both_taken(words, counts, other, other_counts) {
+        let more = state(other, other_counts);
+        let own = state(words, counts);
+        let total = own.join(more);
+        return leave(total, words, counts);
     }
     10
 }

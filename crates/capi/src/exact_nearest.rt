@@ -1,22 +1,7 @@
 // The f64 nearest to an exact row sum, by plain numbers.
 ghost use mathlib.Core.Path.{_≡_};
-ghost use Prim.Native.Nat.{_≤_};
-ghost use lib.ListN.{length, take};
 ghost use Rattle.capi.specs.ExactNearest as def;
-
-// The first 67 words.
-fn first(words: &[u64]) -> [u64; 67]
-    requires { ⌜ 67 ≤ length (now words) ⌝ }
-    ensures { λ r. ⌜ r ≡ take 67 (now (words .entry)) ⌝ }
-{
-    let mut sum = [0u64; 67];
-    let mut i = 0;
-    while i < 67 {
-        sum[i] = words[i];
-        i += 1;
-    }
-    sum
-}
+use crate::exact;
 
 // The f64 nearest to what the first 67 words mean: 0, and result[0] is the value; or 10 where a slice is too short, and nothing is written.
 #[no_mangle]
@@ -29,7 +14,7 @@ pub extern "C" fn piskorlu_exact_nearest(words: &[u64], result: &mut [f64]) -> u
     if result.len() < 1 {
         return 10;
     }
-    let sum = first(words);
+    let sum = exact::first(words);
     result[0] = nearest::nearest(&sum);
     0
 }

@@ -31,7 +31,7 @@ same-length-2 c = search needs
 
 returns : tie.Need-returns
 returns c =
-    free-left _ _ _ _ _ _
+    free-left _ _ _ _ _ _ _
     (sym (c .before .before .before .before .before .before .before .before .before .before .before .before .taken .ensures) ∙ c .before .before .before .before .before .before .before .before .before .before .before .if1 .taken)
     (c .before .before .before .before .leave .ensures) _ _
     (c .before .before .before .before .before .before .before .before .state .ensures)
@@ -44,7 +44,7 @@ same-length-4 : tie.Need-same-length-4
 same-length-4 c = search needs
 
 returns-2 : tie.Need-returns-2
-returns-2 c = left-short _ _ _ (sym (c .before .taken .ensures) ∙ c .if1 .left)
+returns-2 c = left-short _ _ _ _ (sym (c .before .taken .ensures) ∙ c .if1 .left)
 
 pub piskorlu-exact-free-spec : {M : Type 1} → statement M
 piskorlu-exact-free-spec =

@@ -26,7 +26,11 @@ same-length-2 : tie.Need-same-length-2
 same-length-2 c = search needs
 
 returns : tie.Need-returns
-returns c = row-left _ _ _ _ _ _ (sym (c .before .before .before .before .before .before .before .before .before .taken .ensures) ∙ c .before .before .before .before .before .before .before .before .if1 .taken) (c .before .before .before .before .leave .ensures) _ _ _ (c .before .before .before .before .before .before .before .row .ensures)
+returns c =
+    row-left _ _ _ _ _ _ _
+    (sym (c .before .before .before .before .before .before .before .before .before .taken .ensures) ∙ c .before .before .before .before .before .before .before .before .if1 .taken)
+    (c .before .before .before .before .leave .ensures) _ _ _
+    (c .before .before .before .before .before .before .before .row .ensures)
 
 same-length-3 : tie.Need-same-length-3
 same-length-3 c = search needs
@@ -35,7 +39,7 @@ same-length-4 : tie.Need-same-length-4
 same-length-4 c = search needs
 
 returns-2 : tie.Need-returns-2
-returns-2 c = left-short _ _ _ (sym (c .before .taken .ensures) ∙ c .if1 .left)
+returns-2 c = left-short _ _ _ _ (sym (c .before .taken .ensures) ∙ c .if1 .left)
 
 pub piskorlu-exact-row-spec : {M : Type 1} → statement M
 piskorlu-exact-row-spec =

@@ -1,38 +1,35 @@
 use native.Mathlib.Omega.{arith}
 use borrow.Author.Needs.{needs}
-use mathlib.Core.Path.{_≡_, sym, ap, _∙_}
-use Rattle.capi.proofs.Sums.{sign-room, sign-short, sign-long, took, take-fits}
+use mathlib.Core.Path.{sym, _∙_}
+use Rattle.capi.proofs.Sums.{sign-room, sign-short, sign-long}
 use Rattle.capi.proofs.exact.piskorlu_exact_sign.Statement.{statement}
 use Rattle.capi.proofs.exact.piskorlu_exact_sign.Tie as tie
 use Rattle.capi.proofs.exact.piskorlu_exact_sign.Reads as reads
 use Rattle.capi.proofs.exact.piskorlu_exact_sign.Lts as lts
 use Rattle.accumulator.proofs.Accumulator.sign.Reads as sign-reads
-use Rattle.capi.proofs.exact.copy.Reads as copy-reads
+use Rattle.capi.proofs.exact.first.Reads as first-reads
 use Rattle.capi.proofs.exact.sign_taken.Reads as sign-taken-reads
 
 sign-taken-requires : tie.Need-sign-taken-requires
 sign-taken-requires c κs = search needs
 
-slice-aggregate-copy : tie.Need-slice-aggregate-copy
-slice-aggregate-copy c = took (c .before .before .before .before .before .args .words .now) (sign-room _ _ (sym (c .before .before .sign-taken .ensures) ∙ c .before .if1 .taken) .0)
-
-slice-aggregate-copy-2 : tie.Need-slice-aggregate-copy-2
-slice-aggregate-copy-2 c = search needs
-
-copy-requires : tie.Need-copy-requires
-copy-requires c κs = take-fits (c .before .before .before .before .before .before .args .words .now) (sign-room _ _ (sym (c .before .before .before .sign-taken .ensures) ∙ c .before .before .if1 .taken) .0)
+first-requires : tie.Need-first-requires
+first-requires c κs = sign-room _ _ (sym (c .before .sign-taken .ensures) ∙ c .if1 .taken) .0
 
 sign-requires : tie.Need-sign-requires
 sign-requires c κs = search needs
 
 slice-set-from-sign : tie.Need-slice-set-from-sign
-slice-set-from-sign c = sign-room _ _ (sym (c .before .before .before .before .before .before .sign-taken .ensures) ∙ c .before .before .before .before .before .if1 .taken) .1
+slice-set-from-sign c = sign-room _ _ (sym (c .before .before .before .sign-taken .ensures) ∙ c .before .before .if1 .taken) .1
 
 same-length : tie.Need-same-length
 same-length c = search needs
 
 returns : tie.Need-returns
-returns c = sign-long _ _ _ _ (sym (c .before .before .before .before .before .before .sign-taken .ensures) ∙ c .before .before .before .before .before .if1 .taken) (c .before .before .copy .ensures) (c .sign .ensures)
+returns c =
+    sign-long _ _ _ _
+    (sym (c .before .before .before .sign-taken .ensures) ∙ c .before .before .if1 .taken)
+    (c .before .first .ensures) (c .sign .ensures)
 
 same-length-2 : tie.Need-same-length-2
 same-length-2 c = search needs
@@ -45,9 +42,7 @@ piskorlu-exact-sign-spec =
     tie.close
     (tie.spec
     sign-taken-requires
-    slice-aggregate-copy
-    slice-aggregate-copy-2
-    copy-requires
+    first-requires
     sign-requires
     slice-set-from-sign
     same-length
