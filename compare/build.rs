@@ -5,8 +5,8 @@
 //!   included by path and never copied.
 //! - `port_sqrt`, `port_least_norm`, `port_joins`, `port_solve`,
 //!   `port_tallied`, `port_bend`, `port_chain`, `port_chain_write`,
-//!   `port_exact`, `port_exact_nearest`: the static library has that function,
-//!   or those.
+//!   `port_exact`, `port_exact_nearest`, `port_exact_join`: the static library
+//!   has that function, or those.
 
 use std::env;
 use std::fs;
@@ -17,7 +17,7 @@ use std::process::Command;
 const MODULES: [&str; 3] = ["boxed", "dense", "report"];
 
 /// Each cfg of the port with the symbol that sets it.
-const CALLS: [(&str, &str); 10] = [
+const CALLS: [(&str, &str); 11] = [
     ("port_sqrt", "piskorlu_sqrt"),
     ("port_least_norm", "piskorlu_least_norm"),
     ("port_joins", "piskorlu_continued"),
@@ -28,6 +28,7 @@ const CALLS: [(&str, &str); 10] = [
     ("port_chain_write", "piskorlu_chain_write"),
     ("port_exact", "piskorlu_exact_row"),
     ("port_exact_nearest", "piskorlu_exact_nearest"),
+    ("port_exact_join", "piskorlu_exact_join"),
 ];
 
 fn main() {

@@ -111,7 +111,8 @@ fn page(tables: &str, plotted: bool) -> String {
          Chained bend files have 40 steps: the smallest of one value each, the largest of 3,233 each, 129,320 in all. To\n\
          read all of a file is one call for each step, and each call looks at all 40 trailers. The original has no files.\n\n\
          An exact row sum is a free motion and 32 products, from empty words. The time of a product is that of the row over\n\
-         32; nearest is taken of the sums of 64 such rows. The original has no exact sums.\n",
+         32; nearest is taken of the sums of 64 such rows. A join is of two halves of 16 products, 64 pairs in a round, and\n\
+         every round has others, so that no carries are known from the last. The original has no exact sums.\n",
         processor(),
         env!("COMPARE_RUSTC")
     )

@@ -1,8 +1,8 @@
-//! Times of row sums without rounding: a product in a row of 32, and the
-//! nearest f64.
+//! Times of row sums without rounding: a product in a row of 32, the nearest
+//! f64, and a join of two halves.
 
 use crate::cases::random::Rng;
-use crate::port::{self, Exact, ExactNearest};
+use crate::port::{self, Exact, ExactJoin, ExactNearest};
 use crate::reference::exact::{row, WORDS};
 use crate::reference::Rule;
 use std::hint::black_box;
@@ -35,8 +35,8 @@ fn any(rng: &mut Rng) -> f64 {
 type Make = fn(&mut Rng) -> f64;
 
 impl Batch {
-    fn of(make: Make) -> Self {
-        let mut rng = Rng::of_case("bench/exact", 1, 0);
+    fn of(make: Make, index: u64) -> Self {
+        let mut rng = Rng::of_case("bench/exact", 1, index);
         let mut values = |count: usize| (0..count).map(|_| make(&mut rng)).collect();
         Batch {
             u: values(ROWS),
@@ -59,10 +59,16 @@ impl Batch {
 
 /// The median of nanoseconds for each of `parts` parts of a round.
 fn median(parts: usize, mut round: impl FnMut()) -> f64 {
+    median_on(parts, || (), |()| round())
+}
+
+/// The same of rounds that each use what is made before, outside the time.
+fn median_on<T>(parts: usize, mut made: impl FnMut() -> T, mut round: impl FnMut(T)) -> f64 {
     let mut times: Vec<f64> = (0..ROUNDS)
         .map(|_| {
+            let ready = made();
             let start = Instant::now();
-            round();
+            round(ready);
             start.elapsed().as_nanos() as f64 / parts as f64
         })
         .collect();
@@ -79,13 +85,37 @@ fn product(calls: &Exact, batch: &Batch) -> f64 {
     })
 }
 
+/// The words of the batch's sums of so many products.
+fn sums(batch: &Batch, products: usize) -> Vec<Vec<u64>> {
+    let rows = batch.w.chunks(products).zip(batch.nu.chunks(products));
+    rows.zip(batch.u.iter().cycle())
+        .map(|((w, nu), &u)| row(u, w, nu, Rule::None).expect("finite values").words)
+        .collect()
+}
+
+/// A join of two halves, each with the words of a row of 16 products. Every
+/// round has other ones, so that no round can know the carries of the last.
+fn join(call: ExactJoin, make: Make) -> f64 {
+    let other_counts = [PRODUCTS as u32 / 2, 0];
+    let mut index = 0;
+    let halves = || {
+        index += 1;
+        sums(&Batch::of(make, index), PRODUCTS / 2)
+    };
+    median_on(ROWS, halves, |mut halves| {
+        for pair in halves.chunks_exact_mut(2) {
+            let (first, other) = pair.split_at_mut(1);
+            let mut counts = [PRODUCTS as u32 / 2, 1];
+            let number = call(&mut first[0], &mut counts, &other[0], &other_counts);
+            assert_eq!(number, 0);
+        }
+        black_box(&halves);
+    })
+}
+
 /// The nearest f64 of the rows' sums.
 fn nearest(call: ExactNearest, batch: &Batch) -> f64 {
-    let rows = batch.w.chunks(PRODUCTS).zip(batch.nu.chunks(PRODUCTS));
-    let sums: Vec<Vec<u64>> = rows
-        .zip(&batch.u)
-        .map(|((w, nu), &u)| row(u, w, nu, Rule::None).expect("finite values").words)
-        .collect();
+    let sums = sums(batch, PRODUCTS);
     let mut result = [0.0];
     median(ROWS, || {
         for words in black_box(&sums) {
@@ -106,14 +136,15 @@ pub fn table() -> String {
         return String::new();
     }
     let mut text = String::from(
-        "| exact row sum, 32 products | a product in the row, ns | nearest, ns |\n|---|---|---|\n",
+        "| exact row sum, 32 products | a product in the row, ns | nearest, ns | a join of two halves, ns |\n|---|---|---|---|\n",
     );
     for (what, make) in kinds {
-        let batch = Batch::of(make);
+        let batch = Batch::of(make, 0);
         let shown = |time: Option<f64>| time.map_or(String::new(), |time| format!("{time:.1}"));
         let product = shown(port::EXACT.map(|calls| product(&calls, &batch)));
         let nearest = shown(port::EXACT_NEAREST.map(|call| nearest(call, &batch)));
-        text.push_str(&format!("| {what} | {product} | {nearest} |\n"));
+        let join = shown(port::EXACT_JOIN.map(|call| join(call, make)));
+        text.push_str(&format!("| {what} | {product} | {nearest} | {join} |\n"));
     }
     text.push('\n');
     text

@@ -13,11 +13,11 @@ fn shows(example: &Example, rule: Rule) -> bool {
     let numbers: Vec<u32> = terms
         .map(|&term| sum.add(term, rule).err().unwrap_or(0))
         .collect();
+    let left = &example.left;
     numbers != example.numbers
-        || (sum.products, sum.free) != (example.products, example.free)
-        || sign(&sum.words, rule) != example.sign
-        || nearest(&sum.words, rule).to_bits() != example.nearest
-        || sum.words != example.words
+        || sum != left.sum
+        || sign(&sum.words, rule) != left.sign
+        || nearest(&sum.words, rule).to_bits() != left.nearest
 }
 
 #[test]

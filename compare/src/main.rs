@@ -12,6 +12,8 @@ mod chain_tests;
 mod coverage;
 #[cfg(test)]
 mod exact_tests;
+#[cfg(test)]
+mod join_tests;
 mod mutations;
 #[cfg(original)]
 mod original;
@@ -27,7 +29,9 @@ use calls::bend::Bend;
 use calls::chain::Chain;
 use calls::chain_writer::ChainWriter;
 use calls::exact::Exact;
+use calls::exact_join::ExactJoin;
 use calls::exact_row::ExactRow;
+use calls::exact_trees::ExactTrees;
 use calls::joins::Joins;
 use calls::least_norm::LeastNorm;
 use calls::nearest::Nearest;
@@ -50,6 +54,8 @@ compare COMMAND
   chains [FILES]          chained bend files: at least FILES (1,000,000) read, and a half as many written
   exact [ROWS]            row sums without rounding: at least ROWS (10,000,000), a half as many term by term, and
                           as many roundings to the nearest
+  trees [TREES]           row sums without rounding in several orders and groupings: at least TREES (1,000,000) sets
+                          of terms, and as many joins of two
   vectors DIR             writes the original's answers for replay
   files DIR               writes bend files with what bendsolve must print for each
   bench [--write]         times of port and original; --write: docs/PERFORMANCE.md and performance.svg
@@ -160,6 +166,8 @@ fn main() -> ExitCode {
         ["chains", files] => number(files).map_or_else(usage, chains),
         ["exact"] => exact(10_000_000),
         ["exact", rows] => number(rows).map_or_else(usage, exact),
+        ["trees"] => trees(1_000_000),
+        ["trees", sets] => number(sets).map_or_else(usage, trees),
         ["files", folder] => outcome(bendsolve::write(folder.as_ref())),
         ["bench"] => outcome(bench::run(false)),
         ["bench", "--write"] => outcome(bench::run(true)),
@@ -215,6 +223,8 @@ fn short(with_original: bool) -> ExitCode {
     checks.totals::<Exact>(&run::<Exact>(1, 20_000), false);
     checks.totals::<ExactRow>(&run::<ExactRow>(1, 40_000), false);
     checks.totals::<Nearest>(&run::<Nearest>(1, 100_000), false);
+    checks.totals::<ExactJoin>(&run::<ExactJoin>(1, 50_000), false);
+    checks.totals::<ExactTrees>(&run::<ExactTrees>(1, 6_000), false);
     println!("{:.0} s", start.elapsed().as_secs_f64());
     checks.end()
 }
@@ -257,6 +267,7 @@ fn long(cases: u64) -> ExitCode {
     differing += long_call::<Bend>(&mut checks, seed, each(Bend::families().len(), cases / 30));
     differing += chain_calls(&mut checks, seed, cases / 10);
     differing += exact_calls(&mut checks, seed, cases);
+    differing += tree_calls(&mut checks, seed, cases / 10);
     println!("{:.0} s", start.elapsed().as_secs_f64());
     println!("differing {differing}");
     checks.end()
@@ -335,6 +346,29 @@ fn exact_calls(checks: &mut Checks, seed: u64, rows: u64) -> u64 {
         + long_call::<Nearest>(checks, seed, nearest)
 }
 
+/// Row sums without rounding in several orders and groupings.
+fn trees(sets: u64) -> ExitCode {
+    let mut checks = Checks::default();
+    if port::EXACT_JOIN.is_none() {
+        let name = ExactJoin::NAME;
+        checks.note(
+            false,
+            &format!("{name}: the static library has no such call"),
+        );
+    }
+    let differing = tree_calls(&mut checks, 3, sets);
+    println!("differing {differing}");
+    checks.end()
+}
+
+/// At least so many sets of terms, each in several orders and groupings, and as
+/// many joins of two.
+fn tree_calls(checks: &mut Checks, seed: u64, sets: u64) -> u64 {
+    let joins = sets.div_ceil(ExactJoin::families().len() as u64);
+    let trees = sets.div_ceil(ExactTrees::families().len() as u64);
+    long_call::<ExactJoin>(checks, seed, joins) + long_call::<ExactTrees>(checks, seed, trees)
+}
+
 fn long_call<C: Call>(checks: &mut Checks, seed: u64, each: u64) -> u64 {
     let start = Instant::now();
     let totals = run::<C>(seed, each);
@@ -384,7 +418,9 @@ fn one(family: &str, seed: Option<u64>, index: Option<u64>) -> ExitCode {
         || show::<ChainWriter>(family, seed, index)
         || show::<Exact>(family, seed, index)
         || show::<ExactRow>(family, seed, index)
-        || show::<Nearest>(family, seed, index);
+        || show::<Nearest>(family, seed, index)
+        || show::<ExactJoin>(family, seed, index)
+        || show::<ExactTrees>(family, seed, index);
     if !shown {
         eprintln!("compare: no family of that name");
     }
@@ -403,6 +439,8 @@ fn families() -> ExitCode {
         Exact::families(),
         ExactRow::families(),
         Nearest::families(),
+        ExactJoin::families(),
+        ExactTrees::families(),
     ];
     names.concat().iter().for_each(|name| println!("{name}"));
     ExitCode::SUCCESS

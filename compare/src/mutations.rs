@@ -5,7 +5,9 @@ use crate::calls::bend::Bend;
 use crate::calls::chain::Chain;
 use crate::calls::chain_writer::ChainWriter;
 use crate::calls::exact::Exact;
+use crate::calls::exact_join::ExactJoin;
 use crate::calls::exact_row::ExactRow;
+use crate::calls::exact_trees::ExactTrees;
 use crate::calls::joins::Joins;
 use crate::calls::least_norm::LeastNorm;
 use crate::calls::nearest::Nearest;
@@ -136,6 +138,8 @@ fn surveys(each: u64, name: Option<&str>) -> Vec<(Rule, Caught)> {
         survey::<Exact>(1, each, name),
         survey::<ExactRow>(1, each, name),
         survey::<Nearest>(1, each, name),
+        survey::<ExactJoin>(1, each, name),
+        survey::<ExactTrees>(1, each, name),
     ];
     let mut all: Vec<(Rule, Caught)> = Vec::new();
     for (rule, caught) in parts.into_iter().flatten() {

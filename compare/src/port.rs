@@ -1,7 +1,7 @@
 //! The port, through its Rust binding (bindings/rust), which declares the C
 //! interface and has the unsafe code: slices in, a number out. The calls of
-//! chained bend files and exact sums, which the binding does not have, are
-//! declared here. A call that the static library lacks is `None`.
+//! chained bend files, which the binding does not have, are declared here. A
+//! call that the static library lacks is `None`.
 
 pub use piskorlu::calls::{Lent, Report, Tally};
 
@@ -259,6 +259,10 @@ pub type ExactSign = fn(&[u64], &mut [i8]) -> u32;
 /// The f64 nearest to it; 0, or the number of the refusal.
 pub type ExactNearest = fn(&[u64], &mut [f64]) -> u32;
 
+/// The second accumulator, words and counts, joined to the first, which
+/// receives the total; 0, or the number of the refusal.
+pub type ExactJoin = fn(&mut [u64], &mut [u32], &[u64], &[u32]) -> u32;
+
 /// The calls that add up a row without rounding.
 #[cfg_attr(not(port_exact), allow(dead_code))]
 pub struct Exact {
@@ -270,130 +274,20 @@ pub struct Exact {
 
 #[cfg(port_exact)]
 pub const EXACT: Option<Exact> = Some(Exact {
-    free: exact_free,
-    product: exact_product,
-    row: exact_row,
-    sign: exact_sign,
+    free: piskorlu::calls::exact_free,
+    product: piskorlu::calls::exact_product,
+    row: piskorlu::calls::exact_row,
+    sign: piskorlu::calls::exact_sign,
 });
 #[cfg(not(port_exact))]
 pub const EXACT: Option<Exact> = None;
 
 #[cfg(port_exact_nearest)]
-pub const EXACT_NEAREST: Option<ExactNearest> = Some(exact_nearest);
+pub const EXACT_NEAREST: Option<ExactNearest> = Some(piskorlu::calls::exact_nearest);
 #[cfg(not(port_exact_nearest))]
 pub const EXACT_NEAREST: Option<ExactNearest> = None;
 
-#[cfg(port_exact)]
-extern "C" {
-    fn piskorlu_exact_free(
-        u: f64,
-        words: *mut u64,
-        words_len: usize,
-        counts: *mut u32,
-        counts_len: usize,
-    ) -> u32;
-
-    fn piskorlu_exact_product(
-        w: f64,
-        nu: f64,
-        words: *mut u64,
-        words_len: usize,
-        counts: *mut u32,
-        counts_len: usize,
-    ) -> u32;
-
-    fn piskorlu_exact_row(
-        u: f64,
-        w: *const f64,
-        w_len: usize,
-        nu: *const f64,
-        nu_len: usize,
-        words: *mut u64,
-        words_len: usize,
-        counts: *mut u32,
-        counts_len: usize,
-    ) -> u32;
-
-    fn piskorlu_exact_sign(
-        words: *const u64,
-        words_len: usize,
-        sign: *mut i8,
-        sign_len: usize,
-    ) -> u32;
-}
-
-#[cfg(port_exact_nearest)]
-extern "C" {
-    fn piskorlu_exact_nearest(
-        words: *const u64,
-        words_len: usize,
-        result: *mut f64,
-        result_len: usize,
-    ) -> u32;
-}
-
-#[cfg(port_exact)]
-fn exact_free(u: f64, words: &mut [u64], counts: &mut [u32]) -> u32 {
-    // SAFETY: each pointer goes with the length of its own slice.
-    unsafe {
-        piskorlu_exact_free(
-            u,
-            words.as_mut_ptr(),
-            words.len(),
-            counts.as_mut_ptr(),
-            counts.len(),
-        )
-    }
-}
-
-#[cfg(port_exact)]
-fn exact_product(w: f64, nu: f64, words: &mut [u64], counts: &mut [u32]) -> u32 {
-    // SAFETY: each pointer goes with the length of its own slice.
-    unsafe {
-        piskorlu_exact_product(
-            w,
-            nu,
-            words.as_mut_ptr(),
-            words.len(),
-            counts.as_mut_ptr(),
-            counts.len(),
-        )
-    }
-}
-
-#[cfg(port_exact)]
-fn exact_row(u: f64, w: &[f64], nu: &[f64], words: &mut [u64], counts: &mut [u32]) -> u32 {
-    // SAFETY: each pointer goes with the length of its own slice.
-    unsafe {
-        piskorlu_exact_row(
-            u,
-            w.as_ptr(),
-            w.len(),
-            nu.as_ptr(),
-            nu.len(),
-            words.as_mut_ptr(),
-            words.len(),
-            counts.as_mut_ptr(),
-            counts.len(),
-        )
-    }
-}
-
-#[cfg(port_exact)]
-fn exact_sign(words: &[u64], sign: &mut [i8]) -> u32 {
-    // SAFETY: each pointer goes with the length of its own slice.
-    unsafe { piskorlu_exact_sign(words.as_ptr(), words.len(), sign.as_mut_ptr(), sign.len()) }
-}
-
-#[cfg(port_exact_nearest)]
-fn exact_nearest(words: &[u64], result: &mut [f64]) -> u32 {
-    // SAFETY: each pointer goes with the length of its own slice.
-    unsafe {
-        piskorlu_exact_nearest(
-            words.as_ptr(),
-            words.len(),
-            result.as_mut_ptr(),
-            result.len(),
-        )
-    }
-}
+#[cfg(port_exact_join)]
+pub const EXACT_JOIN: Option<ExactJoin> = Some(piskorlu::calls::exact_join);
+#[cfg(not(port_exact_join))]
+pub const EXACT_JOIN: Option<ExactJoin> = None;

@@ -63,7 +63,7 @@ pub fn show_words(words: &[u64]) -> String {
 }
 
 /// An accumulator as it is lent, where the slices are long enough.
-fn lent(words: &[u64], counts: &[u32]) -> Option<Accumulator> {
+pub fn lent(words: &[u64], counts: &[u32]) -> Option<Accumulator> {
     let (words, counts) = (words.get(..WORDS)?, counts.get(..2)?);
     Some(Accumulator {
         words: words.to_vec(),

@@ -141,7 +141,7 @@ fn not_finite(rng: &mut Rng) -> f64 {
 }
 
 /// Terms among which some get 17 or 18.
-fn refused(rng: &mut Rng) -> Terms {
+pub(super) fn refused(rng: &mut Rng) -> Terms {
     let mut sum = sums::ordinary(rng);
     if rng.chance(50) {
         let zero = rng.pick(&[0.0, -0.0]);
@@ -195,7 +195,7 @@ fn states(rng: &mut Rng) -> Terms {
 
 /// Any words: random ones, ends of the range, runs of equal words, and numbers
 /// at or next to halfway between two f64.
-fn words(rng: &mut Rng) -> Vec<u64> {
+pub(super) fn words(rng: &mut Rng) -> Vec<u64> {
     let mut words = vec![0; WORDS];
     match rng.below(8) {
         0 => words.iter_mut().for_each(|word| *word = rng.next()),
@@ -336,7 +336,7 @@ impl Words {
 
 fn words_of_example(rng: &mut Rng) -> Words {
     let sums = &examples().sums;
-    Words::of(sums[rng.below(sums.len())].words.clone())
+    Words::of(sums[rng.below(sums.len())].left.sum.words.clone())
 }
 
 /// The words that a row leaves.

@@ -1,5 +1,6 @@
 //! Document 02's row sum without rounding (W5): a whole number of 2^-2148 in
-//! 67 words of 64 bits, two's complement, with refusals 17 and 18.
+//! 67 words of 64 bits, two's complement, with refusals 17 and 18. Two of them
+//! are joined in `exact_join`.
 
 use super::rule::Rule;
 use super::whole::Whole;

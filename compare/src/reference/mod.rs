@@ -16,6 +16,7 @@ pub mod bend;
 pub mod chain;
 pub mod chain_writer;
 pub mod exact;
+pub mod exact_join;
 pub mod float;
 pub mod least_norm;
 pub mod pass;

@@ -15,6 +15,7 @@ pub enum Place {
     Exact,
     ExactRow,
     Nearest,
+    ExactJoin,
 }
 
 macro_rules! rules {
@@ -340,6 +341,30 @@ rules! {
     TwiceRounded, Nearest, "nearest: to 53 digits, then to a subnormal number";
     GuardWordOnly, Nearest, "nearest: digits more than a word below are lost";
     SubnormalsFlushed, Nearest, "nearest: 0 of a subnormal number";
+
+    JoinThirtyTwoRefused, ExactJoin, "join: 32 products in all refused";
+    JoinThirtyThreeTaken, ExactJoin, "join: 33 products in all taken";
+    JoinCountsWrap, ExactJoin, "join: the counts' sum modulo 2^32 tested";
+    JoinEachWithin, ExactJoin, "join: each within 32 products taken, whatever their sum";
+    JoinFirstWithin, ExactJoin, "join: the other's products not tested";
+    JoinEmptyTaken, ExactJoin, "join: an empty one joined to more than 32 products";
+    JoinTwoFreeTaken, ExactJoin, "join: two free motions taken";
+    JoinAnyFreeRefused, ExactJoin, "join: one free motion refused";
+    JoinFreeOfFirst, ExactJoin, "join: the other's free motion forgotten";
+    JoinFreeOfOther, ExactJoin, "join: the first one's free motion forgotten";
+    JoinFreeOfBoth, ExactJoin, "join: a free motion only where both have one (& for |)";
+    JoinProductsOfFirst, ExactJoin, "join: the other's products not counted";
+    JoinWithoutCarries, ExactJoin, "join: word by word, without carries";
+    JoinWithoutTopWord, ExactJoin, "join: the top word not added";
+    JoinCarryComesBack, ExactJoin, "join: the carry out of the top word added to the lowest";
+    JoinCarryOutRefused, ExactJoin, "join: 18 for a carry out of the top word";
+    JoinSaturates, ExactJoin, "join: the end of the range for what lies beyond it";
+    JoinOfRounded, ExactJoin, "join: the rounded values added";
+    JoinRefusalWrites, ExactJoin, "join: a refused call writes the total";
+    JoinEighteenFirst, ExactJoin, "join: 18 tested before 10";
+    JoinShortOtherTaken, ExactJoin, "join: another that is too short taken, with zeros";
+    JoinFlagOfOne, ExactJoin, "join: a free motion only where the second count is 1";
+    JoinFlagsAdded, ExactJoin, "join: the second counts added";
 }
 
 impl Rule {
