@@ -4,8 +4,8 @@
     python3 tools/stack_use.py [ARCHIVE]
 
 For each function the code is followed along every jump with the depth of the stack, as push, pop, add and sub change it; a call adds what the
-callee takes. So the number holds for every input. What cannot be followed (a computed jump, a stack pointer set otherwise, a callee that is
-not in the archive) is an error and not a guess. Needs objdump (binutils).
+callee takes. A jump through a table is followed to each of its entries. So the number holds for every input. What cannot be followed (another
+computed jump, a stack pointer set otherwise, a callee that is not in the archive) is an error and not a guess. Needs objdump (binutils).
 """
 
 import os
@@ -24,25 +24,73 @@ LIBRARY = {"memcpy": 256, "memset": 256, "memmove": 256, "memcmp": 256, "bcmp": 
 
 _FUNCTION = re.compile(r"^[0-9a-f]+ <(.+)>:$")
 _LINE = re.compile(r"^\s*([0-9a-f]+):\s+(.*?)\s*$")
-_RELOCATION = re.compile(r"^\s*([0-9a-f]+): (R_\S+)\s+(\S+?)(?:[-+]0x[0-9a-f]+)?$")
+_RELOCATION = re.compile(r"^\s*([0-9a-f]+): (R_\S+)\s+(\S+?)([-+]0x[0-9a-f]+)?$")
+_SECTION = re.compile(r"^RELOCATION RECORDS FOR \[(.+)\]:$")
+_ENTRY = re.compile(r"^([0-9a-f]+) R_X86_64_PC32\s+(\S+?)\+(0x[0-9a-f]+)$")
 _RESIZE = re.compile(r"^(add|sub)q?\s+\$(-?0x[0-9a-f]+),%rsp$")
 _TARGET = re.compile(r"^j\w+\s+([0-9a-f]+)\s")
 
 
 def functions(archive):
-    """Each function's instructions by address, and the names that its calls and jumps are linked to, by address of the instruction."""
+    """Each function's instructions by address, what they are linked to, and where the tables begin whose address they take, both by address of the instruction."""
     text = subprocess.run(["objdump", "-dr", "--no-show-raw-insn", archive], check=True, capture_output=True, text=True).stdout
     found, name, last = {}, None, None
     for line in text.splitlines():
         if match := _FUNCTION.match(line):
             name = match.group(1)
-            found[name] = ({}, {})
+            found[name] = ({}, {}, {})
         elif match := _RELOCATION.match(line):
             found[name][1][last] = match.group(3).removeprefix(".text.")
+            if match.group(3) == f".rodata.{name}":
+                # the address is counted from the end of the instruction, four bytes on
+                found[name][2][last] = int(match.group(4) or "0", 16) + 4
         elif name and (match := _LINE.match(line)):
             last = int(match.group(1), 16)
             found[name][0][last] = match.group(2)
     return found
+
+
+def tables(archive):
+    """For each function that jumps through tables its entries: at an offset of its read-only data, an offset of its code."""
+    text = subprocess.run(["objdump", "-r", archive], check=True, capture_output=True, text=True).stdout
+    found, name = {}, None
+    for line in text.splitlines():
+        if match := _SECTION.match(line):
+            name = match.group(1).removeprefix(".rodata.") if match.group(1).startswith(".rodata.") else None
+        elif name and (match := _ENTRY.match(line)):
+            if match.group(2) != f".text.{name}":
+                raise SystemExit(f"stack_use: {name}: a table leads to {match.group(2)}")
+            found.setdefault(name, {})[int(match.group(1), 16)] = int(match.group(3), 16)
+    return found
+
+
+def sets(text, register):
+    """Whether an instruction's last operand is a register, or its lower half."""
+    half = register + "d" if register[1].isdigit() else "e" + register[1:]
+    return re.search(rf"(,|\s)%({register}|{half})$", text) is not None
+
+
+def targets(name, at, code, begins, entries):
+    """Where a jump goes by a table: its address in one register, the entry, and then the sum of both, in that of the jump."""
+    jump = re.fullmatch(r"jmp\s+\*%(\w+)", code[at])
+    before = [place for place in sorted(code) if place < at][-10:]
+    for i in reversed(range(len(before))):
+        read = jump and re.fullmatch(rf"movslq \(%(\w+),%\w+,4\),%{jump.group(1)}", code[before[i]])
+        if not read:
+            continue
+        table, entry = read.group(1), jump.group(1)
+        rest, added = [code[place] for place in before[i + 1 :]], f"add    %{table},%{entry}"
+        if rest.count(added) != 1:
+            break
+        changed = [text for text in rest[: rest.index(added)] if sets(text, table) or sets(text, entry)]
+        changed += [text for text in rest[rest.index(added) + 1 :] if sets(text, entry)]
+        takes = [place for place in before[:i] if place in begins and re.search(rf",%{table}(\s|$)", code[place])]
+        if changed or not takes:
+            break
+        begin = begins[takes[-1]]
+        end = min([other for other in begins.values() if other > begin] + [max(entries) + 4])
+        return [entries[offset] - (offset - begin) for offset in range(begin, end, 4)]
+    raise SystemExit(f"stack_use: {name}: cannot follow '{code[at]}'")
 
 
 def without_probes(code):
@@ -72,7 +120,7 @@ def change(name, text):
     return 0
 
 
-def walk(name, code, linked, use):
+def walk(name, code, linked, begins, entries, use):
     """The deepest that a function goes, its return address not counted."""
     code = without_probes(code)
     after = dict(zip(sorted(code), sorted(code)[1:]))
@@ -101,7 +149,7 @@ def walk(name, code, linked, use):
             elif match:
                 todo.append((int(match.group(1), 16), depth))
             else:
-                raise SystemExit(f"stack_use: {name}: cannot follow '{text}'")
+                todo += [(target, depth) for target in targets(name, at, code, begins, entries)]
             if operation.startswith("jmp"):
                 continue
         todo.append((after[at], depth))
@@ -110,7 +158,7 @@ def walk(name, code, linked, use):
 
 def stack_use(archive):
     """Bytes for each exported call, its return address counted."""
-    found, known, open_calls = functions(archive), dict(LIBRARY), []
+    found, through, known, open_calls = functions(archive), tables(archive), dict(LIBRARY), []
 
     def use(name):
         if name in known:
@@ -122,7 +170,7 @@ def stack_use(archive):
                 raise SystemExit(f"stack_use: {name} calls itself, and how often is not known")
             return 0
         open_calls.append(name)
-        known[name] = (walk(name, *found[name], use) + 8) * DEPTHS.get(name, 1) - 8
+        known[name] = (walk(name, *found[name], through.get(name, {}), use) + 8) * DEPTHS.get(name, 1) - 8
         open_calls.pop()
         return known[name]
 

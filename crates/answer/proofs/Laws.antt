@@ -18,9 +18,8 @@ use Rattle.bend_file.specs.declared.Reading.{Reading}
 use Rattle.bend_file.specs.declared.Reading.the-variants as reading
 use Rattle.bend_file.proofs.Values.{values-length}
 use Rattle.bend_file.proofs.Accepted.{accepted-is-bend-file}
-use Rattle.sweep.specs.Rows as row
-use Rattle.boxed.specs.Solves as box
-use Rattle.boxed.specs.Solves.{Left}
+use Rattle.boxed.specs.Solve as solve
+use Rattle.boxed.specs.Solve.{Left}
 use Rattle.boxed.specs.declared.BoxAnswer.{BoxAnswer}
 use Rattle.printer.specs.Output as print
 use Rattle.printer.specs.Writing.{Wrote}
@@ -46,7 +45,7 @@ pub front-few : (n : ℕ) (l : List ℕ) → length l ≤ 32 → length (take n 
 front-few n l h = omega (arith, length-take n l)
 
 -- the lines of what a solve answered and left
-pub left-laid : (x : box.Result) (r : BoxAnswer) (nu : List Float) (st q a b : List ℕ) (n : ℕ) (w w′ : List Float) → Left x r nu st q w w′ → def.Laid a b n (def.lines r st nu q) → def.Laid a b n (def.printed x)
+pub left-laid : (x : solve.Result) (r : BoxAnswer) (nu : List Float) (st q a b : List ℕ) (n : ℕ) (w w′ : List Float) → Left x r nu st q w w′ → def.Laid a b n (def.lines r st nu q) → def.Laid a b n (def.printed x)
 unfolding def.printed
 left-laid x r nu st q a b n w w′ h p = rw (h .answer, h .multipliers, h .states, h .listed) at p
 
@@ -56,7 +55,7 @@ pub refused-file : (f : List ℕ) (k : ℕ) (a b : read.Lent) (r : Reading) → 
 unfolding def.output
 refused-file f k a b r e h = go (read.answer f) (sym e ∙ h .result)
   where
-    go : (x : read.Answer) → reading.Refused k ≡ read.reading x → def.shown x ≡ print.refused k
+    go : (x : read.Answer) → reading.Refused k ≡ read.reading x → def.classified x ≡ print.refused k
     go (read.refused j) g = let q : k ≡ j = cc in rw q
     go (read.accepted p) g = let z : _≡_ {A = ℕ} 0 1 = cc in absurd (omega arith)
 

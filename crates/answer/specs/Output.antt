@@ -8,46 +8,37 @@ use lib.Ieee.{Float}
 use lib.ListN.{length, take, drop, replicate}
 use Rattle.bend_file.specs.Trailer.{Small}
 use Rattle.bend_file.specs.Read as read
-use Rattle.sweep.specs.Rows as row
-use Rattle.boxed.specs.Solves as box
-use Rattle.boxed.specs.declared.Cause.{Cause}
-use Rattle.boxed.specs.declared.Cause.the-variants as cause
+use Rattle.box_rows.specs.Rows as box
+use Rattle.boxed.specs.Solve as solve
 use Rattle.boxed.specs.declared.BoxAnswer.{BoxAnswer}
 use Rattle.boxed.specs.declared.BoxAnswer.the-variants.{Solved, Infeasible, Refused}
 use Rattle.printer.specs.Writing.{Wrote}
 use Rattle.printer.specs.Output as print
-use Rattle.printer.specs.declared.Cause as printer
-use Rattle.printer.specs.declared.Cause.the-variants.{Growth, Pass, Sweep}
-
-abbrev pub causeOf : Cause → printer.Cause
-causeOf cause.Growth = Growth
-causeOf cause.Pass = Pass
-causeOf cause.Sweep = Sweep
 
 -- the lines of an answer, with the states, multipliers and row list that the solve left; the rows that fight are the filled front of the row list
 abbrev pub lines : BoxAnswer → List ℕ → List Float → List ℕ → List ℕ
 lines (Refused k) states nu rows = print.refused k
-lines (Solved r) states nu rows = print.solved (r .sweeps) (r .«exact_passes») (r .converged) (r .exact) (r .idle) (r .residual) states nu
-lines (Infeasible c n r) states nu rows = print.infeasible (causeOf c) (r .sweeps) (r .«exact_passes») (r .converged) (r .exact) (r .idle) (r .residual) states nu (take n rows)
+lines (Solved r) states nu rows = print.solved r states nu
+lines (Infeasible c n r) states nu rows = print.infeasible c r states nu (take n rows)
 
-unfoldable pub printed : box.Result → List ℕ
-printed x = lines (box.answerOf (x .outcome)) (x .states) (x .nu) (x .listed)
+unfoldable pub printed : solve.Result → List ℕ
+printed x = lines (solve.answerOf (x .outcome)) (x .states) (x .nu) (x .listed)
 
 -- the solve of a problem from the multipliers nu, its states and its row list 32 zeros at first, its workspace of 2,304 values
-unfoldable pub solved : row.Problem → box.Watch → List Float → box.Result
-solved p m nu = box.solveReply p m nu (replicate 32 0) (replicate 32 0) 2304
+unfoldable pub solved : box.Problem → solve.Watch → List Float → solve.Result
+solved p m nu = solve.solveReply p m nu (replicate 32 0) (replicate 32 0) 2304
 
 -- the solve that a file asks for
-abbrev pub asked : read.Problem → box.Result
-asked p = solved (row.problem (p .w) (p .uFree) (p .lo) (p .hi) (p .scale)) (box.watch (p .motion) (p .tolerance)) (p .nu)
+abbrev pub asked : read.Problem → solve.Result
+asked p = solved (box.problem (p .w) (p .uFree) (p .lo) (p .hi) (p .scale)) (solve.watch (p .motion) (p .tolerance)) (p .nu)
 
-abbrev pub shown : read.Answer → List ℕ
-shown (read.refused k) = print.refused k
-shown (read.accepted p) = printed (asked p)
+abbrev pub classified : read.Answer → List ℕ
+classified (read.refused k) = print.refused k
+classified (read.accepted p) = printed (asked p)
 
 -- the bytes that bendsolve writes for a file
 unfoldable pub output : List ℕ → List ℕ
-output f = shown (read.answer f)
+output f = classified (read.answer f)
 
 -- ---- the reader's buffers
 
@@ -63,9 +54,10 @@ pub record Room (n c : ℕ) (b : read.Lent) : Type 0 where
   pub moving : c * n ≤ length (b .motion)
 
 -- the solve of the problem at their fronts
-abbrev pub fronts : ℕ → ℕ → Float → read.Lent → box.Result
+abbrev pub fronts : ℕ → ℕ → Float → read.Lent → solve.Result
 fronts n c t b =
-    solved (row.problem (take (n * n) (b .w)) (take n (b .uFree)) (take n (b .lo)) (take n (b .hi)) (take n (b .scale))) (box.watch (take (c * n) (b .motion)) t)
+    solved (box.problem (take (n * n) (b .w)) (take n (b .uFree)) (take n (b .lo)) (take n (b .hi)) (take n (b .scale)))
+    (solve.watch (take (c * n) (b .motion)) t)
     (take n (b .nu))
 
 -- ---- what the call gives back

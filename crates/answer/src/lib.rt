@@ -1,9 +1,10 @@
-// From a bend file's bytes to the bytes that bendsolve writes: read, solve, print. The call is total, and its contract is an equation with the definition in specs/, which is the reader's, the solver's and the printer's one after another.
+// From a bend file's bytes to the bytes that bendsolve writes: read, solve, print. The call is total, and its contract is
+// an equation with the definition in specs/, which is the reader's, the solver's and the printer's one after another.
 ghost use mathlib.Core.Path.{_≡_};
 ghost use Prim.Native.Nat.{_≤_};
 ghost use lib.ListN.{length};
-ghost use Rattle.boxed.specs.Solves as box;
-ghost use Rattle.sweep.specs.Rows as row;
+ghost use Rattle.box_rows.specs.Rows as box;
+ghost use Rattle.boxed.specs.Solve as solve;
 ghost use Rattle.answer.specs.Output as def;
 use bend_file::Reading;
 use boxed::BoxAnswer;
@@ -12,43 +13,18 @@ use boxed::BoxSolver;
 // Every output fits in a buffer of so many bytes.
 pub const ROOM: usize = 2048;
 
-// The printer's word for a cause.
-fn cause_of(cause: boxed::Cause) -> printer::Cause
-    ensures { λ r. ⌜ r ≡ def.causeOf cause ⌝ }
-{
-    match cause {
-        boxed::Cause::Growth => printer::Cause::Growth,
-        boxed::Cause::Pass => printer::Cause::Pass,
-        boxed::Cause::Sweep => printer::Cause::Sweep,
-    }
-}
-
 // The lines of a solve's answer.
 fn print(answer: BoxAnswer, states: &[u8], nu: &[f64], rows: &[usize], out: &mut [u8]) -> usize
     requires { ⌜ (length (now nu) ≤ 32) × (length (now rows) ≤ 32) ⌝ }
-    ensures { λ r. ⌜ def.Laid (now (out .entry)) (now (out .exit)) r (def.lines answer (now (states .entry)) (now (nu .entry)) (now (rows .entry))) ⌝ }
+    ensures { λ r. ⌜ def.Laid (now (out .entry)) (now (out .exit)) r
+        (def.lines answer (now (states .entry)) (now (nu .entry)) (now (rows .entry))) ⌝ }
 {
     match answer {
         BoxAnswer::Refused(number) => printer::refused(number, out),
-        BoxAnswer::Solved(r) => printer::solved(
-            r.sweeps,
-            r.exact_passes,
-            r.converged,
-            r.exact,
-            r.idle,
-            r.residual,
-            states,
-            nu,
-            out,
-        ),
-        BoxAnswer::Infeasible(cause, count, r) => printer::infeasible(
-            cause_of(cause),
-            r.sweeps,
-            r.exact_passes,
-            r.converged,
-            r.exact,
-            r.idle,
-            r.residual,
+        BoxAnswer::Solved(report) => printer::solved(report, states, nu, out),
+        BoxAnswer::Infeasible(cause, count, report) => printer::infeasible(
+            cause,
+            report,
             states,
             nu,
             boxed::listed(rows, count),
@@ -70,7 +46,11 @@ fn solve(
     out: &mut [u8],
 ) -> usize
     requires { ⌜ length (now nu) ≤ 32 ⌝ }
-    ensures { λ r. ⌜ def.Laid (now (out .entry)) (now (out .exit)) r (def.printed (def.solved (row.problem (now (w .entry)) (now («u_free» .entry)) (now (lo .entry)) (now (hi .entry)) (now (scale .entry))) (box.watch (now (motion .entry)) tolerance) (now (nu .entry)))) ⌝ }
+    ensures { λ r. ⌜ def.Laid (now (out .entry)) (now (out .exit)) r
+        (def.printed
+        (def.solved
+        (box.problem (now (w .entry)) (now («u_free» .entry)) (now (lo .entry)) (now (hi .entry)) (now (scale .entry)))
+        (solve.watch (now (motion .entry)) tolerance) (now (nu .entry)))) ⌝ }
 {
     let mut states = [0u8; 32];
     let mut rows = [0usize; 32];
@@ -105,8 +85,28 @@ fn solve_fronts(
     nu: &mut [f64],
     out: &mut [u8],
 ) -> usize
-    requires { ⌜ def.Room n coords (record { w = now w; uFree = now «u_free»; lo = now lo; hi = now hi; scale = now scale; nu = now nu; motion = now motion }) ⌝ }
-    ensures { λ r. ⌜ def.Laid (now (out .entry)) (now (out .exit)) r (def.printed (def.fronts n coords tolerance (record { w = now (w .entry); uFree = now («u_free» .entry); lo = now (lo .entry); hi = now (hi .entry); scale = now (scale .entry); nu = now (nu .entry); motion = now (motion .entry) }))) ⌝ }
+    requires { ⌜ def.Room n coords
+        (record {
+          w = now w;
+          uFree = now «u_free»;
+          lo = now lo;
+          hi = now hi;
+          scale = now scale;
+          nu = now nu;
+          motion = now motion;
+        }) ⌝ }
+    ensures { λ r. ⌜ def.Laid (now (out .entry)) (now (out .exit)) r
+        (def.printed
+        (def.fronts n coords tolerance
+        (record {
+          w = now (w .entry);
+          uFree = now («u_free» .entry);
+          lo = now (lo .entry);
+          hi = now (hi .entry);
+          scale = now (scale .entry);
+          nu = now (nu .entry);
+          motion = now (motion .entry);
+        }))) ⌝ }
 {
     let cells = n * n;
     let moving = coords * n;
@@ -123,7 +123,8 @@ fn solve_fronts(
     )
 }
 
-// What bendsolve writes for a file, at the front of a lent buffer; how long it is. A buffer of less than 2,048 bytes gets nothing, and 0 is returned: it is never given a part of an answer.
+// What bendsolve writes for a file, at the front of a lent buffer; how long it is. A buffer of less than 2,048 bytes
+// gets nothing, and 0 is returned: it is never given a part of an answer.
 pub fn of_file(file: &[u8], out: &mut [u8]) -> usize
     ensures { λ r. ⌜ def.Answered (now (file .entry)) r (now (out .entry)) (now (out .exit)) ⌝ }
 {

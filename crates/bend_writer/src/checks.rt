@@ -1,5 +1,5 @@
-// The rules that a pull keeps, in their order: 15, each step's 3 and 4, then 10. All of them are looked at before a byte is
-// written.
+// The rules that a pull keeps, in their order: 15, each step's 3 and 4, then 10. All of them are looked at before a
+// byte is written.
 ghost use mathlib.Core.Path.{_≡_};
 ghost use Prim.Native.Nat.{_≤_};
 ghost use lib.ListN.{length};
@@ -7,9 +7,10 @@ ghost use Rattle.bend_writer.specs.Steps as def;
 ghost use Rattle.bend_writer.specs.Private as private;
 ghost use Rattle.bend_writer.specs.Write as write;
 use crate::Written;
+use crate::read;
 
-// The number of the first rule that a step of so many values breaks, or 0. The rows are looked at first: past that no product
-// is large.
+// The number of the first rule that a step of so many values breaks, or 0. The rows are looked at first: past that no
+// product is large.
 pub fn step_number(rows: usize, coords: usize, count: usize) -> u32
     ensures { λ r. ⌜ r ≡ def.ruled rows coords count ⌝ }
 {
@@ -54,10 +55,10 @@ pub fn steps_checked(
     let mut from = 0;
     let mut i = 0;
     while i < steps {
-        let count = cells::number(counts, i);
+        let count = read::number(counts, i);
         let number = step_number(
-            cells::number(rows, i),
-            cells::number(coords, i),
+            read::number(rows, i),
+            read::number(coords, i),
             had(count, values.len() - from),
         );
         if number > 0 {

@@ -1,13 +1,14 @@
-// The writer of chained bend files: document 02's W1, 1 to 40 steps with no free bytes. Each public call is total, and its
-// contract is an equation with the definition of the file in specs/.
+// The writer of chained bend files: document 02's W1, 1 to 40 steps with no free bytes. Each public call is total, and
+// its contract is an equation with the definition of the file in specs/.
 ghost use Rattle.bend_writer.specs.Write as def;
 
 mod checks;
 mod put;
+mod read;
 mod steps;
 
-// The steps of a pull, oldest first: the first `steps` places of each list. Step k has counts[k] values, the next ones of
-// those lent beside it.
+// The steps of a pull, oldest first: the first `steps` places of each list. Step k has counts[k] values, the next ones
+// of those lent beside it.
 pub struct Pull {
     pub steps: usize,
     pub rows: [usize; 40],
@@ -21,8 +22,8 @@ pub enum Written {
     Bytes(usize),
 }
 
-// Writes the pull's steps to the front of `out`. What lies past the file stays, and so does everything where the pull is
-// refused.
+// Writes the pull's steps to the front of `out`. What lies past the file stays, and so does everything where the pull
+// is refused.
 pub fn write_chain(pull: Pull, values: &[f64], out: &mut [u8]) -> Written
     ensures { λ r. ⌜ def.Writes
         (def.lent (pull .steps) (pull .rows) (pull .coords) (pull .counts) (now (values .entry)))

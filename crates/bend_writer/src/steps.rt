@@ -8,6 +8,7 @@ ghost use Rattle.bend_writer.specs.Steps as def;
 ghost use Rattle.bend_writer.specs.Private as private;
 ghost use Rattle.bend_writer.specs.Write as write;
 use crate::put;
+use crate::read;
 
 // `count` values, from the place `from` on, one after another.
 pub fn put_values(out: &mut [u8], at: usize, values: &[f64], from: usize, count: usize)
@@ -75,12 +76,12 @@ pub fn put_steps(
     let mut from = 0;
     let mut i = 0;
     while i < steps {
-        let count = cells::number(counts, i);
+        let count = read::number(counts, i);
         put_step(
             out,
             at,
-            cells::number(rows, i),
-            cells::number(coords, i),
+            read::number(rows, i),
+            read::number(coords, i),
             values,
             from,
             count,

@@ -10,8 +10,9 @@ use lib.Ieee.{Float}
 use borrow.Author.Tests.{eqb-true, ltb-false, not-false}
 use Rattle.loops.specs.Loops.{every}
 use Rattle.loops.proofs.Every.{both-true}
-use Rattle.sweep.specs.Rows.{Problem, rows}
-use Rattle.boxed.specs.Solves.{goodScaleAt, first, refusal}
+use Rattle.box_rows.specs.Rows.{Problem, size}
+use Rattle.box_rows.specs.Private.{Sized}
+use Rattle.boxed.specs.Solve.{goodScaleAt, first, refusal}
 
 first-false : (c : Bool) (k : ℕ) (l : List (Bool × ℕ)) → first ((c, suc k) ∷ l) ≡ 0 → (c ≡ false) × (first l ≡ 0)
 first-false true k l h = absurd (omega arith)
@@ -22,12 +23,11 @@ or-false true b h = absurd (true≢false h)
 or-false false b h = (refl, h)
 
 pub record Accepted (p : Problem) (nu : List Float) (st l : List ℕ) (room : ℕ) : Type 0 where
-  pub few : rows p ≤ 32
-  pub square : length (p .w) ≡ rows p * rows p
-  pub nus : length nu ≡ rows p
+  pub sized : Sized (size p) (p .w) (p .lo) (p .hi) (p .scale)
+  pub values : length nu ≡ size p
   pub work : 2304 ≤ room
-  pub states : rows p ≤ length st
-  pub listed : rows p ≤ length l
+  pub states : size p ≤ length st
+  pub listed : size p ≤ length l
 
 -- all six tests fail
 six : (a b c d e f : Bool) → first ((a, 5) ∷ (b, 6) ∷ (c, 7) ∷ (d, 8) ∷ (e, 9) ∷ (f, 10) ∷ []) ≡ 0 → (a ≡ false) × (b ≡ false) × (c ≡ false) × (f ≡ false)
@@ -39,19 +39,29 @@ six a b c d e f h =
     let h9 = first-false e 8 ((f, 10) ∷ []) (h8 .1) in
     (h5 .0, h6 .0, h7 .0, first-false f 9 [] (h9 .1) .0)
 
+-- four lists of n values each
+four : (a b c d n : ℕ) → not (eqb a n && eqb b n && eqb c n && eqb d n) ≡ false → (a ≡ n) × (b ≡ n) × (c ≡ n) × (d ≡ n)
+four a b c d n h =
+    let abcd = both-true (eqb a n && eqb b n && eqb c n) (eqb d n) (not-false (eqb a n && eqb b n && eqb c n && eqb d n) h) in
+    let abc = both-true (eqb a n && eqb b n) (eqb c n) (abcd .0) in
+    let ab = both-true (eqb a n) (eqb b n) (abc .0) in
+    (eqb-true a n (ab .0), eqb-true b n (ab .1), eqb-true c n (abc .1), eqb-true d n (abcd .1))
+
 pub accepted : (p : Problem) (motion nu : List Float) (st l : List ℕ) (room : ℕ) → refusal p motion nu st l room ≡ 0 → Accepted p nu st l room
 unfolding refusal
 accepted p motion nu st l room h =
-    let n = rows p in
-    let lengths = eqb (length (p .lo)) n && eqb (length (p .hi)) n && eqb (length (p .scale)) n in
-    let g = six (ltb 32 n || ltb 2048 (length motion)) (not (eqb (length (p .w)) (n * n))) (not (lengths && eqb (length nu) n))
+    let n = size p in
+    let lengths = eqb (length (p .lo)) n && eqb (length (p .hi)) n && eqb (length (p .scale)) n && eqb (length nu) n in
+    let g = six (ltb 32 n || ltb 2048 (length motion)) (not (eqb (length (p .w)) (n * n))) (not lengths)
     (not (every (goodScaleAt (p .scale)) n)) (ltb 0 n && not (eqb (length motion % n) 0)) (ltb room 2304 || ltb (length st) n || ltb (length l) n) h in
+    let few = ltb-false 32 n (or-false (ltb 32 n) (ltb 2048 (length motion)) (g .0) .0) in
+    let square = eqb-true (length (p .w)) (n * n) (not-false (eqb (length (p .w)) (n * n)) (g .1)) in
+    let seven = four (length (p .lo)) (length (p .hi)) (length (p .scale)) (length nu) n (g .2) in
     let ten = or-false (ltb room 2304 || ltb (length st) n) (ltb (length l) n) (g .3) in
     let lent = or-false (ltb room 2304) (ltb (length st) n) (ten .0) in
     record {
-      few = ltb-false 32 n (or-false (ltb 32 n) (ltb 2048 (length motion)) (g .0) .0);
-      square = eqb-true (length (p .w)) (n * n) (not-false (eqb (length (p .w)) (n * n)) (g .1));
-      nus = eqb-true (length nu) n (both-true lengths (eqb (length nu) n) (not-false (lengths && eqb (length nu) n) (g .2)) .1);
+      sized = (few, square, seven .0, seven .1, seven .2);
+      values = seven .3;
       work = ltb-false room 2304 (lent .0);
       states = ltb-false (length st) n (lent .1);
       listed = ltb-false (length l) n (ten .1);

@@ -1,7 +1,9 @@
-pub mod Accepting
-pub mod Tables
+pub mod Rows
+pub mod Later
 pub mod Testing
-pub mod Attempts
-pub mod Turning
-pub mod Running
+pub mod Ends
+pub mod Checks
+pub mod Turns
+pub mod Accepting
 pub mod Finishing
+pub mod Solving

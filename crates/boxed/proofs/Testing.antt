@@ -1,50 +1,86 @@
--- A sweep's tests, as the code goes through them.
-use Prim.Native.Nat.{ℕ, zero, suc, _≤_}
-use mathlib.Core.Path.{_≡_, refl, sym, ap, _∙_}
+-- The tests after a sweep, from what their calls promise: one law for each return.
+use Prim.Native.Nat.{ℕ, _/_, _≤_}
+use mathlib.Core.Path.{_≡_, refl, ap, _∙_}
 use mathlib.Core.Bool.{true, false}
-use mathlib.Core.List.{List, [], _∷_}
+use mathlib.Core.List.{List, [], _∷_, _++_}
 use native.Mathlib.Omega.{arith}
-use lib.ListN.{length}
+use lib.ListN.{length, take, length-append}
+use lib.Seq.{take-at}
 use lib.Ieee.{Float, le}
-use borrow.Author.Tests.{ne-eqb, le-ltb}
-use Rattle.loops.specs.Loops.{fronted}
-use Rattle.loops.specs.Gathering.{Gathering}
+use borrow.Author.Tests.{eq-eqb, le-leb}
+use Rattle.loops.proofs.Fill.{tab-length}
 use Rattle.floats.specs.Ops.{1e-9}
-use Rattle.sweep.specs.Rows as box
-use Rattle.sweep.specs.Rows.{Problem, rows}
-use Rattle.ray.specs.Rays.{ray, rayRows}
-use Rattle.ray.specs.Gathers.{Front}
+use Rattle.box_rows.specs.Rows as box
+use Rattle.box_rows.specs.Private.{Sized}
+use Rattle.exact_pass.specs.Ray.{ray}
+use Rattle.exact_pass.specs.Promise.{fits, rayReply, Front}
+use Rattle.boxed.specs.Sweep as sweep
+use Rattle.boxed.specs.Solve as def
+use Rattle.boxed.specs.Solve.{iterate, watch, going}
+use Rattle.boxed.specs.Private.{Ran}
 use Rattle.boxed.specs.declared.Cause.{Cause}
 use Rattle.boxed.specs.declared.Cause.the-variants as cause
-use Rattle.boxed.specs.declared.Standing.the-variants as stands
-use Rattle.boxed.specs.declared.Progress.{Progress}
-use Rattle.boxed.specs.Solves as D
-use Rattle.boxed.specs.Solves.{stand, watch, going}
-use Rattle.boxed.specs.Private as S
-use Rattle.boxed.specs.Private.{Ran}
+use Rattle.boxed.specs.declared.Counts.{Counts}
+use Rattle.boxed.specs.declared.Sweeping.{Sweeping}
+use Rattle.boxed.specs.declared.Sweeping.the-variants as sweeping
 
-unless-is : (c : Cause) (k : ℕ) (nu : List Float) (st : List ℕ) (passes n : ℕ) (l : List ℕ) (g : Progress) (q q′ : List ℕ) → n ≡ length l → q′ ≡ fronted l q → g ≡ S.unlessOf c k n passes → Ran (D.unless c k (stand nu st passes) l) q g nu st q′
-unfolding D.unless
-unless-is c k nu st passes n [] g q q′ h f e = let x : g ≡ S.unlessOf c k 0 passes = rw h at e in record { standing = rw x; stood = rw x; listed = f }
-unless-is c k nu st passes n (a ∷ l) g q q′ h f e =
-    let x : g ≡ S.unlessOf c k (suc (length l)) passes = rw h at e in
-    record { standing = rw (x, ne-eqb (suc (length l)) 0 (λ z. omega arith)); stood = rw x; listed = f }
+-- ---- rows that fight end a solve, and none do not: they are k at the front of what was rows
 
-pub grow-is : (scale : List Float) (n k : ℕ) (nu : List Float) (st : List ℕ) (passes count : ℕ) (g : Progress) (q q′ : List ℕ) → Gathering (box.pastRow nu scale) q n count q′ → g ≡ S.unlessOf cause.Growth k count passes → Ran (D.unlessGrown scale n k (stand nu st passes)) q g nu st q′
-unfolding D.unlessGrown box.grown
-grow-is scale n k nu st passes count g q q′ h e = unless-is cause.Growth k nu st passes count (box.grown nu scale n) g q q′ (h .count) (h .front) e
+module _ (a : Cause) (nu : List Float) (st rows : List ℕ) (k : ℕ) (rows′ : List ℕ) where
+  pub none-fight : (l : List ℕ) → Front l rows k rows′ → k ≡ 0 → (c : Counts) → Ran (def.unless a (iterate nu st c) l) rows sweeping.Going nu st c rows′
+  unfolding def.unless
+  none-fight [] f h c = record { answer = refl; reached = refl; listed = f .front }
+  none-fight (b ∷ l) f h c = absurd (omega (arith, f .count, h))
 
-module _ (p : Problem) (motion : List Float) (tolerance : Float) (k : ℕ) (before nu : List Float) (st : List ℕ) (passes : ℕ) (q : List ℕ) where
-  pub test-going : le (box.motionOf motion nu before) tolerance ≡ false → Ran (D.tested p (watch motion tolerance) k before (going (stand nu st passes))) q (record { standing = stands.Going; passes = passes }) nu st q
-  unfolding D.tested D.stands
-  test-going h = rw h (record { standing = refl; stood = refl; listed = refl })
+  pub some-fight : (l : List ℕ) → Front l rows k rows′ → (k ≡ 0 → ⊥) → (c : Counts) → Ran (def.unless a (iterate nu st c) l) rows (sweeping.Infeasible a k) nu st c rows′
+  unfolding def.unless
+  some-fight [] f h c = absurd (h (f .count))
+  some-fight (b ∷ l) f h c = record { answer = ap (sweeping.Infeasible a) (f .count); reached = refl; listed = f .front }
 
-  pub test-still : le (box.motionOf motion nu before) tolerance ≡ true → le (box.residual p st nu (rows p)) 1e-9 ≡ true → Ran (D.tested p (watch motion tolerance) k before (going (stand nu st passes))) q (record { standing = stands.Still k; passes = passes }) nu st q
-  unfolding D.tested D.stands
-  test-still h f = rw (h, f) (record { standing = refl; stood = refl; listed = refl })
+-- ---- lists of the problem's lengths are none that the ray refuses
 
-  pub test-ray : (y₀ y : List Float) (count : ℕ) (g : Progress) (q′ : List ℕ) → le (box.motionOf motion nu before) tolerance ≡ true → le (box.residual p st nu (rows p)) 1e-9 ≡ false → rows p ≤ 32 → length y₀ ≡ rows p → y ≡ box.way nu before (length y₀) → Front (rayRows p st y) q count q′ → g ≡ S.unlessOf cause.Sweep k count passes → Ran (D.tested p (watch motion tolerance) k before (going (stand nu st passes))) q g nu st q′
-  unfolding D.tested D.stands rayRows
-  test-ray y₀ y count g q′ h f few long w r e =
-      let v : rayRows p st y ≡ ray p st y = rw (le-ltb 32 (rows p) few) in
-      rw (h, f, ← long, ← w) (unless-is cause.Sweep k nu st passes count (ray p st y) g q q′ (r .count ∙ ap length v) (r .front ∙ ap (λ (t : List ℕ). fronted t q) v) e)
+pub all-fit : (p : box.Problem) (st : List ℕ) (v : List Float) (rows : List ℕ) → Sized (box.size p) (p .w) (p .lo) (p .hi) (p .scale) → length st ≡ box.size p → length v ≡ box.size p → box.size p ≤ length rows → fits p st v rows ≡ true
+all-fit p st v rows z s e h = rw (le-leb _ _ (z .0), eq-eqb _ _ (z .1), eq-eqb _ _ (z .2), eq-eqb _ _ (z .3), eq-eqb _ _ (z .4), eq-eqb _ _ s, eq-eqb _ _ e, le-leb _ _ h)
+
+-- ---- the change of the multipliers is the direction of the ray: it stands at the front of an array that z ends
+
+change-length : (nu before : List Float) (n : ℕ) → length (sweep.change nu before n) ≡ n
+unfolding sweep.change
+change-length nu before n = tab-length (sweep.changeAt nu before) n
+
+module _ (nu before y z : List Float) (n : ℕ) (e : y ≡ sweep.change nu before (length nu)) (h : length nu ≡ n) where
+  changed : y ≡ sweep.change nu before n
+  changed = rw (← h) e
+
+  long : length y ≡ n
+  long = ap length changed ∙ change-length nu before n
+
+  pub changed-le : n ≤ length (y ++ z)
+  changed-le = omega (arith, length-append y z, long)
+
+  pub changed-front : take n (y ++ z) ≡ sweep.change nu before n
+  changed-front = take-at y z n long ∙ changed
+
+pub ray-front : (p : box.Problem) (st : List ℕ) (nu before y : List Float) (rows : List ℕ) (k : ℕ) (rows′ : List ℕ) → Sized (box.size p) (p .w) (p .lo) (p .hi) (p .scale) → length st ≡ box.size p → box.size p ≤ length rows → y ≡ sweep.change nu before (box.size p) → Front (rayReply p st y rows) rows k rows′
+    → Front (ray p st (sweep.change nu before (box.size p))) rows k rows′
+unfolding rayReply
+ray-front p st nu before y rows k rows′ z s h e f =
+    let g : length y ≡ box.size p = ap length e ∙ change-length nu before (box.size p) in
+    rw (← e) (rw (all-fit p st y rows z s g h) at f)
+
+-- ---- the tests: v is the motion, and r the residual
+
+module _ (p : box.Problem) (motion : List Float) (tolerance : Float) (nu before : List Float) (st rows : List ℕ) (v : Float)
+    (e : v ≡ sweep.moved motion nu before (length motion / length nu)) where
+  pub still-moves : le v tolerance ≡ false → (c : Counts) → Ran (def.tested p (watch motion tolerance) before (going (iterate nu st c))) rows sweeping.Going nu st c rows
+  unfolding def.tested
+  still-moves h c = rw (← e, h) (record { answer = refl; reached = refl; listed = refl })
+
+  module _ (h : le v tolerance ≡ true) (r : Float) (f : r ≡ sweep.residual p st nu (box.size p)) where
+    pub has-converged : le r 1e-9 ≡ true → (c : Counts) → Ran (def.tested p (watch motion tolerance) before (going (iterate nu st c))) rows sweeping.Converged nu st c rows
+    unfolding def.tested
+    has-converged g c = rw (← e, h, ← f, g) (record { answer = refl; reached = refl; listed = refl })
+
+    pub along-ray : le r 1e-9 ≡ false → (q : Sweeping) (rows′ : List ℕ) → ((c : Counts) → Ran (def.unless cause.Sweep (iterate nu st c) (ray p st (sweep.change nu before (box.size p)))) rows q nu st c rows′) → (c : Counts) → Ran (def.tested p (watch motion tolerance) before (going (iterate nu st c))) rows q nu st c rows′
+    unfolding def.tested
+    along-ray g q rows′ m c = rw (← e, h, ← f, g) (m c)

@@ -1,2 +1,3 @@
-pub mod Solves
+pub mod Sweep
+pub mod Solve
 pub mod Private

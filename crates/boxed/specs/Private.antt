@@ -1,105 +1,64 @@
--- Words of private contracts: what the code tells of a run between two sweeps, and what it leaves. No promise of a public call stands on them; those are in Solves.antt.
+-- Words of private contracts: what the code tells of a run between two sweeps, and what it leaves. No promise of a public call stands on them; those are in Solve.antt.
 -- Definitions only.
 use Prim.Native.Nat.{ℕ, _≤_, _<_}
 use mathlib.Core.Path.{_≡_}
-use mathlib.Core.Bool.{Bool, true, false, cond}
+use mathlib.Core.Bool.{Bool, true, false}
 use mathlib.Core.List.{List}
-use lib.Dec.{eqb}
-use lib.ListN.{length}
+use lib.ListN.{length, drop}
 use lib.Ieee.{Float}
-use Rattle.loops.specs.Loops.{fronted, pasted}
-use Rattle.sweep.specs.Rows.{Problem, rows, shown}
+use Rattle.loops.specs.Loops.{fronted}
+use Rattle.exact_pass.specs.Pass.{Pass}
+use Rattle.exact_pass.specs.Promise.{Passed}
 use Rattle.exact_pass.specs.declared.Exact.{Exact}
-use Rattle.exact_pass.specs.declared.Exact.the-variants as ways
-use Rattle.boxed.specs.declared.Cause.{Cause}
-use Rattle.boxed.specs.declared.Cause.the-variants as cause
-use Rattle.boxed.specs.declared.Standing.{Standing}
-use Rattle.boxed.specs.declared.Standing.the-variants as stands
-use Rattle.boxed.specs.declared.Progress.{Progress}
+use Rattle.boxed.specs.declared.Counts.{Counts}
+use Rattle.boxed.specs.declared.Sweeping.{Sweeping}
+use Rattle.boxed.specs.declared.Sweeping.the-variants as sweeping
 use Rattle.boxed.specs.declared.BoxAnswer.{BoxAnswer}
-use Rattle.boxed.specs.declared.BoxAnswer.the-variants.{Solved, Infeasible}
-use Rattle.boxed.specs.Solves.{Run, going, ended, Ending, exact, still, fight, Stand, stand, Result, answerOf, reportOf}
+use Rattle.boxed.specs.Solve.{Run, going, ended, exact, converged, infeasible}
+use Rattle.boxed.specs.Solve.{Iterate, iterate, tried, passed, Result, answerOf}
 
-abbrev pub standingOf : Run → Standing
-standingOf (going s) = stands.Going
-standingOf (ended k exact s) = stands.Exact k
-standingOf (ended k still s) = stands.Still k
-standingOf (ended k (fight c l) s) = stands.Fight k c (length l)
+abbrev pub isGoing : Sweeping → Bool
+isGoing sweeping.Going = true
+isGoing sweeping.Exact = false
+isGoing sweeping.Converged = false
+isGoing (sweeping.Infeasible c k) = false
 
-abbrev pub standOf : Run → Stand
-standOf (going s) = s
-standOf (ended k e s) = s
+abbrev pub sweepingOf : Run → Sweeping
+sweepingOf (going s) = sweeping.Going
+sweepingOf (ended exact s) = sweeping.Exact
+sweepingOf (ended converged s) = sweeping.Converged
+sweepingOf (ended (infeasible c l) s) = sweeping.Infeasible c (length l)
+
+abbrev pub iterateOf : Run → Iterate
+iterateOf (going s) = s
+iterateOf (ended e s) = s
 
 -- the row list: the rows that fight at its front
 abbrev pub listedOf : Run → List ℕ → List ℕ
-listedOf (going s) q = q
-listedOf (ended k exact s) q = q
-listedOf (ended k still s) q = q
-listedOf (ended k (fight c l) s) q = fronted l q
+listedOf (going s) l = l
+listedOf (ended exact s) l = l
+listedOf (ended converged s) l = l
+listedOf (ended (infeasible c r) s) l = fronted r l
 
-pub record Ran (r : Run) (q : List ℕ) (g : Progress) (nu : List Float) (st q′ : List ℕ) : Type 0 where
-  pub standing : g .standing ≡ standingOf r
-  pub stood : stand nu st (g .passes) ≡ standOf r
-  pub listed : q′ ≡ listedOf r q
+-- how the code tells a run r, the row list having been l₀
+pub record Ran (r : Run) (l₀ : List ℕ) (g : Sweeping) (nu : List Float) (st : List ℕ) (c : Counts) (l : List ℕ) : Type 0 where
+  pub answer : g ≡ sweepingOf r
+  pub reached : iterate nu st c ≡ iterateOf r
+  pub listed : l ≡ listedOf r l₀
 
-abbrev pub isGoing : Standing → Bool
-isGoing stands.Going = true
-isGoing (stands.Exact k) = false
-isGoing (stands.Still k) = false
-isGoing (stands.Fight k c n) = false
+-- how the solve goes on after a pass that ended as e with the multipliers v, and the multipliers then; they were nu
+abbrev pub Settled : Exact → List Float → List Float → Sweeping → List Float → Type 0
+Settled e v nu g nu′ =
+    (st₀ : List ℕ) (c : Counts) (x : Pass) (l₀ st l : List ℕ) → Passed x l₀ e v st l
+    → Ran (passed (iterate nu st₀ c) x) l₀ g nu′ st (tried c) l
 
--- so many rows fight, or none
-abbrev pub unlessOf : Cause → ℕ → ℕ → ℕ → Progress
-unlessOf c k n passes = record { standing = cond (eqb n 0) stands.Going (stands.Fight k c n); passes = passes }
-
--- ---- after an exact pass
-
-abbrev pub isFound : Exact → Bool
-isFound ways.Moving = false
-isFound ways.Found = true
-isFound ways.Failed = false
-isFound (ways.Infeasible n) = false
-isFound (ways.Refused n) = false
-
-abbrev pub unfoundOf : Exact → ℕ → Standing
-unfoundOf ways.Moving k = stands.Going
-unfoundOf ways.Found k = stands.Going
-unfoundOf ways.Failed k = stands.Going
-unfoundOf (ways.Infeasible n) k = stands.Fight k cause.Pass n
-unfoundOf (ways.Refused n) k = stands.Going
-
-unfoldable pub settledOf : Exact → ℕ → ℕ → Progress
-settledOf e k passes = record { standing = cond (isFound e) (stands.Exact k) (unfoundOf e k); passes = passes }
-
-unfoldable pub settledNu : Exact → List Float → List Float → List Float
-settledNu e tried nu = cond (isFound e) (pasted tried nu) nu
-
--- room for a pass over n rows, and for one more in the count
-pub record Passable (n : ℕ) (nu tried work : List Float) (passes : ℕ) : Type 0 where
-  pub few : n ≤ 32
-  pub copied : length tried ≡ length nu
-  pub room : 1056 ≤ length work
-  pub count : passes < 0xffff_ffff
-
--- ---- the end of a solve
-
--- what a solve answers that stands so after its last sweep
-abbrev pub finishedAnswer : ℕ → Problem → ℕ → Standing → Stand → BoxAnswer
-finishedAnswer cap p idle stands.Going s = Solved (reportOf p idle cap false false s)
-finishedAnswer cap p idle (stands.Still k) s = Solved (reportOf p idle k true false s)
-finishedAnswer cap p idle (stands.Exact k) s = Solved (reportOf p idle k true true s)
-finishedAnswer cap p idle (stands.Fight k c n) s = Infeasible c n (reportOf p idle k false false s)
-
--- the states that it leaves
-abbrev pub finishedStates : Problem → Standing → Stand → List ℕ
-finishedStates p stands.Going s = shown p (s .nu) (s .states) (rows p)
-finishedStates p (stands.Still k) s = shown p (s .nu) (s .states) (rows p)
-finishedStates p (stands.Exact k) s = s .states
-finishedStates p (stands.Fight k c n) s = s .states
+-- the values of a workspace past those that a solve uses: an exact pass's 1,120, and the multipliers kept
+abbrev pub beyond : List Float → List Float
+beyond work = drop 1152 work
 
 -- a solve that is not refused ends with this result: its answer, and what it leaves in the multipliers, the states and the row list
-pub record Finished (x : Result) (r : BoxAnswer) (nu : List Float) (st q : List ℕ) : Type 0 where
+pub record Finished (x : Result) (r : BoxAnswer) (nu : List Float) (st l : List ℕ) : Type 0 where
   pub answer : r ≡ answerOf (x .outcome)
   pub multipliers : nu ≡ x .nu
   pub states : st ≡ x .states
-  pub listed : q ≡ x .listed
+  pub listed : l ≡ x .listed

@@ -1,10 +1,24 @@
-// The sweeps after which an exact pass is tried.
+// The checkpoints, and the exact pass that is tried at each.
 ghost use mathlib.Core.Path.{_≡_};
-ghost use Rattle.boxed.specs.Solves as def;
+ghost use Prim.Native.Nat.{_+_, _≤_, _<_};
+ghost use lib.ListN.{length};
+ghost use Rattle.box_rows.specs.Rows as box;
+ghost use Rattle.box_rows.specs.Private as lists;
+ghost use Rattle.exact_pass.specs.Pass.{exactPass};
+ghost use Rattle.boxed.specs.Solve as def;
+ghost use Rattle.boxed.specs.Private as private;
+ghost use Rattle.boxed.specs.declared.Counts.{Counts};
 use crate::CHECKPOINTS;
+use crate::Cause;
+use crate::Counts;
+use crate::Progress;
+use crate::Sweeping;
+use crate::read;
+use exact_pass::Exact;
 
-fn in_table(k: u32) -> bool
-    ensures { λ r. ⌜ r ≡ def.member k def.table ⌝ }
+// Whether a pass is tried after sweep k.
+fn checkpoint(cap: u32, k: u32) -> bool
+    ensures { λ q. ⌜ q ≡ def.checkpoint cap k ⌝ }
 {
     let mut i = 0;
     while i < 8 {
@@ -13,15 +27,101 @@ fn in_table(k: u32) -> bool
         }
         i += 1;
     }
-    false
+    k == cap
 }
 
-// Whether an exact pass is tried after sweep k, where there may be so many sweeps as the cap says.
-pub fn checkpoint(cap: u32, k: u32) -> bool
-    ensures { λ r. ⌜ r ≡ def.checkpoint cap k ⌝ }
+// How the solve goes on after a pass that ended so: its multipliers count where it found the solution, and else those
+// kept.
+fn settle(e: Exact, kept: &[f64], nu: &mut [f64]) -> Sweeping
+    requires { ⌜ length (now kept) ≡ length (now nu) ⌝ }
+    ensures { λ q. ⌜ private.Settled e (now (nu .entry)) (now (kept .entry)) q (now (nu .exit)) ⌝ }
 {
-    if in_table(k) {
-        return true;
+    match e {
+        Exact::Moved => {
+            read::copy(kept, nu);
+            Sweeping::Going
+        }
+        Exact::Found => Sweeping::Exact,
+        Exact::Failed => {
+            read::copy(kept, nu);
+            Sweeping::Going
+        }
+        Exact::Infeasible(c) => {
+            read::copy(kept, nu);
+            Sweeping::Infeasible(Cause::Pass, c)
+        }
     }
-    k == cap
+}
+
+// The pass starts from the multipliers, which are kept in the workspace past the pass's own part: they stay as they are
+// unless it finds the solution.
+fn attempt(
+    w: &[f64],
+    u_free: &[f64],
+    lo: &[f64],
+    hi: &[f64],
+    scale: &[f64],
+    states: &mut [u8],
+    nu: &mut [f64],
+    rows: &mut [usize],
+    work: &mut [f64],
+) -> Sweeping
+    requires { ⌜ lists.Sized (length (now «u_free»)) (now w) (now lo) (now hi) (now scale)
+        × (length (now states) ≡ length (now «u_free»)) × (length (now nu) ≡ length (now «u_free»))
+        × (length (now «u_free») ≤ length (now rows)) × (1152 ≤ length (now work)) ⌝ }
+    ensures { λ q. ⌜
+        ((c : Counts) → private.Ran
+        (def.passed (def.iterate (now (nu .entry)) (now (states .entry)) c)
+        (exactPass
+        (box.problem (now (w .entry)) (now («u_free» .entry)) (now (lo .entry)) (now (hi .entry)) (now (scale .entry)))
+        (now (states .entry)) (now (nu .entry))))
+        (now (rows .entry)) q (now (nu .exit)) (now (states .exit)) (def.tried c) (now (rows .exit)))
+        × (private.beyond (now (work .exit)) ≡ private.beyond (now (work .entry))) ⌝ }
+{
+    let e = exact_pass::WORKSPACE + u_free.len();
+    read::copy(nu, &mut work[exact_pass::WORKSPACE..e]);
+    let found = exact_pass::exact_pass(w, u_free, lo, hi, scale, states, nu, rows, work);
+    settle(found, &work[exact_pass::WORKSPACE..e], nu)
+}
+
+// After the sweeps counted: a pass, where one is due.
+pub fn check(
+    cap: u32,
+    w: &[f64],
+    u_free: &[f64],
+    lo: &[f64],
+    hi: &[f64],
+    scale: &[f64],
+    states: &mut [u8],
+    nu: &mut [f64],
+    rows: &mut [usize],
+    work: &mut [f64],
+    counts: Counts,
+) -> Progress
+    requires { ⌜ lists.Sized (length (now «u_free»)) (now w) (now lo) (now hi) (now scale)
+        × (length (now states) ≡ length (now «u_free»)) × (length (now nu) ≡ length (now «u_free»))
+        × (length (now «u_free») ≤ length (now rows)) × (1152 ≤ length (now work)) × (counts .passes < 0xffff_ffff) ⌝ }
+    ensures { λ q. ⌜
+        private.Ran
+        (def.checked cap
+        (box.problem (now (w .entry)) (now («u_free» .entry)) (now (lo .entry)) (now (hi .entry)) (now (scale .entry)))
+        (def.going (def.iterate (now (nu .entry)) (now (states .entry)) counts)))
+        (now (rows .entry)) (q .sweeping) (now (nu .exit)) (now (states .exit)) (q .counts) (now (rows .exit))
+        × (q .counts .sweeps ≡ counts .sweeps) × (q .counts .passes ≤ counts .passes + 1)
+        × (private.beyond (now (work .exit)) ≡ private.beyond (now (work .entry))) ⌝ }
+{
+    if checkpoint(cap, counts.sweeps) {
+        let sweeping = attempt(w, u_free, lo, hi, scale, states, nu, rows, work);
+        return Progress {
+            sweeping,
+            counts: Counts {
+                sweeps: counts.sweeps,
+                passes: counts.passes + 1,
+            },
+        };
+    }
+    Progress {
+        sweeping: Sweeping::Going,
+        counts,
+    }
 }

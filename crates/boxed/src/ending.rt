@@ -1,79 +1,94 @@
-// The end of a solve: its report, its answer, and the states that it leaves.
+// What a solve reports and leaves.
 ghost use mathlib.Core.Path.{_≡_};
-ghost use mathlib.Core.Bool.{false};
+ghost use mathlib.Core.List.{List};
+ghost use Prim.Native.Nat.{ℕ, _<_};
 ghost use lib.ListN.{length};
-ghost use Rattle.sweep.specs.Rows as box;
-ghost use Rattle.boxed.specs.Solves as def;
+ghost use Rattle.box_rows.specs.Rows as box;
+ghost use Rattle.box_rows.specs.Private as lists;
+ghost use Rattle.boxed.specs.Sweep as sweeps;
+ghost use Rattle.boxed.specs.Solve as def;
 ghost use Rattle.boxed.specs.Private as private;
-ghost use Rattle.boxed.specs.declared.BoxAnswer.the-variants as answers;
 use crate::BoxAnswer;
 use crate::BoxReport;
-use crate::Standing;
+use crate::Counts;
+use crate::Progress;
+use crate::Sweeping;
+use crate::read;
+use crate::tests;
 
-// The report of a solve that ended at sweep k.
-pub fn report(
-    w: &[f64],
-    u_free: &[f64],
-    lo: &[f64],
-    hi: &[f64],
-    scale: &[f64],
-    states: &[u8],
-    nu: &[f64],
-    passes: u32,
-    k: u32,
-    converged: bool,
-    exact: bool,
-    idle: u32,
-) -> BoxReport
-    ensures { λ r. ⌜ r ≡ def.reportOf (box.problem (now (w .entry)) (now («u_free» .entry)) (now (lo .entry)) (now (hi .entry)) (now (scale .entry))) idle k converged exact (def.stand (now (nu .entry)) (now (states .entry)) passes) ⌝ }
+// All rows Idle: nothing to solve.
+pub fn nothing(idle: u32) -> BoxReport
+    ensures { λ q. ⌜ q ≡ def.nothing idle ⌝ }
 {
     BoxReport {
-        sweeps: k,
-        exact_passes: passes,
-        converged,
-        exact,
-        residual: sweep::residual(w, u_free, lo, hi, scale, states, nu),
+        sweeps: 0,
+        exact_passes: 0,
+        converged: true,
+        exact: true,
+        residual: 0.0,
         idle,
     }
 }
 
-// The answer where no pass found the solution. The states are then those that the multipliers show; the report is made before.
-fn unfound(
-    w: &[f64],
-    u_free: &[f64],
-    lo: &[f64],
-    hi: &[f64],
-    scale: &[f64],
-    states: &mut [u8],
-    nu: &[f64],
-    passes: u32,
-    k: u32,
-    converged: bool,
-    idle: u32,
-) -> BoxAnswer
-    ensures { λ r. ⌜ (r ≡ answers.Solved (def.reportOf (box.problem (now (w .entry)) (now («u_free» .entry)) (now (lo .entry)) (now (hi .entry)) (now (scale .entry))) idle k converged false (def.stand (now (nu .entry)) (now (states .entry)) passes))) × (now (states .exit) ≡ box.shown (box.problem (now (w .entry)) (now («u_free» .entry)) (now (lo .entry)) (now (hi .entry)) (now (scale .entry))) (now (nu .entry)) (now (states .entry)) (length (now («u_free» .entry)))) ⌝ }
+fn classify_row(lo: &[f64], hi: &[f64], scale: &[f64], nu: &[f64], states: &mut [u8], i: usize)
+    requires { ⌜
+        (i < length (now states)) × (length (now lo) ≡ length (now states)) × (length (now hi) ≡ length (now states))
+        × (length (now scale) ≡ length (now states)) × (length (now nu) ≡ length (now states)) ⌝ }
+    ensures { λ q. ⌜ now (states .exit)
+        ≡ sweeps.classifyRow (now (lo .entry)) (now (hi .entry)) (now (scale .entry)) (now (nu .entry)) i
+        (now (states .entry)) ⌝ }
 {
-    let r = report(
-        w,
-        u_free,
-        lo,
-        hi,
-        scale,
-        states,
-        nu,
-        passes,
-        k,
-        converged,
-        false,
-        idle,
+    if read::state(states, i) == box_rows::IDLE {
+        return;
+    }
+    let s = box_rows::state_of(
+        read::at(lo, i),
+        read::at(hi, i),
+        read::at(scale, i),
+        read::at(nu, i),
     );
-    sweep::show(lo, hi, scale, nu, states, u_free.len());
-    BoxAnswer::Solved(r)
+    read::put_state(states, i, s);
 }
 
-// The answer of a solve that stands so after its last sweep, and the states that it leaves.
-pub fn finish(
-    cap: u32,
+// The states that the multipliers show.
+fn classify(lo: &[f64], hi: &[f64], scale: &[f64], nu: &[f64], states: &mut [u8])
+    requires { ⌜ (length (now lo) ≡ length (now states)) × (length (now hi) ≡ length (now states))
+        × (length (now scale) ≡ length (now states)) × (length (now nu) ≡ length (now states)) ⌝ }
+    ensures { λ q. ⌜ now (states .exit)
+        ≡ sweeps.classified (now (lo .entry)) (now (hi .entry)) (now (scale .entry)) (now (nu .entry))
+        (now (states .entry))
+        (length (now (states .entry))) ⌝ }
+{
+    let n = states.len();
+    let mut i = 0;
+    while i < n {
+        classify_row(lo, hi, scale, nu, states, i);
+        i += 1;
+    }
+}
+
+fn report(counts: Counts, converged: bool, exact: bool, residual: f64, idle: u32) -> BoxReport
+    ensures { λ q. ⌜ q ≡ record {
+      sweeps = counts .sweeps;
+      «exact_passes» = counts .passes;
+      converged = converged;
+      exact = exact;
+      residual = residual;
+      idle = idle;
+    } ⌝ }
+{
+    BoxReport {
+        sweeps: counts.sweeps,
+        exact_passes: counts.passes,
+        converged,
+        exact,
+        residual,
+        idle,
+    }
+}
+
+// The answer of a solve that ended so, of whose rows so many are Idle.
+pub fn answer(
     w: &[f64],
     u_free: &[f64],
     lo: &[f64],
@@ -81,58 +96,36 @@ pub fn finish(
     scale: &[f64],
     states: &mut [u8],
     nu: &[f64],
-    standing: Standing,
-    passes: u32,
+    progress: Progress,
     idle: u32,
 ) -> BoxAnswer
-    ensures { λ r. ⌜ (r ≡ private.finishedAnswer cap (box.problem (now (w .entry)) (now («u_free» .entry)) (now (lo .entry)) (now (hi .entry)) (now (scale .entry))) idle standing (def.stand (now (nu .entry)) (now (states .entry)) passes)) × (now (states .exit) ≡ private.finishedStates (box.problem (now (w .entry)) (now («u_free» .entry)) (now (lo .entry)) (now (hi .entry)) (now (scale .entry))) standing (def.stand (now (nu .entry)) (now (states .entry)) passes)) ⌝ }
+    requires { ⌜ lists.Sized (length (now «u_free»)) (now w) (now lo) (now hi) (now scale)
+        × (length (now states) ≡ length (now «u_free»)) × (length (now nu) ≡ length (now «u_free»)) ⌝ }
+    ensures { λ q. ⌜ ((r : def.Run) (l₀ l : List ℕ)
+        → private.Ran r l₀ (progress .sweeping) (now (nu .entry)) (now (states .entry)) (progress .counts) l
+        → private.Finished
+        (def.result
+        (box.problem (now (w .entry)) (now («u_free» .entry)) (now (lo .entry)) (now (hi .entry)) (now (scale .entry)))
+        idle l₀ r)
+        q (now (nu .entry)) (now (states .exit)) l) ⌝ }
 {
-    match standing {
-        Standing::Going => unfound(
-            w,
-            u_free,
-            lo,
-            hi,
-            scale,
-            states,
-            nu,
-            passes,
-            cap,
-            false,
-            idle,
-        ),
-        Standing::Still(k) => unfound(w, u_free, lo, hi, scale, states, nu, passes, k, true, idle),
-        Standing::Exact(k) => BoxAnswer::Solved(report(
-            w,
-            u_free,
-            lo,
-            hi,
-            scale,
-            states,
-            nu,
-            passes,
-            k,
-            true,
-            true,
-            idle,
-        )),
-        Standing::Fight(k, cause, count) => BoxAnswer::Infeasible(
+    let residual = tests::residual(w, u_free, lo, hi, scale, states, nu);
+    let s = progress.sweeping;
+    let c = progress.counts;
+    match s {
+        Sweeping::Exact => BoxAnswer::Solved(report(c, true, true, residual, idle)),
+        Sweeping::Going => {
+            classify(lo, hi, scale, nu, states);
+            BoxAnswer::Solved(report(c, false, false, residual, idle))
+        }
+        Sweeping::Converged => {
+            classify(lo, hi, scale, nu, states);
+            BoxAnswer::Solved(report(c, true, false, residual, idle))
+        }
+        Sweeping::Infeasible(cause, k) => BoxAnswer::Infeasible(
             cause,
-            count,
-            report(
-                w,
-                u_free,
-                lo,
-                hi,
-                scale,
-                states,
-                nu,
-                passes,
-                k,
-                false,
-                false,
-                idle,
-            ),
+            k,
+            report(c, false, false, residual, idle),
         ),
     }
 }

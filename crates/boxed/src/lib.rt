@@ -1,18 +1,30 @@
-// The box solver of boxed.rs: sweeps with their tests, exact passes at the checkpoints, and what a solve reports and leaves.
+// The box solver of boxed.rs: sweeps with their tests, exact passes at the checkpoints, and what a solve reports and
+// leaves.
 ghost use mathlib.Core.Path.{_≡_};
 ghost use Prim.Native.Nat.{_≤_};
-ghost use lib.ListN.{length, drop, take};
-ghost use Rattle.sweep.specs.Rows as box;
-ghost use Rattle.boxed.specs.Solves as def;
+ghost use lib.ListN.{length, take};
+ghost use Rattle.box_rows.specs.Rows as box;
+ghost use Rattle.box_rows.specs.Private as lists;
+ghost use Rattle.boxed.specs.Solve as def;
 ghost use Rattle.boxed.specs.Private as private;
 
-// The steps of a solve.
+// The steps of a solve, in their order.
 mod checkpoints;
 mod ending;
-mod pass;
+mod growth;
+mod read;
 mod refusal;
+mod run;
+mod start;
+mod sweep;
 mod tests;
-mod turns;
+
+// The most rows of a problem, the most values of its motion, and the fewest of its workspace.
+pub const MAX_ROWS: usize = 32;
+
+pub const MAX_MOTION: usize = 2048;
+
+pub const WORKSPACE: usize = 2304;
 
 // The most sweeps one solve runs.
 pub const SWEEP_CAP: u32 = 200;
@@ -43,55 +55,42 @@ pub struct BoxReport {
     pub idle: u32,
 }
 
-// How a solve ended: the multipliers are in the caller's slice; or no motion meets every row, and so many rows at the front of the row list fight; or it was
-// refused with document 01's number.
+// How a solve ended: the multipliers are in the caller's slice; or no motion meets every row, and so many rows at the
+// front of the row list fight; or it was refused with document 01's number.
 pub enum BoxAnswer {
     Solved(BoxReport),
     Infeasible(Cause, usize, BoxReport),
     Refused(u32),
 }
 
-// How a solve stands after a sweep: it goes on, or it ended there, at the sweep told.
-pub enum Standing {
+// How a solve goes on after a sweep: with the next one; or it ended, by a pass that found the solution, by its own
+// tests, or as no motion meets every row.
+pub enum Sweeping {
     Going,
-    Exact(u32),
-    Still(u32),
-    Fight(u32, Cause, usize),
+    Exact,
+    Converged,
+    Infeasible(Cause, usize),
 }
 
-// The same with the exact passes tried so far.
-pub struct Progress {
-    pub standing: Standing,
+// What a solve has counted so far.
+pub struct Counts {
+    pub sweeps: u32,
     pub passes: u32,
 }
 
-// ---- the whole
-
-// The multipliers and states before the first sweep; how many rows are Idle.
-fn start(w: &[f64], n: usize, lo: &[f64], hi: &[f64], states: &mut [u8], nu: &mut [f64]) -> usize
-    ensures { λ r. ⌜ (r ≡ length (box.idleTo (now (w .entry)) n n)) × (now (nu .exit) ≡ box.begunTo (now (w .entry)) n (now (lo .entry)) (now (hi .entry)) (now (nu .entry)) n) × (now (states .exit) ≡ box.markedTo (now (w .entry)) n (now (states .entry)) n) ⌝ }
-{
-    sweep::begin(w, n, lo, hi, nu);
-    sweep::mark(w, n, states);
-    sweep::idle(w, n)
+pub struct Progress {
+    pub sweeping: Sweeping,
+    pub counts: Counts,
 }
 
-// All rows Idle: nothing to solve.
-fn nothing(idle: u32) -> BoxReport
-    ensures { λ r. ⌜ r ≡ def.nothing idle ⌝ }
-{
-    BoxReport {
-        sweeps: 0,
-        exact_passes: 0,
-        converged: true,
-        exact: true,
-        residual: 0.0,
-        idle,
-    }
+// The most sweeps that a solve may run, and the motion at which it tests whether it is done.
+pub struct Limits {
+    pub cap: u32,
+    pub tolerance: f64,
 }
 
-// The sweeps of a solve and its end, over scratch of its own. So many rows are Idle, not all.
-fn sweeps_from(
+// The solve of a call that is not refused: every list has n values.
+fn solve_rows(
     w: &[f64],
     u_free: &[f64],
     lo: &[f64],
@@ -99,94 +98,53 @@ fn sweeps_from(
     scale: &[f64],
     motion: &[f64],
     tolerance: f64,
-    states: &mut [u8],
     nu: &mut [f64],
+    states: &mut [u8],
     rows: &mut [usize],
     work: &mut [f64],
-    idle: u32,
 ) -> BoxAnswer
-    requires { ⌜ (length (now «u_free») ≤ 32) × (length (now nu) ≡ length (now «u_free»)) × (1056 ≤ length (now work)) ⌝ }
-    ensures { λ r. ⌜ private.Finished (def.result def.SWEEP_CAP (box.problem (now (w .entry)) (now («u_free» .entry)) (now (lo .entry)) (now (hi .entry)) (now (scale .entry))) idle (now (rows .entry)) (def.run def.SWEEP_CAP (box.problem (now (w .entry)) (now («u_free» .entry)) (now (lo .entry)) (now (hi .entry)) (now (scale .entry))) (def.watch (now (motion .entry)) tolerance) (def.stand (now (nu .entry)) (now (states .entry)) 0) def.SWEEP_CAP)) r (now (nu .exit)) (now (states .exit)) (now (rows .exit)) × (drop 1056 (now (work .exit)) ≡ drop 1056 (now (work .entry))) ⌝ }
+    requires { ⌜ lists.Sized (length (now «u_free»)) (now w) (now lo) (now hi) (now scale)
+        × (length (now states) ≡ length (now «u_free»)) × (length (now nu) ≡ length (now «u_free»))
+        × (length (now «u_free») ≤ length (now rows)) × (1152 ≤ length (now work)) ⌝ }
+    ensures { λ q. ⌜
+        private.Finished
+        (def.solve def.SWEEP_CAP
+        (box.problem (now (w .entry)) (now («u_free» .entry)) (now (lo .entry)) (now (hi .entry)) (now (scale .entry)))
+        (def.watch (now (motion .entry)) tolerance)
+        (now (nu .entry)) (now (states .entry)) (now (rows .entry)))
+        q (now (nu .exit)) (now (states .exit)) (now (rows .exit))
+        × (private.beyond (now (work .exit)) ≡ private.beyond (now (work .entry))) ⌝ }
 {
-    let n = u_free.len();
-    let mut before = [0.0f64; 32];
-    let mut trial = [0.0f64; 32];
-    let mut y = [0.0f64; 32];
-    let g = turns::run(
-        SWEEP_CAP,
+    let n = nu.len();
+    let idle = start::start(w, lo, hi, states, nu);
+    if idle == n {
+        return BoxAnswer::Solved(ending::nothing(idle as u32));
+    }
+    let limits = Limits {
+        cap: SWEEP_CAP,
+        tolerance,
+    };
+    let p = run::run(
+        limits,
         w,
         u_free,
         lo,
         hi,
         scale,
         motion,
-        tolerance,
         states,
         nu,
-        &mut before[..n],
-        &mut trial[..n],
-        &mut y[..n],
         rows,
         work,
     );
-    let s = g.standing;
-    ending::finish(
-        SWEEP_CAP,
-        w,
-        u_free,
-        lo,
-        hi,
-        scale,
-        states,
-        nu,
-        s,
-        g.passes,
-        idle,
-    )
-}
-
-// The solve of a call that is not refused.
-fn solve_in(
-    w: &[f64],
-    u_free: &[f64],
-    lo: &[f64],
-    hi: &[f64],
-    scale: &[f64],
-    motion: &[f64],
-    tolerance: f64,
-    nu: &mut [f64],
-    states: &mut [u8],
-    rows: &mut [usize],
-    work: &mut [f64],
-) -> BoxAnswer
-    requires { ⌜ (length (now «u_free») ≤ 32) × (length (now nu) ≡ length (now «u_free»)) × (1056 ≤ length (now work)) ⌝ }
-    ensures { λ r. ⌜ private.Finished (def.solve def.SWEEP_CAP (box.problem (now (w .entry)) (now («u_free» .entry)) (now (lo .entry)) (now (hi .entry)) (now (scale .entry))) (def.watch (now (motion .entry)) tolerance) (now (nu .entry)) (now (states .entry)) (now (rows .entry))) r (now (nu .exit)) (now (states .exit)) (now (rows .exit)) × (drop 1056 (now (work .exit)) ≡ drop 1056 (now (work .entry))) ⌝ }
-{
-    let n = u_free.len();
-    let idle = start(w, n, lo, hi, states, nu);
-    if idle == n {
-        return BoxAnswer::Solved(nothing(idle as u32));
-    }
-    sweeps_from(
-        w,
-        u_free,
-        lo,
-        hi,
-        scale,
-        motion,
-        tolerance,
-        states,
-        nu,
-        rows,
-        work,
-        idle as u32,
-    )
+    ending::answer(w, u_free, lo, hi, scale, states, nu, p, idle as u32)
 }
 
 pub struct BoxSolver {}
 
 impl BoxSolver {
-    // The number with which `solve` refuses such a call, 5 to 10, or 0 where it takes it. `room` is the workspace's length.
+    // The number with which `solve` refuses such a call, 5 to 10, or 0 where it takes it. `room` is the workspace's
+    // length.
     pub fn refusal(
         w: &[f64],
         u_free: &[f64],
@@ -199,13 +157,17 @@ impl BoxSolver {
         rows: &[usize],
         room: usize,
     ) -> u32
-        ensures { λ r. ⌜ r ≡ def.refusal (box.problem (now (w .entry)) (now («u_free» .entry)) (now (lo .entry)) (now (hi .entry)) (now (scale .entry))) (now (motion .entry)) (now (nu .entry)) (now (states .entry)) (now (rows .entry)) room ⌝ }
+        ensures { λ r. ⌜ r ≡ def.refusal
+            (box.problem (now (w .entry)) (now («u_free» .entry)) (now (lo .entry)) (now (hi .entry))
+            (now (scale .entry)))
+            (now (motion .entry)) (now (nu .entry)) (now (states .entry)) (now (rows .entry)) room ⌝ }
     {
         refusal::refusal(w, u_free, lo, hi, scale, motion, nu, states, rows, room)
     }
 
-    // From the multipliers in nu, those that solve the problem, in their place, with a state for each row; or the rows that fight at the front of the row
-    // list; or document 01's number, and nothing is changed. The first 2,304 values of the workspace are free after a call that is not refused.
+    // From the multipliers in nu, those that solve the problem, in their place, with a state for each row; or the rows
+    // that fight at the front of the row list; or document 01's number, and nothing is changed. The first 2,304 values
+    // of the workspace are free after a call that is not refused.
     pub fn solve(
         w: &[f64],
         u_free: &[f64],
@@ -222,17 +184,30 @@ impl BoxSolver {
         ensures { λ r. ⌜
             def.Left
             (def.solveReply
-            (box.problem (now (w .entry)) (now («u_free» .entry)) (now (lo .entry)) (now (hi .entry)) (now (scale .entry)))
+            (box.problem (now (w .entry)) (now («u_free» .entry)) (now (lo .entry)) (now (hi .entry))
+            (now (scale .entry)))
             (def.watch (now (motion .entry)) tolerance)
             (now (nu .entry)) (now (states .entry)) (now (rows .entry)) (length (now (workspace .entry))))
-            r (now (nu .exit)) (now (states .exit)) (now (rows .exit)) (now (workspace .entry)) (now (workspace .exit)) ⌝ }
+            r (now (nu .exit)) (now (states .exit)) (now (rows .exit))
+            (now (workspace .entry)) (now (workspace .exit)) ⌝ }
     {
-        let room = workspace.len();
-        let number = refusal::refusal(w, u_free, lo, hi, scale, motion, nu, states, rows, room);
+        let n = u_free.len();
+        let number = refusal::refusal(
+            w,
+            u_free,
+            lo,
+            hi,
+            scale,
+            motion,
+            nu,
+            states,
+            rows,
+            workspace.len(),
+        );
         if number != 0 {
             return BoxAnswer::Refused(number);
         }
-        solve_in(
+        solve_rows(
             w,
             u_free,
             lo,
@@ -241,7 +216,7 @@ impl BoxSolver {
             motion,
             tolerance,
             nu,
-            states,
+            &mut states[..n],
             rows,
             workspace,
         )

@@ -5,17 +5,18 @@ ghost use Prim.Native.Nat.{_*_, _%_, _≤_};
 ghost use lib.Dec.{ltb, eqb};
 ghost use lib.ListN.{length};
 ghost use Rattle.loops.specs.Loops as loop;
-ghost use Rattle.sweep.specs.Rows as box;
-ghost use Rattle.boxed.specs.Solves as def;
+ghost use Rattle.box_rows.specs.Rows as box;
+ghost use Rattle.boxed.specs.Solve as def;
+use crate::read;
 
 // 5: more than 32 rows, or motion of more than 2,048 values.
 fn too_large(n: usize, motion: usize) -> bool
     ensures { λ r. ⌜ r ≡ (ltb 32 n || ltb 2048 motion) ⌝ }
 {
-    if 32 < n {
+    if crate::MAX_ROWS < n {
         return true;
     }
-    2048 < motion
+    crate::MAX_MOTION < motion
 }
 
 // 6: W is not n by n.
@@ -53,12 +54,13 @@ fn good_scale(s: f64) -> bool
 }
 
 fn good_scales(scale: &[f64], n: usize) -> bool
+    requires { ⌜ length (now scale) ≡ n ⌝ }
     ensures { λ r. ⌜ r ≡ loop.every (def.goodScaleAt (now (scale .entry))) n ⌝ }
 {
     let mut good = true;
     let mut i = 0;
     while i < n {
-        good = good & good_scale(cells::at(scale, i));
+        good = good & good_scale(read::at(scale, i));
         i += 1;
     }
     good
@@ -78,7 +80,7 @@ fn uneven(motion: usize, n: usize) -> bool
 fn too_short(room: usize, states: usize, rows: usize, n: usize) -> bool
     ensures { λ r. ⌜ r ≡ (ltb room 2304 || ltb states n || ltb rows n) ⌝ }
 {
-    if room < 2304 {
+    if room < crate::WORKSPACE {
         return true;
     }
     if states < n {
@@ -100,7 +102,9 @@ pub fn refusal(
     rows: &[usize],
     room: usize,
 ) -> u32
-    ensures { λ r. ⌜ r ≡ def.refusal (box.problem (now (w .entry)) (now («u_free» .entry)) (now (lo .entry)) (now (hi .entry)) (now (scale .entry))) (now (motion .entry)) (now (nu .entry)) (now (states .entry)) (now (rows .entry)) room ⌝ }
+    ensures { λ r. ⌜ r ≡ def.refusal
+        (box.problem (now (w .entry)) (now («u_free» .entry)) (now (lo .entry)) (now (hi .entry)) (now (scale .entry)))
+        (now (motion .entry)) (now (nu .entry)) (now (states .entry)) (now (rows .entry)) room ⌝ }
 {
     let n = u_free.len();
     if too_large(n, motion.len()) {

@@ -1,47 +1,160 @@
-// The tests after a sweep: growth, the motion that is watched, the residual and the ray.
+// The tests after a sweep: whether the motion has stopped, whether a residual is left, and whether the multipliers
+// still move along a ray.
 ghost use mathlib.Core.Path.{_≡_};
-ghost use mathlib.Core.List.{List};
-ghost use Prim.Native.Nat.{ℕ, _≤_};
+ghost use Prim.Native.Nat.{_/_, _≤_, _<_};
 ghost use lib.ListN.{length};
-ghost use Rattle.sweep.specs.Rows as box;
-ghost use Rattle.boxed.specs.Solves as def;
+ghost use Rattle.box_rows.specs.Rows as box;
+ghost use Rattle.box_rows.specs.Private as lists;
+ghost use Rattle.exact_pass.specs.Ray.{ray};
+ghost use Rattle.boxed.specs.Sweep as def;
+ghost use Rattle.boxed.specs.Solve as solve;
 ghost use Rattle.boxed.specs.Private as private;
+ghost use Rattle.boxed.specs.declared.Counts.{Counts};
+ghost use Rattle.boxed.specs.declared.Cause.the-variants as cause;
 use crate::Cause;
-use crate::Progress;
-use crate::Standing;
+use crate::Sweeping;
+use crate::read;
 
-// So many rows fight, or the solve goes on.
-fn unless(cause: Cause, k: u32, count: usize, passes: u32) -> Progress
-    ensures { λ r. ⌜ r ≡ private.unlessOf cause k count passes ⌝ }
-{
-    if count == 0 {
-        return Progress {
-            standing: Standing::Going,
-            passes,
-        };
-    }
-    Progress {
-        standing: Standing::Fight(k, cause, count),
-        passes,
-    }
-}
-
-// Growth at sweep k: the rows past a million scales are listed.
-pub fn grow(
+fn residual_row(
+    w: &[f64],
+    u_free: &[f64],
+    lo: &[f64],
+    hi: &[f64],
     scale: &[f64],
-    n: usize,
+    states: &[u8],
     nu: &[f64],
-    rows: &mut [usize],
-    k: u32,
-    passes: u32,
-) -> Progress
-    ensures { λ r. ⌜ ((st : List ℕ) → private.Ran (def.unlessGrown (now (scale .entry)) n k (def.stand (now (nu .entry)) st passes)) (now (rows .entry)) r (now (nu .entry)) st (now (rows .exit))) × (r .passes ≡ passes) ⌝ }
+    i: usize,
+    worst: f64,
+) -> f64
+    requires { ⌜ lists.Sized (length (now «u_free»)) (now w) (now lo) (now hi) (now scale)
+        × (length (now states) ≡ length (now «u_free»)) × (length (now nu) ≡ length (now «u_free»))
+        × (i < length (now «u_free»)) ⌝ }
+    ensures { λ q. ⌜ q ≡ def.residualRow
+        (box.problem (now (w .entry)) (now («u_free» .entry)) (now (lo .entry)) (now (hi .entry)) (now (scale .entry)))
+        (now (states .entry)) (now (nu .entry)) i worst ⌝ }
 {
-    unless(Cause::Growth, k, sweep::grown(nu, scale, n, rows), passes)
+    if read::state(states, i) == box_rows::IDLE {
+        return worst;
+    }
+    let row = read::row(w, u_free.len(), i);
+    let u = box_rows::row_sum(row, read::at(u_free, i), nu);
+    let r = box_rows::natural_residual(
+        read::at(nu, i),
+        u,
+        read::at(row, i),
+        read::at(lo, i),
+        read::at(hi, i),
+        read::at(scale, i),
+    );
+    floats::larger(worst, r)
 }
 
-// The motion test, the residual test and the ray, after sweep k from the multipliers `before`.
-pub fn test(
+// The largest natural residual over the rows that act.
+pub fn residual(
+    w: &[f64],
+    u_free: &[f64],
+    lo: &[f64],
+    hi: &[f64],
+    scale: &[f64],
+    states: &[u8],
+    nu: &[f64],
+) -> f64
+    requires { ⌜ lists.Sized (length (now «u_free»)) (now w) (now lo) (now hi) (now scale)
+        × (length (now states) ≡ length (now «u_free»)) × (length (now nu) ≡ length (now «u_free»)) ⌝ }
+    ensures { λ q. ⌜ q ≡ def.residual
+        (box.problem (now (w .entry)) (now («u_free» .entry)) (now (lo .entry)) (now (hi .entry)) (now (scale .entry)))
+        (now (states .entry)) (now (nu .entry)) (length (now («u_free» .entry))) ⌝ }
+{
+    let n = u_free.len();
+    let mut worst = 0.0;
+    let mut i = 0;
+    while i < n {
+        worst = residual_row(w, u_free, lo, hi, scale, states, nu, i, worst);
+        i += 1;
+    }
+    worst
+}
+
+// How far a coordinate moved, of which `row` has the motion for a unit multiplier of each row.
+fn coordinate(row: &[f64], nu: &[f64], before: &[f64]) -> f64
+    requires { ⌜ (length (now row) ≡ length (now nu)) × (length (now before) ≡ length (now nu)) ⌝ }
+    ensures { λ q. ⌜
+        q ≡ def.coordinate (now (row .entry)) (now (nu .entry)) (now (before .entry)) (length (now (nu .entry))) ⌝ }
+{
+    let n = nu.len();
+    let mut s = 0.0;
+    let mut i = 0;
+    while i < n {
+        s = s + read::at(row, i) * (read::at(nu, i) - read::at(before, i));
+        i += 1;
+    }
+    s
+}
+
+// The most that a coordinate moved.
+fn moved(motion: &[f64], nu: &[f64], before: &[f64]) -> f64
+    requires { ⌜ (length (now before) ≡ length (now nu)) × (0 < length (now nu)) ⌝ }
+    ensures { λ q. ⌜ q ≡ def.moved (now (motion .entry)) (now (nu .entry)) (now (before .entry))
+        (length (now (motion .entry)) / length (now (nu .entry))) ⌝ }
+{
+    let n = nu.len();
+    let coords = motion.len() / n;
+    let mut worst = 0.0;
+    let mut c = 0;
+    while c < coords {
+        let s = coordinate(read::row(motion, n, c), nu, before);
+        worst = floats::larger(worst, floats::abs(s));
+        c += 1;
+    }
+    worst
+}
+
+// In y the direction in which the multipliers moved.
+fn change(nu: &[f64], before: &[f64], y: &mut [f64])
+    requires { ⌜ (length (now before) ≡ length (now nu)) × (length (now y) ≡ length (now nu)) ⌝ }
+    ensures { λ q. ⌜ now (y .exit) ≡ def.change (now (nu .entry)) (now (before .entry)) (length (now (nu .entry))) ⌝ }
+{
+    let n = nu.len();
+    let mut i = 0;
+    while i < n {
+        read::put(y, i, read::at(nu, i) - read::at(before, i));
+        i += 1;
+    }
+}
+
+fn ray_test(
+    w: &[f64],
+    u_free: &[f64],
+    lo: &[f64],
+    hi: &[f64],
+    scale: &[f64],
+    states: &[u8],
+    nu: &[f64],
+    before: &[f64],
+    rows: &mut [usize],
+) -> Sweeping
+    requires { ⌜ lists.Sized (length (now «u_free»)) (now w) (now lo) (now hi) (now scale)
+        × (length (now states) ≡ length (now «u_free»)) × (length (now nu) ≡ length (now «u_free»))
+        × (length (now before) ≡ length (now «u_free»)) × (length (now «u_free») ≤ length (now rows)) ⌝ }
+    ensures { λ q. ⌜ ((c : Counts) → private.Ran
+        (solve.unless cause.Sweep (solve.iterate (now (nu .entry)) (now (states .entry)) c)
+        (ray
+        (box.problem (now (w .entry)) (now («u_free» .entry)) (now (lo .entry)) (now (hi .entry)) (now (scale .entry)))
+        (now (states .entry)) (def.change (now (nu .entry)) (now (before .entry)) (length (now («u_free» .entry))))))
+        (now (rows .entry)) q (now (nu .entry)) (now (states .entry)) c (now (rows .exit))) ⌝ }
+{
+    let n = u_free.len();
+    let mut y = [0.0f64; 32];
+    change(nu, before, &mut y[..n]);
+    let c = exact_pass::ray(w, u_free, lo, hi, scale, states, &y[..n], rows);
+    if c == 0 {
+        return Sweeping::Going;
+    }
+    Sweeping::Infeasible(Cause::Sweep, c)
+}
+
+// `before` has the multipliers before the sweep.
+pub fn tests(
     w: &[f64],
     u_free: &[f64],
     lo: &[f64],
@@ -49,34 +162,27 @@ pub fn test(
     scale: &[f64],
     motion: &[f64],
     tolerance: f64,
-    before: &[f64],
     states: &[u8],
     nu: &[f64],
-    y: &mut [f64],
+    before: &[f64],
     rows: &mut [usize],
-    k: u32,
-    passes: u32,
-) -> Progress
-    requires { ⌜ (length (now «u_free») ≤ 32) × (length (now y) ≡ length (now «u_free»)) ⌝ }
-    ensures { λ r. ⌜ private.Ran (def.tested (box.problem (now (w .entry)) (now («u_free» .entry)) (now (lo .entry)) (now (hi .entry)) (now (scale .entry))) (def.watch (now (motion .entry)) tolerance) k (now (before .entry)) (def.going (def.stand (now (nu .entry)) (now (states .entry)) passes))) (now (rows .entry)) r (now (nu .entry)) (now (states .entry)) (now (rows .exit)) × (r .passes ≡ passes) ⌝ }
+) -> Sweeping
+    requires { ⌜ lists.Sized (length (now «u_free»)) (now w) (now lo) (now hi) (now scale)
+        × (length (now states) ≡ length (now «u_free»)) × (length (now nu) ≡ length (now «u_free»))
+        × (length (now before) ≡ length (now «u_free»)) × (length (now «u_free») ≤ length (now rows))
+        × (0 < length (now «u_free»)) ⌝ }
+    ensures { λ q. ⌜ ((c : Counts) → private.Ran
+        (solve.tested
+        (box.problem (now (w .entry)) (now («u_free» .entry)) (now (lo .entry)) (now (hi .entry)) (now (scale .entry)))
+        (solve.watch (now (motion .entry)) tolerance) (now (before .entry))
+        (solve.going (solve.iterate (now (nu .entry)) (now (states .entry)) c)))
+        (now (rows .entry)) q (now (nu .entry)) (now (states .entry)) c (now (rows .exit))) ⌝ }
 {
-    if sweep::motion_of(motion, nu, before) <= tolerance {
-        if sweep::residual(w, u_free, lo, hi, scale, states, nu) <= sweep::EXACT_RESIDUAL {
-            return Progress {
-                standing: Standing::Still(k),
-                passes,
-            };
+    if moved(motion, nu, before) <= tolerance {
+        if residual(w, u_free, lo, hi, scale, states, nu) <= exact_pass::EXACT_RESIDUAL {
+            return Sweeping::Converged;
         }
-        sweep::way(nu, before, y);
-        return unless(
-            Cause::Sweep,
-            k,
-            ray::ray(w, u_free, lo, hi, scale, states, y, rows),
-            passes,
-        );
+        return ray_test(w, u_free, lo, hi, scale, states, nu, before, rows);
     }
-    Progress {
-        standing: Standing::Going,
-        passes,
-    }
+    Sweeping::Going
 }

@@ -13,24 +13,24 @@ use Rattle.report.specs.declared.SolveReport.{SolveReport}
 use Rattle.tally.specs.Tally.{Call, tallied}
 use Rattle.tallied.specs.Joining.{Entered}
 use Rattle.tallied.specs.declared.Tallied.{Tallied}
-use Rattle.capi.specs.Solves as solve
+use Rattle.capi.specs.Solves as plain
 use Rattle.capi.specs.Tallies as def
 use Rattle.capi.proofs.Solving as solving
 
 module _ (tally : List ℕ) (kept : List Float) (counts : List ℕ) (residual : List Float) (h : def.taken tally kept counts residual ≡ true) where
   pub nine : 9 ≤ length tally
   unfolding def.taken
-  nine = leb-true 9 (length tally) (both-true (leb 9 (length tally)) (leb 1 (length kept) && solve.taken counts residual) h .0)
+  nine = leb-true 9 (length tally) (both-true (leb 9 (length tally)) (leb 1 (length kept) && plain.taken counts residual) h .0)
 
-  one-and : leb 1 (length kept) && solve.taken counts residual ≡ true
+  one-and : leb 1 (length kept) && plain.taken counts residual ≡ true
   unfolding def.taken
-  one-and = both-true (leb 9 (length tally)) (leb 1 (length kept) && solve.taken counts residual) h .1
+  one-and = both-true (leb 9 (length tally)) (leb 1 (length kept) && plain.taken counts residual) h .1
 
   pub one : 1 ≤ length kept
-  one = leb-true 1 (length kept) (both-true (leb 1 (length kept)) (solve.taken counts residual) one-and .0)
+  one = leb-true 1 (length kept) (both-true (leb 1 (length kept)) (plain.taken counts residual) one-and .0)
 
   pub room : (7 ≤ length counts) × (1 ≤ length residual)
-  room = solving.room counts residual (both-true (leb 1 (length kept)) (solve.taken counts residual) one-and .1)
+  room = solving.room counts residual (both-true (leb 1 (length kept)) (plain.taken counts residual) one-and .1)
 
 module _ (t : SolveReport) (c : Call) (tally : List ℕ) (kept : List Float) (counts : List ℕ) (residual : List Float) where
   pub no-room : (w : List Float) → def.taken tally kept counts residual ≡ false
@@ -46,7 +46,7 @@ module _ (t : SolveReport) (c : Call) (tally : List ℕ) (kept : List Float) (co
   -- the solve is given the tally that was read, and the number r of the call is that of the answer
   pub answered : (t′ : SolveReport) (s : Tallied) (k r : ℕ) (nu′ : List Float) (st′ q′ counts′ : List ℕ) (residual′ : List Float) (tally′ : List ℕ) (kept′ w w′ : List Float)
       → def.taken tally kept counts residual ≡ true → t′ ≡ t → Entered (tallied t′ c) (s .tally) (s .answer) nu′ st′ q′ w w′
-      → k ≡ solve.number (s .answer) → counts′ ≡ solve.countsLeft (s .answer) counts → residual′ ≡ solve.residualLeft (s .answer) residual
+      → k ≡ plain.number (s .answer) → counts′ ≡ plain.countsLeft (s .answer) counts → residual′ ≡ plain.residualLeft (s .answer) residual
       → r ≡ k → tally′ ≡ def.countsKept k (s .tally) tally → kept′ ≡ def.residualKept k (s .tally) kept
       → def.Answered (def.reply (def.taken tally kept counts residual) t c) r tally tally′ kept kept′ nu′ st′ q′ counts counts′ residual residual′ w w′
   unfolding def.reply
@@ -55,12 +55,12 @@ module _ (t : SolveReport) (c : Call) (tally : List ℕ) (kept : List Float) (co
       let l = x .left in
       rw h (record {
         answer-is = record {
-          number-is = same ∙ n ∙ ap solve.number (l .answer);
+          number-is = same ∙ n ∙ ap plain.number (l .answer);
           nu-is = l .multipliers;
           states-are = l .states;
           rows-are = l .listed;
-          counts-are = e ∙ ap (λ (y : BoxAnswer). solve.countsLeft y counts) (l .answer);
-          residual-is = f ∙ ap (λ (y : BoxAnswer). solve.residualLeft y residual) (l .answer);
+          counts-are = e ∙ ap (λ (y : BoxAnswer). plain.countsLeft y counts) (l .answer);
+          residual-is = f ∙ ap (λ (y : BoxAnswer). plain.residualLeft y residual) (l .answer);
           workspace-left = l .workspace;
         };
         tally-is = rw (same, ← x .tally) a;

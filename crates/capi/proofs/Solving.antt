@@ -8,9 +8,9 @@ use lib.ListN.{length}
 use lib.Ieee.{Float}
 use borrow.Author.Tests.{leb-true}
 use Rattle.loops.proofs.Every.{both-true}
-use Rattle.sweep.specs.Rows.{Problem}
-use Rattle.boxed.specs.Solves as box
-use Rattle.boxed.specs.Solves.{Left}
+use Rattle.box_rows.specs.Rows.{Problem}
+use Rattle.boxed.specs.Solve as solve
+use Rattle.boxed.specs.Solve.{Left}
 use Rattle.boxed.specs.declared.BoxAnswer.{BoxAnswer}
 use Rattle.capi.specs.Solves as def
 
@@ -20,13 +20,13 @@ room counts residual h =
     let x = both-true (leb 7 (length counts)) (leb 1 (length residual)) h in
     (leb-true 7 (length counts) (x .0), leb-true 1 (length residual) (x .1))
 
-module _ (p : Problem) (m : box.Watch) (nu : List Float) (st q : List ℕ) (room : ℕ) (counts : List ℕ) (residual : List Float) where
+module _ (p : Problem) (m : solve.Watch) (nu : List Float) (st q : List ℕ) (room : ℕ) (counts : List ℕ) (residual : List Float) where
   pub no-room : (w : List Float) → def.taken counts residual ≡ false → def.Answered (def.reply (def.taken counts residual) p m nu st q room) 10 nu st q counts counts residual residual w w
   unfolding def.reply
   no-room w h = rw h (record { number-is = refl; nu-is = refl; states-are = refl; rows-are = refl; counts-are = refl; residual-is = refl; workspace-left = refl })
 
   pub answered : (a : BoxAnswer) (r : ℕ) (nu′ : List Float) (st′ q′ counts′ : List ℕ) (residual′ w w′ : List Float) → def.taken counts residual ≡ true
-      → Left (box.solveReply p m nu st q room) a nu′ st′ q′ w w′ → r ≡ def.number a → counts′ ≡ def.countsLeft a counts → residual′ ≡ def.residualLeft a residual
+      → Left (solve.solveReply p m nu st q room) a nu′ st′ q′ w w′ → r ≡ def.number a → counts′ ≡ def.countsLeft a counts → residual′ ≡ def.residualLeft a residual
       → def.Answered (def.reply (def.taken counts residual) p m nu st q room) r nu′ st′ q′ counts counts′ residual residual′ w w′
   unfolding def.reply
   answered a r nu′ st′ q′ counts′ residual′ w w′ h l e c s =

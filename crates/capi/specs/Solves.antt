@@ -6,8 +6,8 @@ use mathlib.Core.List.{List}
 use lib.Dec.{leb}
 use lib.ListN.{set, length, drop}
 use lib.Ieee.{Float}
-use Rattle.sweep.specs.Rows.{Problem}
-use Rattle.boxed.specs.Solves as box
+use Rattle.box_rows.specs.Rows.{Problem}
+use Rattle.boxed.specs.Solve as solve
 use Rattle.boxed.specs.declared.Cause.{Cause}
 use Rattle.boxed.specs.declared.Cause.the-variants as cause
 use Rattle.boxed.specs.declared.BoxReport.{BoxReport}
@@ -46,16 +46,16 @@ residualLeft (Refused k) l = l
 unfoldable pub taken : List ℕ → List Float → Bool
 taken counts residual = leb 7 (length counts) && leb 1 (length residual)
 
-unfoldable pub reply : Bool → Problem → box.Watch → List Float → List ℕ → List ℕ → ℕ → box.Result
-reply true p m nu st q room = box.solveReply p m nu st q room
-reply false p m nu st q room = record { outcome = box.refused 10; nu = nu; states = st; listed = q }
+unfoldable pub reply : Bool → Problem → solve.Watch → List Float → List ℕ → List ℕ → ℕ → solve.Result
+reply true p m nu st q room = solve.solveReply p m nu st q room
+reply false p m nu st q room = record { outcome = solve.refused 10; nu = nu; states = st; listed = q }
 
 -- nu, st and q are left in the multipliers, the states and the row list; of the other buffers each has what it held before and after
-pub record Answered (x : box.Result) (r : ℕ) (nu : List Float) (st q counts counts' : List ℕ) (residual residual' w w' : List Float) : Type 0 where
-  pub number-is : r ≡ number (box.answerOf (x .outcome))
+pub record Answered (x : solve.Result) (r : ℕ) (nu : List Float) (st q counts counts' : List ℕ) (residual residual' w w' : List Float) : Type 0 where
+  pub number-is : r ≡ number (solve.answerOf (x .outcome))
   pub nu-is : nu ≡ x .nu
   pub states-are : st ≡ x .states
   pub rows-are : q ≡ x .listed
-  pub counts-are : counts' ≡ countsLeft (box.answerOf (x .outcome)) counts
-  pub residual-is : residual' ≡ residualLeft (box.answerOf (x .outcome)) residual
-  pub workspace-left : drop (box.used (x .outcome)) w' ≡ drop (box.used (x .outcome)) w
+  pub counts-are : counts' ≡ countsLeft (solve.answerOf (x .outcome)) counts
+  pub residual-is : residual' ≡ residualLeft (solve.answerOf (x .outcome)) residual
+  pub workspace-left : drop (solve.used (x .outcome)) w' ≡ drop (solve.used (x .outcome)) w

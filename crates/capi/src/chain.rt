@@ -1,13 +1,15 @@
 // Chained bend files, for C and Rust.
 ghost use mathlib.Core.Path.{_≡_};
 ghost use Prim.Native.Nat.{_≤_};
-ghost use lib.ListN.{length};
+ghost use lib.ListN.{length, set};
+ghost use Rattle.loops.specs.Loops as loops;
 ghost use Rattle.capi.specs.Chains as def;
 use bend_file::chain;
 use bend_file::chain::StepReading;
 
-// How many steps a chained bend file has, in steps[0], and where the trailer of each ends, newest first, in the first 40 places of ends, with 0 past them. 0, or document 02's number, and nothing
-// is written; 10 at once where steps has no place or ends less than 40.
+// How many steps a chained bend file has, in steps[0], and where the trailer of each ends, newest first, in the first
+// 40 places of ends, with 0 past them. 0, or document 02's number, and nothing is written; 10 at once where steps has
+// no place or ends less than 40.
 #[no_mangle]
 pub extern "C" fn piskorlu_chain(file: &[u8], steps: &mut [usize], ends: &mut [usize]) -> u32
     ensures { λ r. ⌜
@@ -27,15 +29,36 @@ pub extern "C" fn piskorlu_chain(file: &[u8], steps: &mut [usize], ends: &mut [u
     }
     let found = told.ends;
     steps[0] = told.count;
-    cells::front(&found, ends);
+    front(&found, ends);
     0
+}
+
+// A number stored, where the list has the place.
+fn put(to: &mut [usize], i: usize, x: usize)
+    ensures { λ _. ⌜ now (to .exit) ≡ set (now (to .entry)) i x ⌝ }
+{
+    if i < to.len() {
+        to[i] = x;
+    }
+}
+
+// The numbers of a list at the front of another, as many as it holds.
+fn front(from: &[usize], to: &mut [usize])
+    ensures { λ _. ⌜ now (to .exit) ≡ loops.fronted (now (from .entry)) (now (to .entry)) ⌝ }
+{
+    let mut i = 0;
+    while i < from.len() {
+        put(to, i, from[i]);
+        i += 1;
+    }
 }
 
 // The answer where the file has no such step. It is no refusal.
 const NO_STEP: u32 = 4294967295;
 
-// A step of a chained bend file, counted from the newest, which is 0: its rows and coordinates in shape, its tolerance in tolerance[0], its other values at the front of the buffers. 0, or document
-// 02's number, or NO_STEP, and nothing is written; 10 at once where a slice is shorter than the largest step needs.
+// A step of a chained bend file, counted from the newest, which is 0: its rows and coordinates in shape, its tolerance
+// in tolerance[0], its other values at the front of the buffers. 0, or document 02's number, or NO_STEP, and nothing
+// is written; 10 at once where a slice is shorter than the largest step needs.
 #[no_mangle]
 pub extern "C" fn piskorlu_chain_step(
     file: &[u8],

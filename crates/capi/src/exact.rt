@@ -1,4 +1,5 @@
-// Exact row sums by plain numbers: 67 words, and two counts, how many products they hold and whether a free motion. A call that is refused writes nothing.
+// Exact row sums by plain numbers: 67 words, and two counts, how many products they hold and whether a free motion. A
+// call that is refused writes nothing.
 ghost use mathlib.Core.Path.{_≡_};
 ghost use Prim.Native.Nat.{_≤_};
 ghost use lib.ListN.{length, take};
@@ -72,7 +73,8 @@ fn state(words: &[u64], counts: &[u32]) -> Accumulator
 // What adding answered: the number, and unless it refuses, the sum left in words and counts.
 fn leave(added: Added, words: &mut [u64], counts: &mut [u32]) -> u32
     requires { ⌜ (67 ≤ length (now words)) × (2 ≤ length (now counts)) ⌝ }
-    ensures { λ r. ⌜ def.Left added r (now (words .entry)) (now (words .exit)) (now (counts .entry)) (now (counts .exit)) ⌝ }
+    ensures { λ r. ⌜ def.Left added r (now (words .entry)) (now (words .exit))
+        (now (counts .entry)) (now (counts .exit)) ⌝ }
 {
     let number = added.number;
     if number != 0 {
@@ -134,7 +136,8 @@ pub extern "C" fn piskorlu_exact_row(
 ) -> u32
     ensures { λ r. ⌜
         def.Left
-        (def.reply (def.taken (now (words .entry)) (now (counts .entry))) (exact.row u (now (w .entry)) (now (nu .entry))))
+        (def.reply (def.taken (now (words .entry)) (now (counts .entry)))
+        (exact.row u (now (w .entry)) (now (nu .entry))))
         r (now (words .entry)) (now (words .exit)) (now (counts .entry)) (now (counts .exit)) ⌝ }
 {
     if taken(words, counts) {

@@ -3,7 +3,8 @@ ghost use mathlib.Core.Path.{_≡_};
 ghost use Rattle.capi.specs.ExactNearest as def;
 use crate::exact;
 
-// The f64 nearest to what the first 67 words mean: 0, and result[0] is the value; or 10 where a slice is too short, and nothing is written.
+// The f64 nearest to what the first 67 words mean: 0, and result[0] is the value; or 10 where a slice is too short,
+// and nothing is written.
 #[no_mangle]
 pub extern "C" fn piskorlu_exact_nearest(words: &[u64], result: &mut [f64]) -> u32
     ensures { λ r. ⌜ def.Answered (now (words .entry)) r (now (result .entry)) (now (result .exit)) ⌝ }

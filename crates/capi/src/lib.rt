@@ -1,14 +1,15 @@
-// The solver's public calls for C and Rust, by plain numbers and slices: a slice passes as a pointer and then a length. include/piskorlu.h declares
-// them. Each call is total; one that cannot be taken answers document 01's number and writes nothing.
+// The solver's public calls for C and Rust, by plain numbers and slices: a slice passes as a pointer and then a
+// length. include/piskorlu.h declares them. Each call is total; one that cannot be taken answers document 01's number
+// and writes nothing.
 ghost use mathlib.Core.Path.{_≡_};
 ghost use lib.ListN.{length};
-ghost use Rattle.sweep.specs.Rows as box;
-ghost use Rattle.boxed.specs.Solves as watched;
+ghost use Rattle.box_rows.specs.Rows as box;
+ghost use Rattle.boxed.specs.Solve as solve;
 ghost use Rattle.floats.specs.Sqrt as root;
 ghost use Rattle.report.specs.Joins as join;
 ghost use Rattle.capi.specs.LeastNorm as least;
 ghost use Rattle.capi.specs.Reports as def;
-ghost use Rattle.capi.specs.Solves as solve;
+ghost use Rattle.capi.specs.Solves as plain;
 use boxed::BoxSolver;
 use least_norm::LeastNorm;
 use least_norm::Outcome;
@@ -43,7 +44,8 @@ pub extern "C" fn piskorlu_least_norm(
 ) -> u32
     ensures { λ r. ⌜
         least.Answered
-        (least.reply m n (now (a .entry)) (now (b .entry)) (now (x .entry)) (length (now (workspace .entry))) (now (rank .entry)))
+        (least.reply m n (now (a .entry)) (now (b .entry)) (now (x .entry)) (length (now (workspace .entry)))
+        (now (rank .entry)))
         r (now (a .entry)) (now (a .exit)) (now (b .entry)) (now (b .exit)) (now (x .entry)) (now (x .exit))
         (now (workspace .entry)) (now (workspace .exit)) (now (rank .entry)) (now (rank .exit)) ⌝ }
 {
@@ -84,7 +86,8 @@ pub extern "C" fn piskorlu_and(
     13
 }
 
-// One increment's report a, gone on from there as b reports, by `continued`: 0 and the report in counts and residual, or 13.
+// One increment's report a, gone on from there as b reports, by `continued`: 0 and the report in counts and residual,
+// or 13.
 #[no_mangle]
 pub extern "C" fn piskorlu_continued(
     a: &[u32],
@@ -108,7 +111,8 @@ pub extern "C" fn piskorlu_continued(
     13
 }
 
-// BoxSolver::solve: 0, with seven counts and the residual of the answer; or document 01's number, and nothing is written.
+// BoxSolver::solve: 0, with seven counts and the residual of the answer; or document 01's number, and nothing is
+// written.
 #[no_mangle]
 pub extern "C" fn piskorlu_solve(
     w: &[f64],
@@ -126,10 +130,10 @@ pub extern "C" fn piskorlu_solve(
     residual: &mut [f64],
 ) -> u32
     ensures { λ r. ⌜
-        solve.Answered
-        (solve.reply (solve.taken (now (counts .entry)) (now (residual .entry)))
+        plain.Answered
+        (plain.reply (plain.taken (now (counts .entry)) (now (residual .entry)))
         (box.problem (now (w .entry)) (now («u_free» .entry)) (now (lo .entry)) (now (hi .entry)) (now (scale .entry)))
-        (watched.watch (now (motion .entry)) tolerance)
+        (solve.watch (now (motion .entry)) tolerance)
         (now (nu .entry)) (now (states .entry)) (now (rows .entry)) (length (now (workspace .entry))))
         r (now (nu .exit)) (now (states .exit)) (now (rows .exit))
         (now (counts .entry)) (now (counts .exit)) (now (residual .entry)) (now (residual .exit))

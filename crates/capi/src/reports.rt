@@ -55,7 +55,8 @@ pub fn write(r: SolveReport, counts: &mut [u32])
 // What a join came to, left in the lent slices: 0, or the number of a refusal and nothing written.
 pub fn leave(joined: Joined, counts: &mut [u32], residual: &mut [f64]) -> u32
     requires { ⌜ (9 ≤ length (now counts)) × (1 ≤ length (now residual)) ⌝ }
-    ensures { λ r. ⌜ def.Left (join.answer joined) r (now (counts .entry)) (now (counts .exit)) (now (residual .entry)) (now (residual .exit)) ⌝ }
+    ensures { λ r. ⌜ def.Left (join.answer joined) r (now (counts .entry)) (now (counts .exit))
+        (now (residual .entry)) (now (residual .exit)) ⌝ }
 {
     match joined {
         Joined::Refused(number) => number,

@@ -34,7 +34,8 @@ fn write(outcome: usize, r: BoxReport, listed: usize, counts: &mut [usize])
 // An answer left in the lent slices: 0, or the number of a refusal and nothing written.
 pub fn leave(answer: BoxAnswer, counts: &mut [usize], residual: &mut [f64]) -> u32
     requires { ⌜ (7 ≤ length (now counts)) × (1 ≤ length (now residual)) ⌝ }
-    ensures { λ r. ⌜ (r ≡ def.number answer) × (now (counts .exit) ≡ def.countsLeft answer (now (counts .entry))) × (now (residual .exit) ≡ def.residualLeft answer (now (residual .entry))) ⌝ }
+    ensures { λ r. ⌜ (r ≡ def.number answer) × (now (counts .exit) ≡ def.countsLeft answer (now (counts .entry)))
+        × (now (residual .exit) ≡ def.residualLeft answer (now (residual .entry))) ⌝ }
 {
     match answer {
         BoxAnswer::Solved(r) => {

@@ -3,8 +3,8 @@ ghost use mathlib.Core.Path.{_≡_};
 ghost use Prim.Native.Nat.{_≤_};
 ghost use lib.ListN.{length};
 ghost use Rattle.floats.specs.Ops as float;
-ghost use Rattle.sweep.specs.Rows as box;
-ghost use Rattle.boxed.specs.Solves as watched;
+ghost use Rattle.box_rows.specs.Rows as box;
+ghost use Rattle.boxed.specs.Solve as solve;
 ghost use Rattle.tallied.specs.Joining as lent;
 ghost use Rattle.capi.specs.Reports as report;
 ghost use Rattle.capi.specs.Tallies as def;
@@ -14,7 +14,8 @@ use report::SolveReport;
 
 // Whether the slices hold nine counts and a residual of the tally, seven counts and a residual of the answer.
 fn taken(tally: &[u32], tally_residual: &[f64], counts: &[usize], residual: &[f64]) -> bool
-    ensures { λ r. ⌜ r ≡ def.taken (now (tally .entry)) (now («tally_residual» .entry)) (now (counts .entry)) (now (residual .entry)) ⌝ }
+    ensures { λ r. ⌜ r ≡ def.taken (now (tally .entry)) (now («tally_residual» .entry))
+        (now (counts .entry)) (now (residual .entry)) ⌝ }
 {
     if tally.len() < 9 {
         return false;
@@ -28,7 +29,8 @@ fn taken(tally: &[u32], tally_residual: &[f64], counts: &[usize], residual: &[f6
 // The tally that a solve left, in the lent slices, unless a number refused it.
 fn keep(number: u32, t: SolveReport, tally: &mut [u32], tally_residual: &mut [f64]) -> u32
     requires { ⌜ (9 ≤ length (now tally)) × (1 ≤ length (now «tally_residual»)) ⌝ }
-    ensures { λ r. ⌜ (r ≡ number) × (now (tally .exit) ≡ def.countsKept number t (now (tally .entry))) × (now («tally_residual» .exit) ≡ def.residualKept number t (now («tally_residual» .entry))) ⌝ }
+    ensures { λ r. ⌜ (r ≡ number) × (now (tally .exit) ≡ def.countsKept number t (now (tally .entry)))
+        × (now («tally_residual» .exit) ≡ def.residualKept number t (now («tally_residual» .entry))) ⌝ }
 {
     if number != 0 {
         return number;
@@ -38,8 +40,8 @@ fn keep(number: u32, t: SolveReport, tally: &mut [u32], tally_residual: &mut [f6
     number
 }
 
-// A tallied solve: 0, the answer in seven counts and a residual, and the tally, nine counts and a residual, joined with it; or 5 to 11 and nothing written, 10 also
-// where a slice of these has no room.
+// A tallied solve: 0, the answer in seven counts and a residual, and the tally, nine counts and a residual, joined
+// with it; or 5 to 11 and nothing written, 10 also where a slice of these has no room.
 #[no_mangle]
 pub extern "C" fn piskorlu_tallied(
     tally: &mut [u32],
@@ -65,7 +67,7 @@ pub extern "C" fn piskorlu_tallied(
         (report.read (now (tally .entry)) (float.at (now («tally_residual» .entry)) 0))
         (lent.call
         (box.problem (now (w .entry)) (now («u_free» .entry)) (now (lo .entry)) (now (hi .entry)) (now (scale .entry)))
-        (watched.watch (now (motion .entry)) tolerance)
+        (solve.watch (now (motion .entry)) tolerance)
         (now (nu .entry)) (now (states .entry)) (now (rows .entry)) (length (now (workspace .entry)))))
         r (now (tally .entry)) (now (tally .exit)) (now («tally_residual» .entry)) (now («tally_residual» .exit))
         (now (nu .exit)) (now (states .exit)) (now (rows .exit))

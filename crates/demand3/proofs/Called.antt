@@ -4,7 +4,7 @@ use mathlib.Core.List.{List, [], _∷_, map}
 use lib.ListN.{drop}
 use lib.Ieee.{Float}
 use Rattle.report.specs.declared.SolveReport.{SolveReport}
-use Rattle.boxed.specs.Solves.{Outcome, refused, solved, infeasible, Result, answerOf, used, Left}
+use Rattle.boxed.specs.Solve.{Outcome, refused, solved, infeasible, Result, answerOf, used, Left}
 use Rattle.boxed.specs.declared.BoxAnswer.{BoxAnswer}
 use Rattle.tally.specs.Tally.{Call, tallied, before, all}
 use Rattle.demand3.specs.Called.{Told, toldOf, Workspace, WorkspaceLeft, WorkspacesLeft, Made, DemandOfCode}

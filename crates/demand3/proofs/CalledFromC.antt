@@ -1,18 +1,18 @@
 -- Demand 3 of the C interface: what one call leaves is what the next one reads, so a list of calls is a list of tallied solves.
 use Prim.Native.Nat.{ℕ, zero, suc, _≤_}
 use mathlib.Core.Path.{_≡_, refl, sym, _∙_, ap, subst}
-use mathlib.Core.Bool.{Bool, true, false, cond, _&&_}
-use mathlib.Core.List.{List, [], _∷_, map}
+use mathlib.Core.Bool.{Bool, true, false, cond}
+use mathlib.Core.List.{List, [], _∷_}
 use native.Mathlib.Omega.{arith}
-use native.Mathlib.Nat.{not-suc-le-zero, le-of-suc-le-suc}
-use lib.Dec.{leb, eqb}
-use lib.ListN.{length, set, length-set}
+use native.Mathlib.Nat.{not-suc-le-zero}
+use lib.Dec.{eqb}
+use lib.ListN.{length, set, take, length-set}
 use lib.Ieee.{Float}
 use borrow.Author.Tests.{le-leb, ne-eqb}
 use Rattle.floats.specs.Ops.{at}
-use Rattle.report.specs.Joins.{NOTHING}
 use Rattle.report.specs.declared.SolveReport.{SolveReport}
-use Rattle.boxed.specs.Solves.{Outcome, refused, solved, infeasible, Result, answerOf, used, reply, SWEEP_CAP}
+use Rattle.box_rows.specs.Rows.{size}
+use Rattle.boxed.specs.Solve.{Outcome, refused, solved, infeasible, answerOf, used, reply, SWEEP_CAP}
 use Rattle.boxed.proofs.Finishing.{solve-uses}
 use Rattle.tally.specs.Tally.{Call, Tallied, tallied, answerOn, numberOn, with}
 use Rattle.tallied.specs.Joining.{Entered}
@@ -99,7 +99,7 @@ module _ (t : Buffers) (long : Long t) (c : Call) where
   replies : (k : ℕ) → held (next (solve.number (answerOf (reply SWEEP_CAP (c .problem) (c .watch) (c .nu) (c .states) (c .listed) k .outcome)))
       (with (held t) (reply SWEEP_CAP (c .problem) (c .watch) (c .nu) (c .states) (c .listed) k) .tally)) ≡ with (held t) (reply SWEEP_CAP (c .problem) (c .watch) (c .nu) (c .states) (c .listed) k) .tally
   unfolding reply with
-  replies zero = rw (not-refused _ (solve-uses SWEEP_CAP (c .problem) (c .watch) (c .nu) (c .states) (c .listed))) (joined _)
+  replies zero = rw (not-refused _ (solve-uses SWEEP_CAP (c .problem) (c .watch) (c .nu) (take (size (c .problem)) (c .states)) (c .listed))) (joined _)
   replies (suc k) = kept k _
 
   pub reads : held (next (solve.number (answerOf (tallied (held t) c .answer .outcome))) (tallied (held t) c .tally)) ≡ tallied (held t) c .tally

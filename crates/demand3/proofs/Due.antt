@@ -7,7 +7,7 @@ use lib.Dec.{leb, eqb}
 use borrow.Author.Tests.{eqb-true}
 use Rattle.loops.specs.Loops.{every}
 use Rattle.loops.proofs.Every.{every-at}
-use Rattle.boxed.specs.Solves.{member, checkpoint, SWEEP_CAP}
+use Rattle.boxed.specs.Solve.{member, checkpoint, SWEEP_CAP}
 use Rattle.demand3.specs.Claims.{notAbove, below}
 
 -- one more at each checkpoint

@@ -3,7 +3,7 @@ pub mod Words
 pub mod Boxes
 pub mod Rays
 pub mod Due
-pub mod Moved
+pub mod Advance
 pub mod Trials
 pub mod Runs
 pub mod Made

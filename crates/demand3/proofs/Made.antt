@@ -1,4 +1,4 @@
--- A run ends in the sweep that it says, and until then it goes on; it counts the passes that it makes.
+-- A run ends in the sweep that it counts, and until then it goes on; it counts the passes that it makes.
 use Prim.Native.Nat.{ℕ, zero, suc, _+_, _≤_, _<_}
 use mathlib.Core.Path.{_≡_, refl, sym, _∙_, ap}
 use mathlib.Core.Bool.{Bool, true, false, cond, _&&_, and-false}
@@ -11,92 +11,106 @@ use lib.Ieee.{Float, le}
 use borrow.Author.Tests.{eqb-true, eqb-false}
 use Rattle.loops.specs.Loops.{turns}
 use Rattle.floats.specs.Ops.{1e-9}
-use Rattle.sweep.specs.Rows.{Problem, rows, residual, way, swept, grown}
-use Rattle.ray.specs.Rays.{ray}
-use Rattle.exact_pass.specs.Headings.{Pass, moving, found, failed, fighting}
-use Rattle.exact_pass.specs.Passes.{exactPass}
-use Rattle.boxed.specs.Solves.{still, Stand, stand, Run, going, ended, unless, checkpoint, passed, checked, Watch, stands, tested, unlessGrown, turn, run, SWEEP_CAP}
+use Rattle.box_rows.specs.Rows.{Problem, size}
+use Rattle.exact_pass.specs.Ray.{ray}
+use Rattle.exact_pass.specs.Pass as pass
+use Rattle.exact_pass.specs.Pass.{Pass, exactPass}
+use Rattle.boxed.specs.Sweep as sweep
+use Rattle.boxed.specs.Solve.{converged, Iterate, iterate, counts, tried, Run, going, ended, unless, checkpoint, passed, checked, Watch, tested, turn, run, SWEEP_CAP}
 use Rattle.boxed.specs.declared.Cause.the-variants as cause
-use Rattle.demand3.specs.Claims.{goesOn, none, makesPass, passesMade}
+use Rattle.boxed.specs.declared.Counts.{Counts}
+use Rattle.demand3.specs.Claims.{goesOn, oneSweep, none, makesPass, passesMade}
 
--- ---- a sweep that goes on, or ends as sweep k: it leaves n passes counted
+-- ---- what a sweep leaves counted
 
-abbrev Leaves : ℕ → ℕ → Run → Type 0
-Leaves n k (going s) = s .passes ≡ n
-Leaves n k (ended j e s) = (j ≡ k) × (s .passes ≡ n)
+abbrev countsOf : Run → Counts
+countsOf (going s) = s .counts
+countsOf (ended e s) = s .counts
 
-passed-leaves : (k : ℕ) (s : Stand) (x : Pass) → Leaves (s .passes + 1) k (passed k s x)
+passed-counts : (s : Iterate) (x : Pass) → countsOf (passed s x) ≡ tried (s .counts)
 unfolding passed
-passed-leaves k s (moving t) = omega arith
-passed-leaves k s (failed t) = omega arith
-passed-leaves k s (found t) = (refl, omega arith)
-passed-leaves k s (fighting l t) = (refl, omega arith)
+passed-counts s (pass.moved t) = refl
+passed-counts s (pass.failed t) = refl
+passed-counts s (pass.found t) = refl
+passed-counts s (pass.infeasible l t) = refl
 
-checked-leaves : (p : Problem) (k : ℕ) (s : Stand) → Leaves (s .passes + cond (checkpoint SWEEP_CAP k && true) 1 0) k (checked SWEEP_CAP p k (going s))
+checked-counts : (p : Problem) (s : Iterate)
+    → countsOf (checked SWEEP_CAP p (going s)) ≡ counts (s .counts .sweeps) (s .counts .passes + cond (checkpoint SWEEP_CAP (s .counts .sweeps) && true) 1 0)
 unfolding checked
-checked-leaves p k s = go (checkpoint SWEEP_CAP k)
+checked-counts p s = go (checkpoint SWEEP_CAP (s .counts .sweeps))
   where
-    go : (b : Bool) → Leaves (s .passes + cond (b && true) 1 0) k (cond b (passed k s (exactPass p (s .states) (s .nu))) (going s))
-    go true = passed-leaves k s (exactPass p (s .states) (s .nu))
-    go false = omega arith
+    go : (b : Bool) → countsOf (cond b (passed s (exactPass p (s .states) (s .nu))) (going s)) ≡ counts (s .counts .sweeps) (s .counts .passes + cond (b && true) 1 0)
+    go true = passed-counts s (exactPass p (s .states) (s .nu)) ∙ ap (counts (s .counts .sweeps)) (omega arith)
+    go false = ap (counts (s .counts .sweeps)) (omega arith)
 
-tested-leaves : (p : Problem) (m : Watch) (n k : ℕ) (before : List Float) (x : Run) → Leaves n k x → Leaves n k (tested p m k before x)
+tested-counts : (p : Problem) (m : Watch) (before : List Float) (x : Run) → countsOf (tested p m before x) ≡ countsOf x
 unfolding tested unless
-tested-leaves p m n k before (ended j e s) h = h
-tested-leaves p m n k before (going s) h = go (stands m (s .nu) before) (le (residual p (s .states) (s .nu) (rows p)) 1e-9) (ray p (s .states) (way (s .nu) before (rows p)))
+tested-counts p m before (ended e s) = refl
+tested-counts p m before (going s) =
+    go (sweep.hasStopped (m .motion) (m .tolerance) (s .nu) before) (le (sweep.residual p (s .states) (s .nu) (size p)) 1e-9)
+    (ray p (s .states) (sweep.change (s .nu) before (size p)))
   where
-    go : (a b : Bool) (l : List ℕ) → Leaves n k (cond a (cond b (ended k still s) (unless cause.Sweep k s l)) (going s))
-    go true true l = (refl, h)
-    go true false [] = h
-    go true false (a ∷ l) = (refl, h)
-    go false b l = h
+    go : (a b : Bool) (l : List ℕ) → countsOf (cond a (cond b (ended converged s) (unless cause.Sweep s l)) (going s)) ≡ s .counts
+    go true true l = refl
+    go true false [] = refl
+    go true false (a ∷ l) = refl
+    go false b l = refl
 
 -- ---- a run
 
-module _ (p : Problem) (m : Watch) (s : Stand) where
+module _ (p : Problem) (m : Watch) (s : Iterate) where
   abbrev after : ℕ → Run
   after k = run SWEEP_CAP p m s k
 
-  turn-leaves : (k : ℕ) (t : Stand) → Leaves (t .passes + cond (makesPass p k (going t)) 1 0) (suc k) (turn SWEEP_CAP p m k (going t))
-  unfolding turn unlessGrown unless
-  turn-leaves k t = go (grown (swept p (t .states) (t .nu) (rows p)) (p .scale) (rows p))
+  turn-counts : (k : ℕ) (t : Iterate) → t .counts .sweeps ≡ k
+      → countsOf (turn SWEEP_CAP p m k (going t)) ≡ counts (suc k) (t .counts .passes + cond (makesPass p k (going t)) 1 0)
+  unfolding turn unless
+  turn-counts k t q = go (sweep.grown (oneSweep p (t .states) (t .nu)) (p .scale) (size p))
     where
-      u : Stand
-      u = stand (swept p (t .states) (t .nu) (rows p)) (t .states) (t .passes)
+      u : Iterate
+      u = iterate (oneSweep p (t .states) (t .nu)) (t .states) (counts (suc (t .counts .sweeps)) (t .counts .passes))
 
-      none-more : (b : Bool) → t .passes ≡ t .passes + cond (b && false) 1 0
+      none-more : (b : Bool) → t .counts .passes ≡ t .counts .passes + cond (b && false) 1 0
       none-more b = rw (and-false b) (omega arith)
 
-      go : (l : List ℕ) → Leaves (t .passes + cond (checkpoint SWEEP_CAP (suc k) && none l) 1 0) (suc k) (tested p m (suc k) (t .nu) (checked SWEEP_CAP p (suc k) (unless cause.Growth (suc k) u l)))
-      go [] = tested-leaves p m (t .passes + cond (checkpoint SWEEP_CAP (suc k) && true) 1 0) (suc k) (t .nu) (checked SWEEP_CAP p (suc k) (going u)) (checked-leaves p (suc k) u)
-      go (a ∷ l) = unfold tested checked in (refl, none-more (checkpoint SWEEP_CAP (suc k)))
+      go : (l : List ℕ) → countsOf (tested p m (t .nu) (checked SWEEP_CAP p (unless cause.Growth u l))) ≡ counts (suc k) (t .counts .passes + cond (checkpoint SWEEP_CAP (suc k) && none l) 1 0)
+      go [] =
+          tested-counts p m (t .nu) (checked SWEEP_CAP p (going u)) ∙ checked-counts p u
+          ∙ ap (λ (n : ℕ). counts (suc n) (t .counts .passes + cond (checkpoint SWEEP_CAP (suc n) && true) 1 0)) q
+      go (a ∷ l) =
+          unfold tested checked in
+          ap (λ (n : ℕ). counts (suc n) (t .counts .passes)) q ∙ ap (counts (suc k)) (none-more (checkpoint SWEEP_CAP (suc k)))
 
   abbrev pub Made : ℕ → Run → Type 0
-  Made k (going t) = ((i : ℕ) → i ≤ k → goesOn (run SWEEP_CAP p m s i) ≡ true) × (t .passes ≡ passesMade p m s k)
-  Made k (ended j e t) = ((i : ℕ) → i < j → goesOn (run SWEEP_CAP p m s i) ≡ true) × (goesOn (run SWEEP_CAP p m s j) ≡ false) × (t .passes ≡ passesMade p m s j)
+  Made k (going t) = ((i : ℕ) → i ≤ k → goesOn (run SWEEP_CAP p m s i) ≡ true) × (t .counts ≡ counts k (passesMade p m s k))
+  Made k (ended e t) = ((i : ℕ) → i < t .counts .sweeps → goesOn (run SWEEP_CAP p m s i) ≡ true)
+      × (goesOn (run SWEEP_CAP p m s (t .counts .sweeps)) ≡ false) × (t .counts .passes ≡ passesMade p m s (t .counts .sweeps))
 
-  one-more : (k : ℕ) (t : Stand) → after k ≡ going t → t .passes ≡ passesMade p m s k → t .passes + cond (makesPass p k (going t)) 1 0 ≡ passesMade p m s (suc k)
+  one-more : (k : ℕ) (t : Iterate) → after k ≡ going t → t .counts .passes ≡ passesMade p m s k → t .counts .passes + cond (makesPass p k (going t)) 1 0 ≡ passesMade p m s (suc k)
   unfolding passesMade
   one-more k t q h = rw (q, h)
 
   step : (k : ℕ) (x : Run) → after k ≡ x → Made k x → Made (suc k) (turn SWEEP_CAP p m k x)
-  step k (ended j e t) q h = unfold turn in h
-  step k (going t) q h = go (turn SWEEP_CAP p m k (going t)) (unfold run turns in ap (turn SWEEP_CAP p m k) q) (turn-leaves k t)
+  step k (ended e t) q h = unfold turn in h
+  step k (going t) q h =
+      let c = h .1 in
+      go (turn SWEEP_CAP p m k (going t)) (unfold run turns in ap (turn SWEEP_CAP p m k) q)
+      (turn-counts k t (ap (λ (c : Counts). c .sweeps) c) ∙ ap (counts (suc k)) (one-more k t q (ap (λ (c : Counts). c .passes) c)))
     where
-      go : (y : Run) → after (suc k) ≡ y → Leaves (t .passes + cond (makesPass p k (going t)) 1 0) (suc k) y → Made (suc k) y
-      go (going u) r e = ((λ i b. pick i b (eqb i (suc k)) refl), e ∙ one-more k t q (h .1))
+      go : (y : Run) → after (suc k) ≡ y → countsOf y ≡ counts (suc k) (passesMade p m s (suc k)) → Made (suc k) y
+      go (going u) r e = ((λ i b. pick i b (eqb i (suc k)) refl), e)
         where
           pick : (i : ℕ) → i ≤ suc k → (c : Bool) → eqb i (suc k) ≡ c → goesOn (after i) ≡ true
           pick i b true z = ap (λ (n : ℕ). goesOn (after n)) (eqb-true i (suc k) z) ∙ ap goesOn r
           pick i b false z = h .0 i (le-of-suc-le-suc (lt-of-le-ne b (eqb-false i (suc k) z)))
-      go (ended j f u) r e =
-          let here = e .0 in (
+      go (ended f u) r e =
+          let here : u .counts .sweeps ≡ suc k = ap (λ (c : Counts). c .sweeps) e in (
             (λ i b. h .0 i (omega arith)),
             ap (λ (n : ℕ). goesOn (after n)) here ∙ ap goesOn r,
-            e .1 ∙ one-more k t q (h .1) ∙ sym (ap (passesMade p m s) here),
+            ap (λ (c : Counts). c .passes) e ∙ sym (ap (passesMade p m s) here),
           )
 
-  pub made : s .passes ≡ 0 → (k : ℕ) → Made k (run SWEEP_CAP p m s k)
+  pub made : s .counts ≡ counts 0 0 → (k : ℕ) → Made k (run SWEEP_CAP p m s k)
   unfolding run turns passesMade
   made e zero = ((λ i b. let z : i ≡ 0 = omega arith in ap (λ (n : ℕ). goesOn (run SWEEP_CAP p m s n)) z), e)
   made e (suc k) = step k (run SWEEP_CAP p m s k) refl (made e k)

@@ -4,197 +4,200 @@ use mathlib.Core.Path.{_≡_, refl, sym, _∙_, ap, subst}
 use mathlib.Core.Bool.{Bool, true, false, not, cond}
 use mathlib.Core.List.{List, [], _∷_}
 use native.Mathlib.Omega.{arith}
-use native.Mathlib.Nat.{not-suc-le-zero, le-of-suc-le-suc}
-use lib.Arith.{lt-of-le-ne}
 use lib.Dec.{eqb}
-use lib.ListN.{length, length-set}
+use lib.ListN.{length}
 use lib.Ieee.{Float, le}
-use borrow.Author.Tests.{eqb-true, eqb-false}
 use Rattle.loops.specs.Loops.{turns}
 use Rattle.loops.proofs.Turns.{turns-keep, turns-start, turns-step}
-use Rattle.loops.proofs.Gather.{getD-set, Gathered}
+use Rattle.loops.proofs.Gather.{Gathered}
 use Rattle.floats.specs.Ops.{at, 1e-9}
-use Rattle.sweep.specs.Rows.{Problem, rows, state, acts, residual, sweptRow, sweptTo, swept, past, grown, way, idleRow, idleState, markedRow, markedTo, marked}
-use Rattle.ray.specs.Rays.{ray}
-use Rattle.exact_pass.specs.Headings.{trial, Pass, moving, found, failed, fighting}
-use Rattle.exact_pass.specs.Passes.{exactPass}
-use Rattle.boxed.specs.Solves.{Ending, exact, still, fight, Stand, stand, Run, going, ended, unless, checkpoint, passed, checked, Watch, stands, tested, unlessGrown, turn, run, SWEEP_CAP}
+use Rattle.box_rows.specs.Rows.{Problem, size, acts}
+use Rattle.exact_pass.specs.Ray.{ray}
+use Rattle.exact_pass.specs.Pass as pass
+use Rattle.exact_pass.specs.Pass.{trial, Pass, found, exactPass}
+use Rattle.boxed.specs.Sweep as sweep
+use Rattle.boxed.specs.Solve.{Ending, exact, converged, infeasible, Iterate, iterate, counts, Run, going, ended, unless, checkpoint, passed, checked, Watch, tested, turn, run, SWEEP_CAP}
 use Rattle.boxed.specs.declared.Cause.the-variants as cause
-use Rattle.demand3.specs.Claims.{notAbove, sweptAlone, firstTried, LastMove}
-use Rattle.demand3.proofs.Rays.{grown-gathered, ray-gathered, Fights}
+use Rattle.demand3.specs.Claims.{notAbove, oneSweep, sweepsAlone, firstTried, LastStep}
+use Rattle.demand3.proofs.Rays.{grown-gathered, ray-gathered, ActsUnlimited}
 use Rattle.demand3.proofs.Due.{due-next}
-use Rattle.demand3.proofs.Boxes.{Boxed, swept-boxed}
-use Rattle.demand3.proofs.Trials.{Marks, Holds, hard, Fought, Passing, exact-passing}
+use Rattle.demand3.proofs.Boxes.{Boxed, sweep-boxed, idleRow, StartedTo}
+use Rattle.demand3.proofs.Trials.{Stated, Tries, hard, NoMotion, Passing, exact-passing}
 
 -- ---- the states at the start
 
-pub marked-at : (p : Problem) (st : List ℕ) → rows p ≤ length st → (rows p ≤ length (marked p st (rows p))) × ((i : ℕ) → i < rows p → state (marked p st (rows p)) i ≡ idleState (idleRow p i))
-unfolding markedTo markedRow
-marked-at p st l =
-    turns-keep (markedRow (p .w) (rows p)) st (λ k x. (rows p ≤ length x) × ((i : ℕ) → i < k → state x i ≡ idleState (idleRow p i))) (rows p)
-    (l, λ i d. absurd (not-suc-le-zero d))
-    λ i x c h. (
-      rw (length-set x i (idleState (idleRow p i))) (h .0),
-      λ j d. let e = h .0 in getD-set x i j (idleState (idleRow p i)) 0 (omega arith) ∙ go i x (h .1) j d (eqb j i) refl,
-    )
-  where
-    go : (i : ℕ) (x : List ℕ) → ((j : ℕ) → j < i → state x j ≡ idleState (idleRow p j)) → (j : ℕ) → j < suc i → (a : Bool) → eqb j i ≡ a
-        → cond a (idleState (idleRow p i)) (state x j) ≡ idleState (idleRow p j)
-    go i x h j d true e = sym (ap (λ (k : ℕ). idleState (idleRow p k)) (eqb-true j i e))
-    go i x h j d false e = h j (lt-of-le-ne (le-of-suc-le-suc d) (eqb-false j i e))
-
-few : (b : Bool) → idleState b ≤ 3
-unfolding idleState
+few : (b : Bool) → cond b 3 0 ≤ 3
 few true = omega arith
 few false = omega arith
 
-code : (b : Bool) → eqb (idleState b) 3 ≡ b
-unfolding idleState
+code : (b : Bool) → eqb (cond b 3 0) 3 ≡ b
 code true = refl
 code false = refl
 
-pub marked-marks : (p : Problem) (st : List ℕ) → rows p ≤ length st → Marks p (marked p st (rows p))
-marked-marks p st l = let h = marked-at p st l in record { long = h .0; idle = λ i b. ap (λ (s : ℕ). eqb s 3) (h .1 i b) ∙ code (idleRow p i); known = λ i b. rw (h .1 i b) (few (idleRow p i)) }
+pub started-stated : (p : Problem) (s : sweep.Start) → StartedTo p (size p) s → Stated p (s .states)
+started-stated p s h =
+    record {
+      long = h .long;
+      idle = λ i b. ap (λ (s : ℕ). eqb s 3) (h .states i b) ∙ code (idleRow p i);
+      known = λ i b. rw (h .states i b) (few (idleRow p i));
+    }
 
 -- ---- a sweep reads of the states which rows are Idle, and nothing else
 
-row-same : (p : Problem) (st su : List ℕ) (i : ℕ) (nu : List Float) → acts st i ≡ acts su i
-    → sweptRow (p .w) (p .free) (p .lo) (p .hi) st i nu ≡ sweptRow (p .w) (p .free) (p .lo) (p .hi) su i nu
-unfolding sweptRow
+abbrev sweepRow : Problem → List ℕ → ℕ → List Float → List Float
+sweepRow p st = sweep.sweepRow (p .w) (p .uFree) (p .lo) (p .hi) st
+
+row-same : (p : Problem) (st su : List ℕ) (i : ℕ) (nu : List Float) → acts st i ≡ acts su i → sweepRow p st i nu ≡ sweepRow p su i nu
+unfolding sweep.sweepRow
 row-same p st su i nu e = rw e
 
-swept-same : (p : Problem) (st su : List ℕ) (nu : List Float) → Marks p st → Marks p su → swept p st nu (rows p) ≡ swept p su nu (rows p)
-unfolding sweptTo
-swept-same p st su nu m n =
-    turns-keep (f st) nu (λ i x. x ≡ turns i nu (f su)) (rows p) (sym (turns-start nu (f su)))
-    λ i x b e. row-same p st su i x (ap not (m .idle i b ∙ sym (n .idle i b))) ∙ ap (f su i) e ∙ sym (turns-step nu (f su) i)
-  where
-    f : List ℕ → ℕ → List Float → List Float
-    f st = sweptRow (p .w) (p .free) (p .lo) (p .hi) st
+sweep-same : (p : Problem) (st su : List ℕ) (nu : List Float) → Stated p st → Stated p su → oneSweep p st nu ≡ oneSweep p su nu
+unfolding sweep.sweep
+sweep-same p st su nu m n =
+    turns-keep (sweepRow p st) nu (λ i x. x ≡ turns i nu (sweepRow p su)) (size p) (sym (turns-start nu (sweepRow p su)))
+    λ i x b e. row-same p st su i x (ap not (m .idle i b ∙ sym (n .idle i b))) ∙ ap (sweepRow p su i) e ∙ sym (turns-step nu (sweepRow p su) i)
 
--- ---- a run
+-- ---- a run: st₀ and nu₀ are what its first sweep starts from
 
--- as many passes as c sweeps have, and the multipliers of k sweeps: st₀ and nu₀ are what the first begins with
-pub record Stands (p : Problem) (st₀ : List ℕ) (nu₀ : List Float) (c k : ℕ) (s : Stand) : Type 0 where
-  pub marks : Marks p (s .states)
+-- as many passes as c sweeps have, and the multipliers of the sweeps that are counted
+pub record Stands (p : Problem) (st₀ : List ℕ) (nu₀ : List Float) (c : ℕ) (s : Iterate) : Type 0 where
+  pub stated : Stated p (s .states)
   pub boxed : Boxed p (s .nu)
-  pub passes : s .passes ≡ notAbove c
-  pub alone : s .nu ≡ sweptAlone p st₀ nu₀ k
+  pub passes : s .counts .passes ≡ notAbove c
+  pub alone : s .nu ≡ sweepsAlone p st₀ nu₀ (s .counts .sweeps)
 
-pub record Still (p : Problem) (st₀ : List ℕ) (nu₀ : List Float) (j : ℕ) (s : Stand) : Type 0 where
-  pub standing : Stands p st₀ nu₀ j j s
-  pub small : le (residual p (s .states) (s .nu) (rows p)) 1e-9 ≡ true
+pub record Converged (p : Problem) (st₀ : List ℕ) (nu₀ : List Float) (s : Iterate) : Type 0 where
+  pub standing : Stands p st₀ nu₀ (s .counts .sweeps) s
+  pub small : le (sweep.residual p (s .states) (s .nu) (size p)) 1e-9 ≡ true
 
 -- Idle rows have what the sweeps left
-pub record Exact (p : Problem) (st₀ : List ℕ) (nu₀ : List Float) (j : ℕ) (s : Stand) : Type 0 where
-  pub passes : s .passes ≡ notAbove j
-  pub marks : Marks p (s .states)
-  pub boxed : Boxed p (sweptAlone p st₀ nu₀ j)
-  pub holds : Holds p (sweptAlone p st₀ nu₀ j) (s .states) (s .nu)
-  pub gentle : (i : ℕ) → i < rows p → hard p (s .states) (s .nu) i ≡ false
-  pub start : List ℕ
-  pub pass : exactPass p start (sweptAlone p st₀ nu₀ j) ≡ found (trial (s .nu) (s .states))
-  pub last : LastMove p (firstTried p start (sweptAlone p st₀ nu₀ j)) (s .nu) (s .states)
+pub record Exact (p : Problem) (st₀ : List ℕ) (nu₀ : List Float) (s : Iterate) : Type 0 where
+  pub passes : s .counts .passes ≡ notAbove (s .counts .sweeps)
+  pub boxed : Boxed p (sweepsAlone p st₀ nu₀ (s .counts .sweeps))
+  pub tries : Tries p (sweepsAlone p st₀ nu₀ (s .counts .sweeps)) (trial (s .nu) (s .states))
+  pub gentle : (i : ℕ) → i < size p → hard p (s .states) (s .nu) i ≡ false
+  pub given : List ℕ
+  pub pass : exactPass p given (sweepsAlone p st₀ nu₀ (s .counts .sweeps)) ≡ found (trial (s .nu) (s .states))
+  pub last : LastStep p (firstTried p given (sweepsAlone p st₀ nu₀ (s .counts .sweeps))) (s .nu) (s .states)
 
 -- growth ends a sweep before its pass
-pub record Grew (p : Problem) (st₀ : List ℕ) (nu₀ : List Float) (j : ℕ) (s : Stand) (l : List ℕ) : Type 0 where
-  pub boxed : Boxed p (s .nu)
-  pub alone : s .nu ≡ sweptAlone p st₀ nu₀ j
-  pub passes : s .passes ≡ notAbove (j - 1)
+pub record Grew (p : Problem) (st₀ : List ℕ) (nu₀ : List Float) (s : Iterate) (l : List ℕ) : Type 0 where
+  pub standing : Stands p st₀ nu₀ (s .counts .sweeps - 1) s
   pub some : 0 < length l
-  pub these : Gathered (λ i. past (at (s .nu) i) (at (p .scale) i) ≡ true) (rows p) l
+  pub these : Gathered (λ i. sweep.isGrown (at (s .nu) i) (at (p .scale) i) ≡ true) (size p) l
 
-pub record Fell (p : Problem) (st₀ : List ℕ) (nu₀ : List Float) (j : ℕ) (s : Stand) (l : List ℕ) : Type 0 where
-  pub standing : Stands p st₀ nu₀ j j s
-  pub fought : Fought p (s .states) l
+pub record Unmet (p : Problem) (st₀ : List ℕ) (nu₀ : List Float) (s : Iterate) (l : List ℕ) : Type 0 where
+  pub standing : Stands p st₀ nu₀ (s .counts .sweeps) s
+  pub rows : NoMotion p (s .states) l
 
-abbrev pub Ends : Problem → List ℕ → List Float → ℕ → Ending → Stand → Type 0
-Ends p st₀ nu₀ j still s = Still p st₀ nu₀ j s
-Ends p st₀ nu₀ j exact s = Exact p st₀ nu₀ j s
-Ends p st₀ nu₀ j (fight cause.Growth l) s = Grew p st₀ nu₀ j s l
-Ends p st₀ nu₀ j (fight cause.Pass l) s = Fell p st₀ nu₀ j s l
-Ends p st₀ nu₀ j (fight cause.Sweep l) s = Fell p st₀ nu₀ j s l
+abbrev pub Ends : Problem → List ℕ → List Float → Ending → Iterate → Type 0
+Ends p st₀ nu₀ converged s = Converged p st₀ nu₀ s
+Ends p st₀ nu₀ exact s = Exact p st₀ nu₀ s
+Ends p st₀ nu₀ (infeasible cause.Growth l) s = Grew p st₀ nu₀ s l
+Ends p st₀ nu₀ (infeasible cause.Pass l) s = Unmet p st₀ nu₀ s l
+Ends p st₀ nu₀ (infeasible cause.Sweep l) s = Unmet p st₀ nu₀ s l
 
 -- after k sweeps, with as many passes as c sweeps have
 abbrev pub Runs : Problem → List ℕ → List Float → ℕ → ℕ → Run → Type 0
-Runs p st₀ nu₀ k c (going s) = Stands p st₀ nu₀ c k s
-Runs p st₀ nu₀ k c (ended j e s) = (0 < j) × (j ≤ k) × Ends p st₀ nu₀ j e s
+Runs p st₀ nu₀ k c (going s) = (s .counts .sweeps ≡ k) × Stands p st₀ nu₀ c s
+Runs p st₀ nu₀ k c (ended e s) = (0 < s .counts .sweeps) × (s .counts .sweeps ≤ k) × Ends p st₀ nu₀ e s
 
-module _ (p : Problem) (m : Watch) (st₀ : List ℕ) (nu₀ : List Float) (first : Marks p st₀) (k : ℕ) (few : k < 200) where
-  grown-runs : (s : Stand) (l : List ℕ) → Stands p st₀ nu₀ k (suc k) s → Gathered (λ i. past (at (s .nu) i) (at (p .scale) i) ≡ true) (rows p) l → Runs p st₀ nu₀ (suc k) k (unless cause.Growth (suc k) s l)
+module _ (p : Problem) (m : Watch) (st₀ : List ℕ) (nu₀ : List Float) (first : Stated p st₀) (k : ℕ) (few : k < 200) where
+  recount : (s : Iterate) (c d : ℕ) → c ≡ d → Stands p st₀ nu₀ c s → Stands p st₀ nu₀ d s
+  recount s c d e h = subst (λ (c : ℕ). Stands p st₀ nu₀ c s) e h
+
+  grown-runs : (s : Iterate) (l : List ℕ) → s .counts .sweeps ≡ suc k → Stands p st₀ nu₀ k s
+      → Gathered (λ i. sweep.isGrown (at (s .nu) i) (at (p .scale) i) ≡ true) (size p) l → Runs p st₀ nu₀ (suc k) k (unless cause.Growth s l)
   unfolding unless
-  grown-runs s [] h g = h
-  grown-runs s (a ∷ l) h g = (omega arith, omega arith, record { boxed = h .boxed; alone = h .alone; passes = h .passes ∙ ap notAbove (omega arith); some = omega arith; these = g })
+  grown-runs s [] q h g = (q, h)
+  grown-runs s (a ∷ l) q h g =
+      (omega arith, omega arith, record { standing = recount s k (s .counts .sweeps - 1) (omega arith) h; some = omega arith; these = g })
 
   -- at a checkpoint one more pass is due
-  due-yes : checkpoint SWEEP_CAP (suc k) ≡ true → notAbove (suc k) ≡ suc (notAbove k)
-  due-yes e = due-next k few ∙ ap (λ (b : Bool). cond b (suc (notAbove k)) (notAbove k)) e
+  due : (n : ℕ) (b : Bool) → n ≡ suc k → checkpoint SWEEP_CAP n ≡ b → notAbove n ≡ cond b (suc (notAbove k)) (notAbove k)
+  due n b q e = ap notAbove q ∙ due-next k few ∙ ap (λ (b : Bool). cond b (suc (notAbove k)) (notAbove k)) (sym (ap (checkpoint SWEEP_CAP) q) ∙ e)
 
-  due-no : checkpoint SWEEP_CAP (suc k) ≡ false → notAbove (suc k) ≡ notAbove k
-  due-no e = due-next k few ∙ ap (λ (b : Bool). cond b (suc (notAbove k)) (notAbove k)) e
+  module _ (s : Iterate) (q : s .counts .sweeps ≡ suc k) (h : Stands p st₀ nu₀ k s) where
+    -- the states that a pass left, and one pass more
+    after-pass : (st : List ℕ) → Stated p st → checkpoint SWEEP_CAP (s .counts .sweeps) ≡ true
+        → Stands p st₀ nu₀ (s .counts .sweeps) (iterate (s .nu) st (counts (s .counts .sweeps) (suc (s .counts .passes))))
+    after-pass st g e = record { stated = g; boxed = h .boxed; passes = ap suc (h .passes) ∙ sym (due (s .counts .sweeps) true q e); alone = h .alone }
 
-  passed-runs : (s : Stand) (x : Pass) → exactPass p (s .states) (s .nu) ≡ x → checkpoint SWEEP_CAP (suc k) ≡ true → Stands p st₀ nu₀ k (suc k) s → Passing p (s .nu) (firstTried p (s .states) (s .nu)) x → Runs p st₀ nu₀ (suc k) (suc k) (passed (suc k) s x)
-  unfolding passed
-  passed-runs s (moving t) q e h g = record { marks = g .marks; boxed = h .boxed; passes = ap suc (h .passes) ∙ sym (due-yes e); alone = h .alone }
-  passed-runs s (failed t) q e h g = record { marks = g .marks; boxed = h .boxed; passes = ap suc (h .passes) ∙ sym (due-yes e); alone = h .alone }
-  passed-runs s (found t) q e h g = (
-    omega arith,
-    omega arith,
-    record {
-      passes = ap suc (h .passes) ∙ sym (due-yes e);
-      marks = g .0 .marks;
-      boxed = subst (Boxed p) (h .alone) (h .boxed);
-      holds = subst (λ (v : List Float). Holds p v (t .states) (t .nu)) (h .alone) (g .0 .holds);
-      gentle = g .1;
-      start = s .states;
-      pass = ap (exactPass p (s .states)) (sym (h .alone)) ∙ q;
-      last = subst (λ (v : List Float). LastMove p (firstTried p (s .states) v) (t .nu) (t .states)) (h .alone) (g .2);
-    },
-  )
-  passed-runs s (fighting l t) q e h g =
-      (omega arith, omega arith, record { standing = record { marks = g .0 .marks; boxed = h .boxed; passes = ap suc (h .passes) ∙ sym (due-yes e); alone = h .alone }; fought = g .1 })
+    passed-runs : (x : Pass) → exactPass p (s .states) (s .nu) ≡ x → checkpoint SWEEP_CAP (s .counts .sweeps) ≡ true
+        → Passing p (s .nu) (firstTried p (s .states) (s .nu)) x → Runs p st₀ nu₀ (suc k) (suc k) (passed s x)
+    unfolding passed
+    passed-runs (pass.moved t) r e g = (q, recount _ (s .counts .sweeps) (suc k) q (after-pass (t .states) (g .stated) e))
+    passed-runs (pass.failed t) r e g = (q, recount _ (s .counts .sweeps) (suc k) q (after-pass (t .states) (g .stated) e))
+    passed-runs (pass.found t) r e g = (
+      omega arith,
+      omega arith,
+      record {
+        passes = ap suc (h .passes) ∙ sym (due (s .counts .sweeps) true q e);
+        boxed = subst (Boxed p) (h .alone) (h .boxed);
+        tries = subst (λ (v : List Float). Tries p v t) (h .alone) (g .0);
+        gentle = g .1;
+        given = s .states;
+        pass = ap (exactPass p (s .states)) (sym (h .alone)) ∙ r;
+        last = subst (λ (v : List Float). LastStep p (firstTried p (s .states) v) (t .nu) (t .states)) (h .alone) (g .2);
+      },
+    )
+    passed-runs (pass.infeasible l t) r e g = (omega arith, omega arith, record { standing = after-pass (t .states) (g .0 .stated) e; rows = g .1 })
 
-  checked-runs : (x : Run) → Runs p st₀ nu₀ (suc k) k x → Runs p st₀ nu₀ (suc k) (suc k) (checked SWEEP_CAP p (suc k) x)
+  checked-runs : (x : Run) → Runs p st₀ nu₀ (suc k) k x → Runs p st₀ nu₀ (suc k) (suc k) (checked SWEEP_CAP p x)
   unfolding checked
-  checked-runs (ended j e s) h = h
-  checked-runs (going s) h = go (checkpoint SWEEP_CAP (suc k)) refl
+  checked-runs (ended e s) h = h
+  checked-runs (going s) h = go (checkpoint SWEEP_CAP (s .counts .sweeps)) refl
     where
-      go : (b : Bool) → checkpoint SWEEP_CAP (suc k) ≡ b → Runs p st₀ nu₀ (suc k) (suc k) (cond b (passed (suc k) s (exactPass p (s .states) (s .nu))) (going s))
-      go true e = passed-runs s (exactPass p (s .states) (s .nu)) refl e h (exact-passing p (s .states) (s .nu) (h .marks) (h .boxed .long))
-      go false e = record { marks = h .marks; boxed = h .boxed; passes = h .passes ∙ sym (due-no e); alone = h .alone }
+      go : (b : Bool) → checkpoint SWEEP_CAP (s .counts .sweeps) ≡ b → Runs p st₀ nu₀ (suc k) (suc k) (cond b (passed s (exactPass p (s .states) (s .nu))) (going s))
+      go true e = passed-runs s (h .0) (h .1) (exactPass p (s .states) (s .nu)) refl e (exact-passing p (s .states) (s .nu) (h .1 .stated) (h .1 .boxed .long))
+      go false e = (
+        h .0,
+        record { stated = h .1 .stated; boxed = h .1 .boxed; passes = h .1 .passes ∙ sym (due (s .counts .sweeps) false (h .0) e) ∙ ap notAbove (h .0); alone = h .1 .alone },
+      )
 
-  fell-runs : (s : Stand) (l : List ℕ) → Stands p st₀ nu₀ (suc k) (suc k) s → Gathered (Fights p (s .states)) (rows p) l → Runs p st₀ nu₀ (suc k) (suc k) (unless cause.Sweep (suc k) s l)
+  unmet-runs : (s : Iterate) (l : List ℕ) → s .counts .sweeps ≡ suc k → Stands p st₀ nu₀ (suc k) s → Gathered (ActsUnlimited p (s .states)) (size p) l
+      → Runs p st₀ nu₀ (suc k) (suc k) (unless cause.Sweep s l)
   unfolding unless
-  fell-runs s [] h g = h
-  fell-runs s (a ∷ l) h g = (omega arith, omega arith, record { standing = h; fought = record { some = omega arith; these = g } })
+  unmet-runs s [] q h g = (q, h)
+  unmet-runs s (a ∷ l) q h g =
+      (omega arith, omega arith, record { standing = recount s (suc k) (s .counts .sweeps) (sym q) h; rows = record { some = omega arith; these = g } })
 
-  tested-runs : (before : List Float) (x : Run) → Runs p st₀ nu₀ (suc k) (suc k) x → Runs p st₀ nu₀ (suc k) (suc k) (tested p m (suc k) before x)
+  tested-runs : (before : List Float) (x : Run) → Runs p st₀ nu₀ (suc k) (suc k) x → Runs p st₀ nu₀ (suc k) (suc k) (tested p m before x)
   unfolding tested
-  tested-runs before (ended j e s) h = h
-  tested-runs before (going s) h = go (stands m (s .nu) before) (le (residual p (s .states) (s .nu) (rows p)) 1e-9) refl
+  tested-runs before (ended e s) h = h
+  tested-runs before (going s) h = go (sweep.hasStopped (m .motion) (m .tolerance) (s .nu) before) (le (sweep.residual p (s .states) (s .nu) (size p)) 1e-9) refl
     where
       y : List Float
-      y = way (s .nu) before (rows p)
+      y = sweep.change (s .nu) before (size p)
 
-      go : (a b : Bool) → le (residual p (s .states) (s .nu) (rows p)) 1e-9 ≡ b
-          → Runs p st₀ nu₀ (suc k) (suc k) (cond a (cond b (ended (suc k) still s) (unless cause.Sweep (suc k) s (ray p (s .states) (way (s .nu) before (rows p))))) (going s))
-      go true true e = (omega arith, omega arith, record { standing = h; small = e })
-      go true false e = fell-runs s (ray p (s .states) y) h (ray-gathered p (s .states) y)
+      go : (a b : Bool) → le (sweep.residual p (s .states) (s .nu) (size p)) 1e-9 ≡ b
+          → Runs p st₀ nu₀ (suc k) (suc k) (cond a (cond b (ended converged s) (unless cause.Sweep s (ray p (s .states) (sweep.change (s .nu) before (size p))))) (going s))
+      go true true e =
+          let q = h .0 in
+          (omega arith, omega arith, record { standing = recount s (suc k) (s .counts .sweeps) (sym q) (h .1); small = e })
+      go true false e = unmet-runs s (ray p (s .states) y) (h .0) (h .1) (ray-gathered p (s .states) y)
       go false b e = h
 
-  more : (s : Stand) → Stands p st₀ nu₀ k k s → swept p (s .states) (s .nu) (rows p) ≡ swept p st₀ (sweptAlone p st₀ nu₀ k) (rows p)
-  more s h = swept-same p (s .states) st₀ (s .nu) (h .marks) first ∙ ap (λ (nu : List Float). swept p st₀ nu (rows p)) (h .alone)
-
   turn-runs : (x : Run) → Runs p st₀ nu₀ k k x → Runs p st₀ nu₀ (suc k) (suc k) (turn SWEEP_CAP p m k x)
-  unfolding turn unlessGrown sweptAlone
-  turn-runs (ended j e s) h = (h .0, omega (arith, h .1), h .2)
+  unfolding turn sweepsAlone
+  turn-runs (ended e s) h = (h .0, omega (arith, h .1), h .2)
   turn-runs (going s) h =
-      let nu = swept p (s .states) (s .nu) (rows p) in
-      let t = stand nu (s .states) (s .passes) in
-      tested-runs (s .nu) (checked SWEEP_CAP p (suc k) (unless cause.Growth (suc k) t (grown nu (p .scale) (rows p))))
-      (checked-runs (unless cause.Growth (suc k) t (grown nu (p .scale) (rows p)))
-      (grown-runs t (grown nu (p .scale) (rows p)) (record { marks = h .marks; boxed = swept-boxed p (s .states) (s .nu) (h .boxed); passes = h .passes; alone = more s h }) (grown-gathered nu (p .scale) (rows p))))
+      let nu = oneSweep p (s .states) (s .nu) in
+      let t = iterate nu (s .states) (counts (suc (s .counts .sweeps)) (s .counts .passes)) in
+      let l = sweep.grown nu (p .scale) (size p) in
+      let g = h .1 in
+      tested-runs (s .nu) (checked SWEEP_CAP p (unless cause.Growth t l))
+      (checked-runs (unless cause.Growth t l)
+      (grown-runs t l (ap suc (h .0))
+      (record {
+        stated = g .stated;
+        boxed = sweep-boxed p (s .states) (s .nu) (g .boxed);
+        passes = g .passes;
+        alone = sweep-same p (s .states) st₀ (s .nu) (g .stated) first ∙ ap (oneSweep p st₀) (g .alone);
+      })
+      (grown-gathered nu (p .scale) (size p))))
 
-pub run-runs : (p : Problem) (m : Watch) (st₀ : List ℕ) (nu₀ : List Float) (s : Stand) → Marks p st₀ → Stands p st₀ nu₀ 0 0 s → Runs p st₀ nu₀ 200 200 (run SWEEP_CAP p m s 200)
+pub run-runs : (p : Problem) (m : Watch) (st₀ : List ℕ) (nu₀ : List Float) (s : Iterate) → Stated p st₀ → s .counts .sweeps ≡ 0 → Stands p st₀ nu₀ 0 s
+    → Runs p st₀ nu₀ 200 200 (run SWEEP_CAP p m s 200)
 unfolding run
-run-runs p m st₀ nu₀ s first h = turns-keep (turn SWEEP_CAP p m) (going s) (λ k. Runs p st₀ nu₀ k k) 200 h λ k x b g. turn-runs p m st₀ nu₀ first k b x g
+run-runs p m st₀ nu₀ s first z h = turns-keep (turn SWEEP_CAP p m) (going s) (λ k. Runs p st₀ nu₀ k k) 200 (z, h) λ k x b g. turn-runs p m st₀ nu₀ first k b x g

@@ -9,10 +9,10 @@ use lib.Ieee.{binary64}
 use lib.Ieee.Bits.{ofBits-fits}
 use Rattle.report.specs.Joins.{NOTHING, both}
 use Rattle.report.specs.declared.SolveReport.{SolveReport}
-use Rattle.boxed.specs.Solves.{Result}
+use Rattle.boxed.specs.Solve.{Result}
 use Rattle.boxed.specs.declared.BoxReport.{BoxReport}
 use Rattle.tally.specs.Tally.{Call, number, alone, turned, Tallies}
-use Rattle.demand3.specs.Claims.{Upright, Claims}
+use Rattle.demand3.specs.Claims.{BoundsInOrder, Claims}
 use Rattle.demand3.specs.Demand.{Every, EachAnswer, beside, reported, sumOf, turnedInto, Sums, Demand}
 use Rattle.demand3.proofs.Orders.{total, total-sum, total-most, within-nothing, all-is, total-perm}
 use Rattle.demand3.proofs.Solves.{modest, claims}
@@ -38,7 +38,7 @@ perm-answered (List·Permᴰ·cons e d) = List·Permᴰ·cons (ap answered e) (p
 perm-answered (List·Permᴰ·swap e g) = List·Permᴰ·swap (ap answered e) (ap answered g)
 perm-answered (List·Permᴰ·trans d g) = List·Permᴰ·trans (perm-answered d) (perm-answered g)
 
-each-claims : (l : List Call) → Every (λ c. number c ≡ 0 → Upright (c .problem)) l → EachAnswer Claims l (map alone l)
+each-claims : (l : List Call) → Every (λ c. number c ≡ 0 → BoundsInOrder (c .problem)) l → EachAnswer Claims l (map alone l)
 each-claims [] h = tt
 each-claims (c ∷ l) h = (claims c (h .0), each-claims l (h .1))
 

@@ -1,26 +1,31 @@
 -- The claim's own words against the solver's definitions: a magnitude, a row's sum and natural residual by the places of the matrix, a row that acts, and the rows listed.
 use Prim.Native.Nat.{ℕ, zero, suc, _+_, _*_, _≤_, _<_}
 use mathlib.Core.Path.{_≡_, refl, sym, _∙_, ap}
+use mathlib.Core.Logic.{inl}
 use mathlib.Core.Bool.{Bool, true, false, not, cond, _||_, true≢false}
-use mathlib.Core.List.{List, [], _∷_}
+use mathlib.Core.List.{List, [], _∷_, _++_}
 use native.Mathlib.Omega.{arith}
-use native.Mathlib.Nat.{mul-pos, zero-mul, zero-lt-suc, not-suc-le-zero, le-of-suc-le-suc}
+use native.Mathlib.Nat.{mul-pos, zero-mul, zero-lt-suc, not-suc-le-zero, le-of-suc-le-suc, le-of-eq, le-refl}
+use native.Mathlib.Numerals.{add-one}
 use lib.IntN.{ℤ}
-use lib.Dec.{ltb}
-use lib.ListN.{length, getD}
+use lib.Arith.{lt-of-le-ne}
+use lib.Dec.{eqb}
+use lib.ListN.{length, getD, List·getD-append}
+use lib.Seq.{getD-at}
 use lib.Ieee.{Float, nan, inf, fin, binary64, up, down, ofBits, neg, lt, le, eq, ne, level}
 use lib.Ieee.Fits.{up-pos, down-pos, sub-fits}
-use borrow.Author.Tests.{lt-ltb, le-ltb, ltb-false}
-use Rattle.loops.specs.Loops.{turns}
+use borrow.Author.Tests.{lt-ltb, le-ltb, eqb-true, eqb-false}
+use Rattle.loops.specs.Loops.{turns, tab}
+use Rattle.loops.proofs.Fill.{tab-length}
 use Rattle.loops.proofs.Gather.{Each, From, Gathered}
-use Rattle.floats.specs.Ops.{_⊕_, _⊖_, _⊗_, _⊘_, at, 0ᶠ}
+use Rattle.floats.specs.Ops.{_⊖_, _⊘_, at, 0ᶠ}
 use Rattle.floats.specs.Helpers.{abs, clamp, isNaN}
 use Rattle.floats.proofs.Maximum.{not-zero}
 use Rattle.floats.proofs.Meaning.{unsigned, abs-is}
 use Rattle.floats.proofs.Order.{total, not-above, lt-right}
-use Rattle.sweep.specs.Rows.{Problem, rows, row, cannotAct, rowSumTo, rowSum, fewer, update, naturalResidual}
-use Rattle.sweep.specs.Rows as D
-use Rattle.sweep.proofs.Matrix.{row-at, row-length}
+use Rattle.box_rows.specs.Rows.{Problem, size, entry, row, rowOf, isIdle, rowSum, update, naturalResidual, residualAt}
+use Rattle.box_rows.proofs.Matrix.{row-length}
+use Rattle.box_rows.proofs.Sums.{Summing, sum-start, sum-again, sum-done}
 use Rattle.demand3.specs.Claims.{magnitude, cell, sumTo, distance, ownResidual}
 
 -- ---- a magnitude
@@ -79,8 +84,8 @@ lt-abs x (fin s (suc m) e) = ap (lt x) (abs-more s m e)
 
 -- ---- a row that acts
 
-pub acts-above : (d : Float) → cannotAct d ≡ false → lt 0ᶠ d ≡ true
-unfolding cannotAct isNaN ne
+pub acts-above : (d : Float) → isIdle d ≡ false → lt 0ᶠ d ≡ true
+unfolding isIdle isNaN ne
 acts-above d h = go (eq d d) refl (lt 0ᶠ d) refl h
   where
     go : (a : Bool) → eq d d ≡ a → (b : Bool) → lt 0ᶠ d ≡ b → not a || le d 0ᶠ ≡ false → b ≡ true
@@ -88,16 +93,16 @@ acts-above d h = go (eq d d) refl (lt 0ᶠ d) refl h
     go true i true j g = refl
     go true i false j g = absurd (true≢false (sym (total 0ᶠ d (unfold eq ofBits in refl) i j) ∙ g))
 
-pub above-acts : (d : Float) → lt 0ᶠ d ≡ true → cannotAct d ≡ false
-unfolding cannotAct isNaN ne
+pub above-acts : (d : Float) → lt 0ᶠ d ≡ true → isIdle d ≡ false
+unfolding isIdle isNaN ne
 above-acts d h = rw (lt-right 0ᶠ d h) (go (le d 0ᶠ) refl)
   where
     go : (b : Bool) → le d 0ᶠ ≡ b → le d 0ᶠ ≡ false
     go true e = absurd (true≢false (sym h ∙ not-above 0ᶠ d e))
     go false e = e
 
-pub idle-not-above : (d : Float) → lt 0ᶠ d ≡ false → cannotAct d ≡ true
-unfolding cannotAct isNaN ne
+pub idle-not-above : (d : Float) → lt 0ᶠ d ≡ false → isIdle d ≡ true
+unfolding isIdle isNaN ne
 idle-not-above d h = go (eq d d) refl
   where
     go : (a : Bool) → eq d d ≡ a → not a || le d 0ᶠ ≡ true
@@ -106,40 +111,52 @@ idle-not-above d h = go (eq d d) refl
 
 -- ---- a row's sum and natural residual
 
-fewer-first : (a b : ℕ) → a ≤ b → fewer a b ≡ a
-unfolding fewer
-fewer-first a b h = go (ltb a b) refl
-  where
-    go : (t : Bool) → ltb a b ≡ t → cond t a b ≡ a
-    go true e = refl
-    go false e = omega (arith, ltb-false a b e)
-
 distance-is : (v u d lo hi s : Float) → distance v u d lo hi s ≡ naturalResidual v u d lo hi s
 unfolding distance naturalResidual update clamp
 distance-is v u d lo hi s =
     let x = v ⊖ cond (lt (v ⊖ u ⊘ d) lo) lo (cond (lt hi (v ⊖ u ⊘ d)) hi (v ⊖ u ⊘ d)) in
     ap (λ (z : Float). z ⊘ s) (magnitude-is x ∙ sym (abs-is x (sub-fits binary64 v (cond (lt (v ⊖ u ⊘ d) lo) lo (cond (lt hi (v ⊖ u ⊘ d)) hi (v ⊖ u ⊘ d))))))
 
-module _ (p : Problem) (few : rows p ≤ 32) (square : length (p .w) ≡ rows p * rows p) (i : ℕ) (here : i < rows p) where
-  pub diagonal : D.W p i i ≡ cell p i i
-  diagonal = row-at (p .w) (rows p) i few square here i here
+-- place j of a table is its value at j
+tab-at : {A : Type 0} (f : ℕ → A) (n j : ℕ) (d : A) → j < n → getD (tab f n) j d ≡ f j
+unfolding tab turns
+tab-at f zero j d h = absurd (not-suc-le-zero h)
+tab-at f (suc n) j d h = go (eqb j n) refl (λ c. tab-at f n j d c)
+  where
+    go : (b : Bool) → eqb j n ≡ b → (j < n → getD (tab f n) j d ≡ f j) → getD (tab f n ++ (f n ∷ [])) j d ≡ f j
+    go true e before = rw (eqb-true j n e) (getD-at (tab f n) (f n) [] d n (tab-length f n))
+    go false e before =
+        let c : j < n = lt-of-le-ne (le-of-suc-le-suc h) (eqb-false j n e) in
+        List·getD-append (tab f n) (f n ∷ []) d j (rw (tab-length f n) c) ∙ before c
 
-  sum-to : (nu : List Float) (j : ℕ) → j ≤ rows p → sumTo p nu i j ≡ rowSumTo (row p i) (at (p .free) i) nu j
-  unfolding sumTo rowSumTo turns
-  sum-to nu zero h = refl
-  sum-to nu (suc j) h =
-      ap (λ (s : Float). s ⊕ cell p i j ⊗ at nu j) (sum-to nu j (omega arith))
-      ∙ ap (λ (c : Float). rowSumTo (row p i) (at (p .free) i) nu j ⊕ c ⊗ at nu j) (sym (row-at (p .w) (rows p) i few square here j h))
+module _ (p : Problem) (i : ℕ) where
+  row-at : (j : ℕ) → j < size p → at (rowOf p i) j ≡ cell p i j
+  unfolding row
+  row-at j h = tab-at (entry (p .w) (size p) i) (size p) j nan h
 
-  sum-is : (nu : List Float) → rows p ≤ length nu → sumTo p nu i (rows p) ≡ rowSum p nu i
-  sum-is nu long =
-      let e : fewer (length (row p i)) (length nu) ≡ rows p
-      = rw (row-length (p .w) (rows p) i few square here) (fewer-first (rows p) (length nu) long) in
-      rw e (sum-to nu (rows p) (native.Mathlib.Nat.le-refl (rows p)))
+  pub diagonal : i < size p → at (rowOf p i) i ≡ cell p i i
+  diagonal here = row-at i here
 
-  pub own-is : (nu : List Float) → rows p ≤ length nu → ownResidual p nu i ≡ D.ownResidual p nu i
-  own-is nu long =
-      rw (sum-is nu long, ← diagonal) (distance-is (at nu i) (rowSum p nu i) (D.W p i i) (at (p .lo) i) (at (p .hi) i) (at (p .scale) i))
+  -- what the solver has still to add after the columns that the claim has added
+  module _ (nu : List Float) (long : length nu ≡ size p) where
+    summing : (j : ℕ) → j ≤ size p → Summing (rowOf p i) (at (p .uFree) i) nu j (sumTo p nu i j)
+    unfolding sumTo
+    summing zero h = sum-start (rowOf p i) (at (p .uFree) i) nu
+    summing (suc j) h =
+        rw (row-at j h) at (rw (add-one) at
+        (sum-again (rowOf p i) (at (p .uFree) i) nu j (sumTo p nu i j) (summing j (omega arith)) (rw (row-length (p .w) (size p) i) h) (omega arith)))
+
+    sum-is : sumTo p nu i (size p) ≡ rowSum (rowOf p i) (at (p .uFree) i) nu
+    sum-is =
+        let e = row-length (p .w) (size p) i in
+        sum-done (rowOf p i) (at (p .uFree) i) nu (size p) (size p) (sumTo p nu i (size p))
+        (record { first = le-of-eq (sym e); second = le-of-eq (sym long); one = inl (sym e) }) (le-refl (size p)) (summing (size p) (le-refl (size p)))
+
+    pub own-is : i < size p → ownResidual p nu i ≡ residualAt p nu i
+    unfolding residualAt
+    own-is here =
+        rw (sum-is, ← diagonal here)
+        (distance-is (at nu i) (rowSum (rowOf p i) (at (p .uFree) i) nu) (at (rowOf p i) i) (at (p .lo) i) (at (p .hi) i) (at (p .scale) i))
 
 -- ---- the rows listed, by their places
 

@@ -6,12 +6,12 @@ use lib.ListN.{length, drop}
 use lib.Ieee.{Float}
 use Rattle.report.specs.Joins.{NOTHING}
 use Rattle.report.specs.declared.SolveReport.{SolveReport}
-use Rattle.boxed.specs.Solves.{Result, answerOf}
+use Rattle.boxed.specs.Solve.{Result, answerOf}
 use Rattle.boxed.specs.declared.BoxAnswer.{BoxAnswer}
 use Rattle.boxed.specs.declared.BoxAnswer.the-variants.{Solved, Infeasible, Refused}
 use Rattle.tally.specs.Tally.{Call, number, tallied, all}
 use Rattle.tallied.specs.Joining.{Entered}
-use Rattle.demand3.specs.Claims.{Upright}
+use Rattle.demand3.specs.Claims.{BoundsInOrder}
 use Rattle.demand3.specs.Demand.{Every, Demanded}
 
 -- what a call answers and leaves in the multipliers, the states and the row list
@@ -65,5 +65,5 @@ pub record Kept (l k : List Call) (r s : List Told) (ws xs : List Workspace) (u 
   pub workspacesOther : WorkspacesLeft s xs
 
 abbrev pub DemandOfCode : Type 0
-DemandOfCode = (l k : List Call) → List·Permᴰ l k → length l ≤ 20000000 → Every (λ c. number c ≡ 0 → Upright (c .problem)) l
+DemandOfCode = (l k : List Call) → List·Permᴰ l k → length l ≤ 20000000 → Every (λ c. number c ≡ 0 → BoundsInOrder (c .problem)) l
     → (r s : List Told) (ws xs : List Workspace) (u v : SolveReport) → Made NOTHING l r ws u → Made NOTHING k s xs v → Kept l k r s ws xs u v

@@ -13,7 +13,7 @@ use Rattle.tally.specs.Tally.{Call, number, all}
 use Rattle.capi.specs.Reports as report
 use Rattle.capi.specs.Solves as solve
 use Rattle.capi.specs.Tallies as tally
-use Rattle.demand3.specs.Claims.{Upright}
+use Rattle.demand3.specs.Claims.{BoundsInOrder}
 use Rattle.demand3.specs.Demand.{Every, Demanded}
 use Rattle.demand3.specs.Called.{Told, toldOf, Workspace, Made}
 
@@ -127,6 +127,6 @@ pub record KeptFromC (l k : List Lent) (r s : List Answer) (u v : Buffers) : Typ
   pub toldOther : EachTells k s (map toldOf (all NOTHING (solves k) .answers))
 
 abbrev pub DemandFromC : Type 0
-DemandFromC = (l k : List Lent) → List·Permᴰ (solves l) (solves k) → length (solves l) ≤ 20000000 → Every (λ c. number c ≡ 0 → Upright (c .problem)) (solves l)
+DemandFromC = (l k : List Lent) → List·Permᴰ (solves l) (solves k) → length (solves l) ≤ 20000000 → Every (λ c. number c ≡ 0 → BoundsInOrder (c .problem)) (solves l)
     → (r s : List Answer) (t t′ u v : Buffers) → Long t → Long t′ → held t ≡ NOTHING → held t′ ≡ NOTHING → MadeFromC t l r u → MadeFromC t′ k s v
     → KeptFromC l k r s u v

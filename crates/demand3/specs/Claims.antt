@@ -7,13 +7,12 @@ use mathlib.Core.List.{List, [], _∷_}
 use lib.Dec.{leb, ltb}
 use lib.ListN.{length, getD, take, replicate}
 use lib.Ieee.{Float, nan, inf, fin, lt, le, eq, ne}
-use Rattle.floats.specs.Ops.{_⊕_, _⊖_, _⊗_, _⊘_, at, Fits, 0ᶠ, 1ᶠ, 1e6, 1e-9, ∞, −∞}
-use Rattle.sweep.specs.Rows.{Problem, rows, swept, grown, begun, marked, shown}
-use Rattle.least_norm.specs.LeastNorm.{leastNorm}
-use Rattle.moves.specs.Moves.{held, side, matrix, left, inconsistent, along, toTarget, room}
-use Rattle.exact_pass.specs.Headings.{Trial, trial, moving, found}
-use Rattle.exact_pass.specs.Passes.{stuck, moves, exactPass}
-use Rattle.boxed.specs.Solves.{Stand, Run, going, ended, Watch, checkpoint, run, begin, SWEEP_CAP, Outcome, refused, solved, infeasible, Result, used}
+use Rattle.floats.specs.Ops.{_⊕_, _⊖_, _⊗_, _⊘_, at, Fits, 0ᶠ, 1e6, 1e-9, ∞, −∞}
+use Rattle.box_rows.specs.Rows.{Problem, size}
+use Rattle.exact_pass.specs.Pass as pass
+use Rattle.exact_pass.specs.Pass.{Trial, trial, freeRows, moved, found, exactPass}
+use Rattle.boxed.specs.Sweep as sweep
+use Rattle.boxed.specs.Solve.{Iterate, iterate, counts, Run, going, ended, Watch, checkpoint, run, SWEEP_CAP, Outcome, refused, solved, infeasible, Result, used}
 use Rattle.boxed.specs.declared.BoxReport.{BoxReport}
 use Rattle.boxed.specs.declared.Cause.{Cause}
 use Rattle.boxed.specs.declared.Cause.the-variants as cause
@@ -22,10 +21,10 @@ use Rattle.tally.specs.Tally.{Call, number}
 -- ---- the hypothesis
 
 -- every lower bound at most its upper, and each a value that an f64 holds, as every float of a call is
-pub record Upright (p : Problem) : Type 0 where
-  pub ordered : (i : ℕ) → i < rows p → le (at (p .lo) i) (at (p .hi) i) ≡ true
-  pub lows : (i : ℕ) → i < rows p → Fits (at (p .lo) i)
-  pub highs : (i : ℕ) → i < rows p → Fits (at (p .hi) i)
+pub record BoundsInOrder (p : Problem) : Type 0 where
+  pub ordered : (i : ℕ) → i < size p → le (at (p .lo) i) (at (p .hi) i) ≡ true
+  pub lows : (i : ℕ) → i < size p → Fits (at (p .lo) i)
+  pub highs : (i : ℕ) → i < size p → Fits (at (p .hi) i)
 
 -- ---- the words
 
@@ -37,11 +36,11 @@ magnitude (fin s m e) = fin false m e
 
 -- W_ij, the matrix being held by rows
 abbrev pub cell : Problem → ℕ → ℕ → Float
-cell p i j = at (p .w) (i * rows p + j)
+cell p i j = at (p .w) (i * size p + j)
 
 -- u_i over the first k columns: u_free_i, then + W_ij nu_j for j rising
 unfoldable pub sumTo : Problem → List Float → ℕ → ℕ → Float
-sumTo p nu i zero = at (p .free) i
+sumTo p nu i zero = at (p .uFree) i
 sumTo p nu i (suc j) = sumTo p nu i j ⊕ cell p i j ⊗ at nu j
 
 -- lo if v < lo, else hi if v > hi, else v
@@ -54,7 +53,7 @@ distance v u d lo hi s = magnitude (v ⊖ within (v ⊖ u ⊘ d) lo hi) ⊘ s
 
 -- row i's natural residual with the multipliers nu
 abbrev pub ownResidual : Problem → List Float → ℕ → Float
-ownResidual p nu i = distance (at nu i) (sumTo p nu i (rows p)) (cell p i i) (at (p .lo) i) (at (p .hi) i) (at (p .scale) i)
+ownResidual p nu i = distance (at nu i) (sumTo p nu i (size p)) (cell p i i) (at (p .lo) i) (at (p .hi) i) (at (p .scale) i)
 
 -- a row acts unless it is Idle, its diagonal NaN or at most 0
 abbrev pub acting : Problem → ℕ → Bool
@@ -84,13 +83,27 @@ below k = membersBelow k passSweeps
 
 -- ---- the sweeps of a solve, by the names of its definition
 
+-- what the first sweep starts from: every multiplier clamped, and each row Idle or inside
+abbrev pub startOf : Problem → List Float → List ℕ → sweep.Start
+startOf p nu st = sweep.start (p .w) (size p) (p .lo) (p .hi) nu (take (size p) st) (size p)
+
+abbrev pub started : Call → sweep.Start
+started c = startOf (c .problem) (c .nu) (c .states)
+
+abbrev pub firstIterate : sweep.Start → Iterate
+firstIterate b = iterate (b .nu) (b .states) (counts 0 0)
+
 -- the solve after k sweeps, and whether it still goes on
 abbrev pub afterSweeps : Call → ℕ → Run
-afterSweeps c k = run SWEEP_CAP (c .problem) (c .watch) (begin (c .problem) (c .nu) (c .states)) k
+afterSweeps c k = run SWEEP_CAP (c .problem) (c .watch) (firstIterate (started c)) k
 
 abbrev pub goesOn : Run → Bool
 goesOn (going s) = true
-goesOn (ended k e s) = false
+goesOn (ended e s) = false
+
+-- the multipliers that one sweep leaves of nu
+abbrev pub oneSweep : Problem → List ℕ → List Float → List Float
+oneSweep p st nu = sweep.sweep (p .w) (p .uFree) (p .lo) (p .hi) st nu (size p)
 
 -- whether sweep k + 1 makes an exact pass, the solve after k sweeps being x: it is a sweep with a pass, and growth does not end it
 abbrev pub none : List ℕ → Bool
@@ -98,75 +111,77 @@ none [] = true
 none (a ∷ l) = false
 
 abbrev pub makesPass : Problem → ℕ → Run → Bool
-makesPass p k (going s) = checkpoint SWEEP_CAP (suc k) && none (grown (swept p (s .states) (s .nu) (rows p)) (p .scale) (rows p))
-makesPass p k (ended j e s) = false
+makesPass p k (going s) = checkpoint SWEEP_CAP (suc k) && none (sweep.grown (oneSweep p (s .states) (s .nu)) (p .scale) (size p))
+makesPass p k (ended e s) = false
 
 -- the exact passes that the first k sweeps from s make
-unfoldable pub passesMade : Problem → Watch → Stand → ℕ → ℕ
+unfoldable pub passesMade : Problem → Watch → Iterate → ℕ → ℕ
 passesMade p m s zero = 0
 passesMade p m s (suc k) = passesMade p m s k + cond (makesPass p k (run SWEEP_CAP p m s k)) 1 0
 
 abbrev pub passesIn : Call → ℕ → ℕ
-passesIn c k = passesMade (c .problem) (c .watch) (begin (c .problem) (c .nu) (c .states)) k
+passesIn c k = passesMade (c .problem) (c .watch) (firstIterate (started c)) k
 
 -- The multipliers that k sweeps leave of nu, no exact pass between. A sweep reads of the states only which rows are Idle, and no pass changes that.
-unfoldable pub sweptAlone : Problem → List ℕ → List Float → ℕ → List Float
-sweptAlone p st nu zero = nu
-sweptAlone p st nu (suc k) = swept p st (sweptAlone p st nu k) (rows p)
+unfoldable pub sweepsAlone : Problem → List ℕ → List Float → ℕ → List Float
+sweepsAlone p st nu zero = nu
+sweepsAlone p st nu (suc k) = oneSweep p st (sweepsAlone p st nu k)
 
 -- from the clamp before the first sweep on
 abbrev pub bySweeps : Call → ℕ → List Float
-bySweeps c k =
-    sweptAlone (c .problem) (marked (c .problem) (c .states) (rows (c .problem))) (begun (c .problem) (c .nu) (rows (c .problem))) k
+bySweeps c k = sweepsAlone (c .problem) (started c .states) (started c .nu) k
 
 -- ---- an exact pass that finds the answer, by the names of its definition
 
 -- what the pass tries first: the states that the multipliers show, and rows at a bound put on it
 abbrev pub firstTried : Problem → List ℕ → List Float → Trial
-firstTried p st nu = trial (held p (shown p nu st (rows p)) nu (rows p)) (shown p nu st (rows p))
+firstTried p st nu = pass.start (p .lo) (p .hi) (p .scale) nu st (size p) .trial
 
--- A move from t of the rows l inside: the least-norm solution z of their system is the target, and r is what z leaves of the system. Where that is too much, the direction is
--- along r, without an end; where it is not, it is to the target, which is at 1.
-pub record Heading : Type 0 where
-  pub direction : List Float
-  pub end : Float
+-- the free rows of t, and the target of a step from it: the least-norm solution of their system
+abbrev pub freeIn : Problem → Trial → List ℕ
+freeIn p t = freeRows (t .states) (size p)
 
-unfoldable pub heading : Problem → Trial → List ℕ → Heading
-heading p t l =
-    let k = length l in
-    let rhs = side (p .w) (p .free) (t .states) (t .nu) l k in
-    let z = leastNorm k k (matrix (p .w) (rows p) (p .scale) l k) rhs .x in
-    let r = left (p .w) (rows p) (p .scale) l rhs z k in
-    let y = along l r (replicate (rows p) 0ᶠ) k in
-    cond (inconsistent (p .w) (rows p) (p .scale) l r k)
-    (record { direction = y; end = ∞ })
-    (record { direction = toTarget (p .scale) l z (t .nu) y k; end = 1ᶠ })
+abbrev pub targetOf : Problem → Trial → pass.Target
+targetOf p t = pass.target (p .w) (p .uFree) (p .scale) (t .states) (t .nu) (freeIn p t)
 
--- the step: how far along it the boxes let the rows go
-unfoldable pub stepOf : Problem → Trial → List ℕ → Float
-stepOf p t l = room p l (t .nu) (heading p t l .direction) (heading p t l .end) (length l) .alpha
+-- The direction of the step, a value for each free row: to the target, or, where the solution leaves too much of the system, along what it leaves.
+unfoldable pub directionOf : Problem → Trial → List Float
+directionOf p t = pass.direction (targetOf p t .inconsistent) (p .scale) (freeIn p t) (targetOf p t .z) (t .nu) (targetOf p t .y)
 
--- The pass's last move, from what it had tried after the moves before to what it found: every row inside (state 0) was at `from`, and the move wrote it, its step along its
+-- of row i: 0 where it is not free
+unfoldable pub directionAt : Problem → Trial → ℕ → Float
+directionAt p t i = at (pass.scattered (freeIn p t) (directionOf p t) (replicate (size p) 0ᶠ) (length (freeIn p t))) i
+
+-- How far along it the boxes let the rows go, by the ratio test: to the target, which is at 1, at most; along what the solution leaves without an end.
+unfoldable pub stepLength : Problem → Trial → Float
+stepLength p t =
+    pass.ratioTest (p .lo) (p .hi) (freeIn p t) (t .nu) (directionOf p t) (pass.longest (targetOf p t .inconsistent)) (length (freeIn p t)) .alpha
+
+-- The pass's last step, from what it had tried after the steps before to what it found: every free row (state 0) was at `from`, and the step wrote it, its length along its
 -- direction.
-pub record LastMove (p : Problem) (first : Trial) (nu : List Float) (st : List ℕ) : Type 0 where
+pub record LastStep (p : Problem) (first : Trial) (nu : List Float) (st : List ℕ) : Type 0 where
   pub before : ℕ
   pub from : List Float
-  pub tried : moves p first before ≡ moving (trial from st)
-  pub came : moves p first (suc before) ≡ found (trial nu st)
-  pub written : (i : ℕ) → i < rows p → getD st i 0 ≡ 0
-      → at nu i ≡ at from i ⊕ stepOf p (trial from st) (stuck st (rows p)) ⊗ at (heading p (trial from st) (stuck st (rows p)) .direction) i
+  pub tried : pass.steps p first before ≡ moved (trial from st)
+  pub came : pass.steps p first (suc before) ≡ found (trial nu st)
+  pub written : (i : ℕ) → i < size p → getD st i 0 ≡ 0
+      → at nu i ≡ at from i ⊕ stepLength p (trial from st) ⊗ directionAt p (trial from st) i
+
+-- the states of the rows, of an answer's list
+abbrev pub rowStates : Call → Result → List ℕ
+rowStates c a = take (size (c .problem)) (a .states)
 
 -- An answer that the pass of sweep k found, from the multipliers that the sweeps left: it has written every row that acts.
 pub record FoundByPass (c : Call) (a : Result) (k : ℕ) : Type 0 where
   -- the states that the pass was given; the answer has the multipliers and states that it ended with
   pub given : List ℕ
-  pub pass : exactPass (c .problem) given (bySweeps c k) ≡ found (trial (a .nu) (a .states))
-  -- a row that acts is inside or on a bound
-  pub states : (i : ℕ) → i < rows (c .problem) → acting (c .problem) i ≡ true → getD (a .states) i 0 ≤ 2
-  -- inside, the last move wrote it; on a bound, a move wrote that bound
-  pub last : LastMove (c .problem) (firstTried (c .problem) given (bySweeps c k)) (a .nu) (a .states)
-  pub low : (i : ℕ) → i < rows (c .problem) → getD (a .states) i 0 ≡ 1 → at (a .nu) i ≡ at (c .problem .lo) i
-  pub high : (i : ℕ) → i < rows (c .problem) → getD (a .states) i 0 ≡ 2 → at (a .nu) i ≡ at (c .problem .hi) i
+  pub pass : exactPass (c .problem) given (bySweeps c k) ≡ found (trial (a .nu) (rowStates c a))
+  -- a row that acts is free or on a bound
+  pub states : (i : ℕ) → i < size (c .problem) → acting (c .problem) i ≡ true → getD (a .states) i 0 ≤ 2
+  -- free, the last step wrote it; on a bound, a step wrote that bound
+  pub last : LastStep (c .problem) (firstTried (c .problem) given (bySweeps c k)) (a .nu) (rowStates c a)
+  pub low : (i : ℕ) → i < size (c .problem) → getD (a .states) i 0 ≡ 1 → at (a .nu) i ≡ at (c .problem .lo) i
+  pub high : (i : ℕ) → i < size (c .problem) → getD (a .states) i 0 ≡ 2 → at (a .nu) i ≡ at (c .problem .hi) i
 
 -- ---- an accepted solve
 
@@ -192,15 +207,15 @@ pub record Sound (c : Call) (a : Result) (grew : Bool) (r : BoxReport) : Type 0 
   -- In an exact answer they are those of the Idle rows: that pass has written every row that acts (no row acts where there was no sweep),
   pub written : r .exact ≡ true → 0 < r .sweeps → FoundByPass c a (r .sweeps)
   -- and no other.
-  pub idleLeft : (i : ℕ) → i < rows (c .problem) → acting (c .problem) i ≡ false → at (a .nu) i ≡ at (bySweeps c (r .sweeps)) i
+  pub idleLeft : (i : ℕ) → i < size (c .problem) → acting (c .problem) i ≡ false → at (a .nu) i ≡ at (bySweeps c (r .sweeps)) i
   -- Multipliers left by sweeps are NaN or in their boxes.
-  pub inBoxes : r .exact ≡ false → (i : ℕ) → i < rows (c .problem) → NaNOrInBox (c .problem) (a .nu) i
-  pub idleInBoxes : (i : ℕ) → i < rows (c .problem) → acting (c .problem) i ≡ false → NaNOrInBox (c .problem) (a .nu) i
+  pub inBoxes : r .exact ≡ false → (i : ℕ) → i < size (c .problem) → NaNOrInBox (c .problem) (a .nu) i
+  pub idleInBoxes : (i : ℕ) → i < size (c .problem) → acting (c .problem) i ≡ false → NaNOrInBox (c .problem) (a .nu) i
   -- converged but not exact means residual at most 1e-9
   pub converged : r .converged ≡ true → r .exact ≡ false → le (r .residual) 1e-9 ≡ true
   -- in an exact answer a row on a bound equals it, its own residual not above 1e-9: at state 1 lo, at state 2 hi
-  pub atLo : r .exact ≡ true → (i : ℕ) → i < rows (c .problem) → getD (a .states) i 0 ≡ 1 → OnBound (c .problem) (a .nu) i (at (c .problem .lo) i)
-  pub atHi : r .exact ≡ true → (i : ℕ) → i < rows (c .problem) → getD (a .states) i 0 ≡ 2 → OnBound (c .problem) (a .nu) i (at (c .problem .hi) i)
+  pub atLo : r .exact ≡ true → (i : ℕ) → i < size (c .problem) → getD (a .states) i 0 ≡ 1 → OnBound (c .problem) (a .nu) i (at (c .problem .lo) i)
+  pub atHi : r .exact ≡ true → (i : ℕ) → i < size (c .problem) → getD (a .states) i 0 ≡ 2 → OnBound (c .problem) (a .nu) i (at (c .problem .hi) i)
 
 -- past a million scales where growth is the cause, else acting with no lower or no upper limit
 abbrev pub PastAMillionScales : Problem → List Float → ℕ → Type 0
@@ -223,7 +238,7 @@ pub record Listed (p : Problem) (a : Result) (c : Cause) (l : List ℕ) : Type 0
   -- rising: each above the one before
   pub rising : (k : ℕ) → suc k < length l → getD l k 0 < getD l (suc k) 0
   -- each a row of the problem, with its reason
-  pub ofProblem : (k : ℕ) → k < length l → getD l k 0 < rows p
+  pub ofProblem : (k : ℕ) → k < length l → getD l k 0 < size p
   pub reasons : (k : ℕ) → k < length l → Reason p (a .nu) c (getD l k 0)
 
 abbrev pub grewBy : Cause → Bool

@@ -1,4 +1,8 @@
-pub mod Headway
+pub mod Rows
 pub mod Systems
-pub mod Turning
+pub mod Collecting
+pub mod Releases
 pub mod Periods
+pub mod Stepping
+pub mod Running
+pub mod Replies

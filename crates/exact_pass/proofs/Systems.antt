@@ -1,112 +1,104 @@
--- The system of a move and its solution, from what the calls promise: the right-hand side, its copy, the matrix and the least-norm solution.
-use Prim.Native.Nat.{ℕ, zero, suc, _*_, _≤_}
+-- The system of the free rows: its matrix as a loop fills it row by row, and its least-norm solution, from what the calls promise.
+use Prim.Native.Nat.{ℕ, zero, suc, _+_, _-_, _*_, _≤_, _<_}
+use borrow.Rule.Slice.PartMut.{putMid}
 use mathlib.Core.Path.{_≡_, refl, sym, ap, _∙_}
-use mathlib.Core.Bool.{Bool, true, false, cond, _&&_}
-use mathlib.Core.List.{List, [], _∷_}
+use mathlib.Core.Bool.{Bool}
+use mathlib.Core.List.{List, [], _++_, append-assoc, append-nil}
 use native.Mathlib.Omega.{arith}
-use lib.Dec.{leb, eqb}
-use lib.ListN.{length, take, drop}
+use native.Mathlib.Numerals.{add-one}
+use native.Mathlib.Nat.{suc-mul}
+use lib.ListN.{length, getD, take, drop, length-append, length-drop, drop-of-length-le}
+use lib.Seq.{take-at, drop-at, drop-drop, length-take-le}
+use Rattle.loops.proofs.Index.{row-end}
 use lib.Ieee.{Float}
 use borrow.Author.Tests.{le-leb, eq-eqb}
-use Rattle.loops.specs.Loops.{pasted}
-use Rattle.loops.proofs.Paste.{front-whole, front-read}
-use Rattle.loops.specs.Gathering.{Gathering}
-use Rattle.loops.proofs.Gather.{those-le}
-use lib.Seq.{length-take-le}
-use native.Mathlib.Nat.{mul-le-mul}
+use Rattle.loops.specs.Loops.{turns, tab}
+use Rattle.loops.proofs.Fill.{tab-length}
 use Rattle.least_norm.specs.LeastNorm.{leastNorm}
-use Rattle.least_norm.specs.Promise as promise
-use Rattle.sweep.specs.Rows.{Problem, rows}
-use Rattle.moves.specs.Moves as M
-use Rattle.moves.proofs.Fills.{side-length, matrix-length}
-use Rattle.exact_pass.specs.declared.Exact.{Exact}
-use Rattle.exact_pass.specs.Headings as H
-use Rattle.exact_pass.specs.Headings.{Passed, trial}
-use Rattle.exact_pass.specs.Passes as D
-use Rattle.exact_pass.specs.Private as R
+use Rattle.least_norm.specs.Promise as least
+use Rattle.box_rows.specs.Rows as box
+use Rattle.box_rows.proofs.Matrix.{later}
+use Rattle.exact_pass.specs.Pass as def
+use Rattle.exact_pass.specs.Private.{Copied, part}
 
--- the least-norm call accepts what it is lent
-replied : (k : ℕ) (a b x : List Float) (room : ℕ) → k ≤ 32 → length a ≡ k * k → length b ≡ k → length x ≡ k → 1056 ≤ room → promise.reply k k a b x room ≡ promise.answered (leastNorm k k a b)
-unfolding promise.reply
+-- ---- a list filled by parts of k values, g 0, g 1, ..
+
+module _ {A : Type 0} (g : ℕ → List A) (k : ℕ) (long : (i : ℕ) → length (g i) ≡ k) where
+  abbrev joined : ℕ → List A
+  joined i = turns i [] λ i m. m ++ g i
+
+  joined-length : (i : ℕ) → length (joined i) ≡ i * k
+  unfolding turns
+  joined-length zero = omega arith
+  joined-length (suc i) = length-append (joined i) (g i) ∙ omega (arith, joined-length i, long i, suc-mul i k)
+
+  module _ (m₀ : List A) where
+    pub parts-start : m₀ ≡ joined 0 ++ drop (0 * k) m₀
+    unfolding turns
+    parts-start = let e : 0 * k ≡ 0 = omega arith in rw e
+
+    -- the part from place i * k on is replaced by the next one
+    pub parts-again : (i : ℕ) (m r : List A) → m ≡ joined i ++ drop (i * k) m₀ → r ≡ g i → putMid (i * k) (i * k + k - i * k) m r ≡ joined (i + 1) ++ drop ((i + 1) * k) m₀
+    unfolding turns
+    parts-again i m r f e =
+        let c : i * k + k - i * k ≡ k = omega arith in
+        let t : i * k + k ≡ suc i * k = omega (arith, suc-mul i k) in
+        let x : take (i * k) m ≡ joined i = rw f (take-at (joined i) _ (i * k) (joined-length i)) in
+        let y : drop (i * k) m ≡ drop (i * k) m₀ = rw f (drop-at (joined i) _ (i * k) (joined-length i)) in
+        rw (add-one i, c, x, y, drop-drop k (i * k) m₀, t, e, append-assoc)
+
+    pub parts-done : (i : ℕ) (m : List A) → length m₀ ≡ k * k → i ≤ k → k ≤ i → m ≡ joined i ++ drop (i * k) m₀ → m ≡ joined k
+    parts-done i m s a b e = let q : i ≡ k = omega arith in e ∙ rw (q, drop-of-length-le m₀ {i = k * k} (omega (arith, s)), append-nil)
+
+pub matrix-row-length : (r scale : List Float) (l : List ℕ) (k : ℕ) → length (def.matrixRow r scale l k) ≡ k
+unfolding def.matrixRow
+matrix-row-length r scale l k = tab-length (def.scaled r scale l) k
+
+pub right-hand-length : (w uFree : List Float) (st : List ℕ) (nu : List Float) (l : List ℕ) (k : ℕ) → length (def.rightHandSide w uFree st nu l k) ≡ k
+unfolding def.rightHandSide
+right-hand-length w uFree st nu l k = tab-length (def.rightHandAt w uFree st nu l) k
+
+-- the part of a matrix of k rows that row i takes
+pub part-length : (m : List Float) (k i : ℕ) → length m ≡ k * k → i < k → length (take (i * k + k - i * k) (drop (i * k) m)) ≡ k
+part-length m k i e h =
+    let c : i * k + k - i * k ≡ k = omega arith in
+    rw c (length-take-le k (drop (i * k) m) (omega (arith, length-drop (i * k) m, row-end k k i h, e)))
+
+pub square : (a b k : ℕ) → a ≡ k * k → b ≡ k → a ≡ b * b
+square a b k e f = rw f e
+
+-- the lengths a, b, c and d of the lists of a problem of k rows, which are those of n
+pub sized-kept : (n k a b c d : ℕ) → (k ≤ 32) × (a ≡ k * k) × (b ≡ k) × (c ≡ k) × (d ≡ k) → n ≡ k → (n ≤ 32) × (a ≡ n * n) × (b ≡ n) × (c ≡ n) × (d ≡ n)
+sized-kept n k a b c d z e = rw e z
+
+-- ---- the least-norm call accepts what it is lent
+
+replied : (k : ℕ) (a b x : List Float) (room : ℕ) → k ≤ 32 → length a ≡ k * k → length b ≡ k → length x ≡ k → 1056 ≤ room → least.reply k k a b x room ≡ least.answered (leastNorm k k a b)
+unfolding least.reply
 replied k a b x room f p q r s = rw (le-leb k 32 f, eq-eqb (length a) (k * k) p, eq-eqb (length b) k q, eq-eqb (length x) k r, le-leb 1056 room s)
 
-matrix-is : (w : List Float) (n : ℕ) (scale : List Float) (l : List ℕ) (m : List Float) → length l ≤ 32 → length m ≡ length l * length l → M.matrixIn w n scale l m ≡ M.matrix w n scale l (length l)
-unfolding M.matrixIn
-matrix-is w n scale l m h e = rw (le-leb (length l) 32 h, eq-eqb (length m) (length l * length l) e)
+module _ (k : ℕ) (a b x : List Float) (work : List Float) (f : k ≤ 32) (p : length a ≡ k * k) (q : length b ≡ k) (r : length x ≡ k) (s : 1056 ≤ length work) where
+  pub solved-x : (x′ : List Float) → x′ ≡ least.xLeft (least.reply k k a b x (length work)) x → x′ ≡ leastNorm k k a b .x
+  solved-x x′ e = rw (replied k a b x (length work) f p q r s) at e
 
-module _ (w free scale : List Float) (st : List ℕ) (nu : List Float) (l : List ℕ) (m m′ rhs rhs′ b b′ z : List Float) (room : ℕ)
-    (few : length l ≤ 32) (square : length m ≡ length l * length l) (side : length rhs ≡ length l) (copied : length b ≡ length l) (solution : length z ≡ length l) (roomy : 1056 ≤ room)
-    (sided : rhs′ ≡ M.side w free st nu l (length rhs)) (copy : b′ ≡ pasted rhs′ b) (filled : m′ ≡ M.matrixIn w (length free) scale l m) where
-  pub side-is : rhs′ ≡ M.side w free st nu l (length l)
-  side-is = rw side at sided
+  pub solved-work : (work′ : List Float) → drop (least.used (least.reply k k a b x (length work))) work′ ≡ drop (least.used (least.reply k k a b x (length work))) work → drop 1056 work′ ≡ drop 1056 work
+  solved-work work′ e = rw (replied k a b x (length work) f p q r s) at e
 
-  rhs-long : length rhs′ ≡ length l
-  rhs-long = ap length side-is ∙ side-length w free st nu l (length l)
+-- ---- the calls of `target`: y₁ is the right-hand side, y₂ and m₁ are what the least-norm call was lent
 
-  copy-is : b′ ≡ rhs′
-  copy-is = copy ∙ front-whole rhs′ b (copied ∙ sym rhs-long)
+module _ (w uFree scale : List Float) (st : List ℕ) (nu : List Float) (l : List ℕ) (y₁ work₀ work₁ work₂ : List Float) where
+  module _ (sided : y₁ ≡ def.rightHandSide w uFree st nu l (length l)) (copied : Copied y₁ 1056 work₀ work₁) (few : length l ≤ 32) (solved : drop 1056 work₂ ≡ drop 1056 work₁) where
+    side-length : length y₁ ≡ length l
+    side-length = ap length sided ∙ right-hand-length w uFree st nu l (length l)
 
-  filled-is : m′ ≡ M.matrix w (length free) scale l (length l)
-  filled-is = filled ∙ matrix-is w (length free) scale l m few square
+    side-kept : part 1056 (length l) work₂ ≡ def.rightHandSide w uFree st nu l (length l)
+    side-kept = rw (solved, ← side-length) (copied .part) ∙ sided
 
-  pub reply-is : promise.reply (length l) (length l) m′ b′ z room ≡ promise.answered (leastNorm (length l) (length l) (M.matrix w (length free) scale l (length l)) rhs′)
-  reply-is =
-      rw (filled-is, copy-is)
-      (replied (length l) (M.matrix w (length free) scale l (length l)) rhs′ z room few (matrix-length w (length free) scale l (length l)) rhs-long solution roomy)
+    pub target-run : (m z y : List Float) (b : Bool) → m ≡ def.matrix w scale l (length l) → z ≡ leastNorm (length y₁) (length y₁) m y₁ .x → y ≡ def.downhill w scale l (part 1056 (length l) work₂) z (length l) → b ≡ def.inconsistent w scale l (part 1056 (length l) work₂) z (length l) → def.targeted z y b ≡ def.target w uFree scale st nu l
+    unfolding def.target
+    target-run m z y b e f g h =
+        let zed : z ≡ leastNorm (length l) (length l) (def.matrix w scale l (length l)) (def.rightHandSide w uFree st nu l (length l)) .x = rw (side-length, e, sided) at f in
+        rw (g, h, side-kept, zed)
 
-  pub solution-is : (z′ : List Float) → z′ ≡ promise.xLeft (promise.reply (length l) (length l) m′ b′ z room) z → z′ ≡ leastNorm (length l) (length l) (M.matrix w (length free) scale l (length l)) rhs′ .x
-  solution-is z′ e = rw reply-is at e
-
-  pub spent-is : (v v′ : List Float) → drop (promise.used (promise.reply (length l) (length l) m′ b′ z room)) v′ ≡ drop (promise.used (promise.reply (length l) (length l) m′ b′ z room)) v → drop 1056 v′ ≡ drop 1056 v
-  spent-is v v′ e = rw reply-is at e
-
--- a move, as the code goes through it
-module _ (p : Problem) (nu : List Float) (st : List ℕ) (l : List ℕ) (e : Exact) (nu′ : List Float) (st′ q q′ : List ℕ) where
-  pub aimed-is : (rhs z b b′ : List Float) → length b ≡ length l → b′ ≡ M.left (p .w) (rows p) (p .scale) l rhs z (length b) → Passed (H.headed p (trial nu st) l z b′) q e nu′ st′ q′ → Passed (D.aimed p (trial nu st) l rhs z) q e nu′ st′ q′
-  unfolding D.aimed
-  aimed-is rhs z b b′ h f g = rw (← h, ← f) g
-
-  pub toward-is : (rhs z : List Float) → rhs ≡ M.side (p .w) (p .free) st nu l (length l) → z ≡ leastNorm (length l) (length l) (M.matrix (p .w) (rows p) (p .scale) l (length l)) rhs .x → Passed (D.aimed p (trial nu st) l rhs z) q e nu′ st′ q′ → Passed (D.toward p (trial nu st) l) q e nu′ st′ q′
-  unfolding D.toward D.towardBy
-  toward-is rhs z h f g = rw (← h, ← f) g
-
-  pub step-none : (k : ℕ) → k ≡ length l → k ≡ 0 → Passed (H.release p (trial nu st)) q e nu′ st′ q′ → Passed (D.step p (trial nu st) l) q e nu′ st′ q′
-  unfolding D.step
-  step-none k h f g = go l (sym h ∙ f)
-    where
-      go : (l : List ℕ) → length l ≡ 0 → Passed (D.step p (trial nu st) l) q e nu′ st′ q′
-      go [] h = g
-      go (a ∷ l) h = absurd (omega arith)
-
-  pub step-some : (k : ℕ) → k ≡ length l → (k ≡ 0 → ⊥) → Passed (D.toward p (trial nu st) l) q e nu′ st′ q′ → Passed (D.step p (trial nu st) l) q e nu′ st′ q′
-  unfolding D.step
-  step-some k h f g = go l (λ z. f (h ∙ z)) g
-    where
-      go : (l : List ℕ) → (length l ≡ 0 → ⊥) → Passed (D.toward p (trial nu st) l) q e nu′ st′ q′ → Passed (D.step p (trial nu st) l) q e nu′ st′ q′
-      go [] h g = absurd (h refl)
-      go (a ∷ l) h g = g
-
--- k rows inside of n, gathered at the front of a list: the parts that are lent fit
-module _ (n : ℕ) (list list′ : List ℕ) (m rhs b z y work : List Float) (k : ℕ) (roomy : R.Roomy n list m rhs b z y work) (few : k ≤ n) (same : length list′ ≡ length list) where
-  pub square-fits : k * k ≤ length m
-  square-fits = omega (arith, mul-le-mul few few, roomy .matrix)
-
-  pub lent-is : R.Lent n (length (take k list′)) (take (k * k) m) (take k rhs) (take k b) (take k z) y work
-  lent-is =
-      let c : length (take k list′) ≡ k = length-take-le k list′ (omega (arith, roomy .inside)) in
-      rw c
-      (record {
-        few = roomy .few;
-        less = omega (arith, roomy .few);
-        matrix = length-take-le (k * k) m square-fits;
-        side = length-take-le k rhs (omega (arith, roomy .side));
-        copied = length-take-le k b (omega (arith, roomy .copied));
-        solution = length-take-le k z (omega (arith, roomy .solution));
-        way = roomy .way;
-        room = roomy .room;
-      })
-
-pub step-gathered : (p : Problem) (nu : List Float) (st list list′ : List ℕ) (k : ℕ) (e : Exact) (nu′ : List Float) (st′ q q′ : List ℕ) → Gathering (M.inside st) list (rows p) k list′ → rows p ≤ length list → (k ≡ 0 → ⊥) → Passed (D.toward p (trial nu st) (take k list′)) q e nu′ st′ q′ → Passed (D.step p (trial nu st) (D.stuck st (rows p))) q e nu′ st′ q′
-step-gathered p nu st list list′ k e nu′ st′ q q′ g h f t =
-    let r : take k list′ ≡ D.stuck st (rows p) = rw (g .front) (front-read (D.stuck st (rows p)) list k (g .count) (omega (arith, those-le (M.inside st) (rows p)))) in
-    step-some p nu st (D.stuck st (rows p)) e nu′ st′ q q′ k (g .count) f (rw r at t)
+    pub target-work : drop 1088 work₂ ≡ drop 1088 work₀
+    target-work = later 1056 1088 work₂ work₁ (omega arith) solved ∙ later (1056 + length y₁) 1088 work₁ work₀ (omega (arith, side-length, few)) (copied .after)

@@ -1,3 +1,4 @@
-pub mod Headings
-pub mod Passes
+pub mod Ray
+pub mod Pass
+pub mod Promise
 pub mod Private

@@ -1,43 +1,54 @@
--- Words of private contracts: what they are lent, and how the code tells whether a pass goes on. No promise of a public call stands on them; those are in Passes.antt.
--- Definitions only.
-use Prim.Native.Nat.{ℕ, _*_, _≤_}
+-- Words of private contracts: what they are lent. No promise of a public call stands on them; those are in Promise.antt. Definitions only.
+use Prim.Native.Nat.{ℕ, _+_, _*_, _≤_, _<_}
 use mathlib.Core.Path.{_≡_}
 use mathlib.Core.Bool.{Bool, true, false, cond}
 use mathlib.Core.List.{List}
-use lib.Dec.{eqb}
-use lib.ListN.{length}
+use lib.ListN.{getD, length, take, drop}
 use lib.Ieee.{Float}
+use Rattle.box_rows.specs.Rows as box
+use Rattle.exact_pass.specs.Pass as def
+use Rattle.exact_pass.specs.Ray as rays
+use Rattle.exact_pass.specs.Promise.{Front}
 use Rattle.exact_pass.specs.declared.Exact.{Exact}
-use Rattle.exact_pass.specs.declared.Exact.the-variants.{Moving, Found, Failed, Infeasible, Refused}
+use Rattle.exact_pass.specs.declared.Exact.the-variants.{Moved, Found, Failed, Infeasible}
 
--- the answer where so many rows fight
-abbrev pub foughtOf : ℕ → Exact
-foughtOf k = cond (eqb k 0) Failed (Infeasible k)
+-- every number of l is below n
+abbrev pub Below : ℕ → List ℕ → Type 0
+Below n l = (i : ℕ) → i < length l → getD l i 0 < n
 
-abbrev pub isMoving : Exact → Bool
-isMoving Moving = true
-isMoving Found = false
-isMoving Failed = false
-isMoving (Infeasible k) = false
-isMoving (Refused k) = false
+abbrev pub isMoved : Exact → Bool
+isMoved Moved = true
+isMoved Found = false
+isMoved Failed = false
+isMoved (Infeasible k) = false
 
--- ---- what private calls are lent: k is the number of rows inside
-pub record Lent (n k : ℕ) (m rhs b z y work : List Float) : Type 0 where
-  pub few : n ≤ 32
-  pub less : k ≤ 32
-  pub matrix : length m ≡ k * k
-  pub side : length rhs ≡ k
-  pub copied : length b ≡ k
-  pub solution : length z ≡ k
-  pub way : length y ≡ n
-  pub room : 1056 ≤ length work
+-- a copy of `from` in `to`, which was to₀, from place a on; what lies past it stays
+pub record Copied (from : List Float) (a : ℕ) (to₀ to : List Float) : Type 0 where
+  pub part : take (length from) (drop a to) ≡ from
+  pub after : drop (a + length from) to ≡ drop (a + length from) to₀
 
-pub record Roomy (n : ℕ) (list : List ℕ) (m rhs b z y work : List Float) : Type 0 where
-  pub few : n ≤ 32
-  pub inside : n ≤ length list
-  pub matrix : n * n ≤ length m
-  pub side : n ≤ length rhs
-  pub copied : n ≤ length b
-  pub solution : n ≤ length z
-  pub way : length y ≡ n
-  pub room : 1056 ≤ length work
+-- the rows f, below n, stand at the front of l, k of them
+pub record Free (f : List ℕ) (n k : ℕ) (l : List ℕ) : Type 0 where
+  pub count : k ≡ length f
+  pub few : k ≤ n
+  pub front : take k l ≡ f
+  pub below : Below n f
+
+-- k values from place a on
+abbrev pub part : ℕ → ℕ → List Float → List Float
+part a k work = take k (drop a work)
+
+-- a row that is dropped is 0, one taken 1, one that ends the collecting 2
+unfoldable pub verdict : Bool → Bool → ℕ
+verdict drop grow = cond drop 0 (cond grow 1 2)
+
+-- the rows collected among the first n, at the front of a list that was l₀; none is 0 rows, whatever the list holds then
+pub data Collecting (c : rays.Collected) (l₀ : List ℕ) (n k : ℕ) (l : List ℕ) : Type 0 where
+  nothing : c ≡ rays.none → k ≡ 0 → Collecting c l₀ n k l
+  some : (f : List ℕ) → c ≡ rays.these f → Front f l₀ k l → k ≤ n → Below n f → Collecting c l₀ n k l
+
+-- The multipliers and states marked, from which the pass came to nu and st: after so many steps before, and after.
+abbrev pub Marked : List Float → List ℕ → List Float → List ℕ → ℕ → List Float → List ℕ → ℕ → Type 0
+Marked nu st work marks since work′ marks′ since′ =
+    (p : box.Problem) → def.steps p (def.trial (part 1088 (length nu) work) (take (length st) marks)) since ≡ def.moved (def.trial nu st)
+    → def.steps p (def.trial (part 1088 (length nu) work′) (take (length st) marks′)) since′ ≡ def.moved (def.trial nu st)

@@ -12,7 +12,7 @@ use lib.ListN.{length, getD, set, take, drop, length-append, length-set}
 use Rattle.loops.specs.Loops.{turns}
 use lib.Seq.{sets, length-sets, set-out, take-suc, take-all, take-at, sets-eq}
 use borrow.Author.Tests.{leb-true, leb-false, ltb-false, lt-ltb, le-ltb}
-use Rattle.printer.specs.Output.{digit, digits, decimal, hex, pattern, space, rowLine, rowLines, listed}
+use Rattle.printer.specs.Output.{digit, digits, decimal, hex, pattern, bytes, rowLine, rowLines, listed}
 use Rattle.floats.specs.Helpers.{isNaN}
 use Rattle.floats.proofs.Meaning.{is-nan, only-nan}
 use Rattle.printer.specs.Writing.{Wrote}
@@ -138,7 +138,7 @@ pub listed-start : (rows l : List ℕ) (at : ℕ) → at ≤ length l → Wrote 
 unfolding listed turns
 listed-start rows l at h = nothing-wrote l at h
 
-pub listed-again : (rows a b c : List ℕ) (i at j k : ℕ) → Wrote a at b j (listed rows i) → Wrote b j c k (space ++ decimal (getD rows i 0)) → Wrote a at c k (listed rows (i + 1))
+pub listed-again : (rows a b c : List ℕ) (i at j k : ℕ) → Wrote a at b j (listed rows i) → Wrote b j c k (bytes " " ++ decimal (getD rows i 0)) → Wrote a at c k (listed rows (i + 1))
 unfolding listed turns
 listed-again rows a b c i at j k p q = rw add-one (then p q)
 

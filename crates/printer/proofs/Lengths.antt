@@ -10,10 +10,10 @@ use lib.Ieee.{Float, nan, binary64, toBits}
 use lib.ListN.{length, getD, length-append}
 use borrow.Author.Tests.{ltb-true, ltb-false}
 use Rattle.loops.specs.Loops.{turns}
-use Rattle.printer.specs.Output.{digit, decimal, hex, pattern, flag, letter, cause, space, newline, reportLine, rowLine, rowLines, listed, body, refused, solved, infeasible}
-use Rattle.printer.specs.Words.{solvedᵗ, infeasibleᵗ, refusedᵗ, sweepsᵗ, passesᵗ, convergedᵗ, exactᵗ, idleᵗ, residualᵗ, rowᵗ, fightsᵗ}
-use Rattle.printer.specs.declared.Cause.{Cause}
-use Rattle.printer.specs.declared.Cause.the-variants.{Growth, Pass, Sweep}
+use Rattle.printer.specs.Output.{bytes, newline, digit, decimal, hex, pattern, flag, letter, cause, reportLine, rowLine, rowLines, listed, body, refused, solved, infeasible}
+use Rattle.boxed.specs.declared.BoxReport.{BoxReport}
+use Rattle.boxed.specs.declared.Cause.{Cause}
+use Rattle.boxed.specs.declared.Cause.the-variants.{Growth, Pass, Sweep}
 use Rattle.printer.proofs.Laws.{decimal-low, decimal-high}
 
 -- ---- numbers
@@ -46,6 +46,12 @@ pattern-length v = hex-length 16 (toBits binary64 v)
 pub record Word (x : ℕ) : Type 0 where
   pub below : x < 100000000000000000000
 
+-- the counts of a report are
+pub record Counted (r : BoxReport) : Type 0 where
+  pub sweeps : Word (r .sweeps)
+  pub passes : Word (r .«exact_passes»)
+  pub idle : Word (r .idle)
+
 -- ---- pieces
 
 record Fits (s : List ℕ) (m : ℕ) : Type 0 where
@@ -69,34 +75,36 @@ value v = record { most = omega (arith, pattern-length v) }
 
 sign : (b : Bool) → Fits (flag b) 1
 unfolding flag
-sign b = record { most = omega arith }
+sign true = record { most = omega arith }
+sign false = record { most = omega arith }
 
-why-short : (c : Cause) → Fits (cause c) 6
+cause-short : (c : Cause) → Fits (cause c) 6
 unfolding cause
-why-short Growth = record { most = omega arith }
-why-short Pass = record { most = omega arith }
-why-short Sweep = record { most = omega arith }
+cause-short Growth = record { most = omega arith }
+cause-short Pass = record { most = omega arith }
+cause-short Sweep = record { most = omega arith }
 
 end : Fits newline 1
 end = record { most = omega arith }
 
-gap : Fits space 1
+gap : Fits (bytes " ") 1
 gap = record { most = omega arith }
 
 -- ---- lines
 
-report-short : (sweeps passes : ℕ) (converged exact : Bool) (idle : ℕ) (residual : Float) → Word sweeps → Word passes → Word idle → Fits (reportLine sweeps passes converged exact idle residual) 128
+report-short : (r : BoxReport) → Counted r → Fits (reportLine r) 128
 unfolding reportLine
-report-short sweeps passes converged exact idle residual hs hp hi =
+report-short r h =
     then
-    (then (then (then (text 7 sweepsᵗ (omega arith)) (number sweeps hs)) (then (text 8 passesᵗ (omega arith)) (number passes hp)))
-    (then (then (text 11 convergedᵗ (omega arith)) (sign converged)) (then (text 7 exactᵗ (omega arith)) (sign exact))))
-    (then (then (then (text 6 idleᵗ (omega arith)) (number idle hi)) (then (text 10 residualᵗ (omega arith)) (value residual))) end)
+    (then (then (then (text 7 (bytes "sweeps ") (omega arith)) (number (r .sweeps) (h .sweeps)))
+    (then (text 8 (bytes " passes ") (omega arith)) (number (r .«exact_passes») (h .passes))))
+    (then (then (text 11 (bytes " converged ") (omega arith)) (sign (r .converged))) (then (text 7 (bytes " exact ") (omega arith)) (sign (r .exact)))))
+    (then (then (then (text 6 (bytes " idle ") (omega arith)) (number (r .idle) (h .idle))) (then (text 10 (bytes " residual ") (omega arith)) (value (r .residual)))) end)
 
 line-short : (i state : ℕ) (nu : Float) → i < 32 → Fits (rowLine i state nu) 26
 unfolding rowLine
 line-short i state nu h =
-    then (then (then (then (then (then (text 4 rowᵗ (omega arith)) (row i h)) gap) (text 1 (letter state ∷ []) (omega arith))) gap) (value nu)) end
+    then (then (then (then (then (then (text 4 (bytes "row ") (omega arith)) (row i h)) gap) (text 1 (letter state ∷ []) (omega arith))) gap) (value nu)) end
 
 lines-short : (states : List ℕ) (nu : List Float) (k : ℕ) → k ≤ 32 → length (rowLines states nu k) ≤ 26 * k
 unfolding rowLines turns
@@ -116,21 +124,21 @@ listed-short rows (suc k) h =
 
 pub refused-short : (k : ℕ) → Word k → length (refused k) ≤ 2048
 unfolding refused
-refused-short k h = omega (arith, then (then (text 8 refusedᵗ (omega arith)) (number k h)) end .most)
+refused-short k h = omega (arith, then (then (text 8 (bytes "refused ") (omega arith)) (number k h)) end .most)
 
-module _ (sweeps passes : ℕ) (converged exact : Bool) (idle : ℕ) (residual : Float) (states : List ℕ) (nu : List Float)
-    (hs : Word sweeps) (hp : Word passes) (hi : Word idle) (few : length nu ≤ 32) where
-  body-short : Fits (body sweeps passes converged exact idle residual states nu) 960
+module _ (r : BoxReport) (states : List ℕ) (nu : List Float) (h : Counted r) (few : length nu ≤ 32) where
+  body-short : Fits (body r states nu) 960
   unfolding body
-  body-short = then (report-short sweeps passes converged exact idle residual hs hp hi) (text 832 (rowLines states nu (length nu)) (omega (arith, lines-short states nu (length nu) few)))
+  body-short = then (report-short r h) (text 832 (rowLines states nu (length nu)) (omega (arith, lines-short states nu (length nu) few)))
 
-  pub solved-short : length (solved sweeps passes converged exact idle residual states nu) ≤ 2048
+  pub solved-short : length (solved r states nu) ≤ 2048
   unfolding solved
-  solved-short = omega (arith, then (then (text 6 solvedᵗ (omega arith)) end) body-short .most)
+  solved-short = omega (arith, then (text 7 (bytes "solved\n") (omega arith)) body-short .most)
 
-  pub infeasible-short : (why : Cause) (rows : List ℕ) → length rows ≤ 32 → ((i : ℕ) → Word (getD rows i 0)) → length (infeasible why sweeps passes converged exact idle residual states nu rows) ≤ 2048
+  pub infeasible-short : (c : Cause) (rows : List ℕ) → length rows ≤ 32 → ((i : ℕ) → Word (getD rows i 0)) → length (infeasible c r states nu rows) ≤ 2048
   unfolding infeasible
-  infeasible-short why rows k h =
-      let first = then (then (text 11 infeasibleᵗ (omega arith)) (why-short why)) end in
-      let last = then (then (text 6 fightsᵗ (omega arith)) (text 672 (listed rows (length rows)) (omega (arith, listed-short rows (length rows) h)))) end in
+  infeasible-short c rows k g =
+      let first = then (then (text 11 (bytes "infeasible ") (omega arith)) (cause-short c)) end in
+      let rest = text 672 (listed rows (length rows)) (omega (arith, listed-short rows (length rows) g)) in
+      let last = then (then (text 6 (bytes "fights") (omega arith)) rest) end in
       omega (arith, then (then first body-short) last .most)

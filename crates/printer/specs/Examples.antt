@@ -1,42 +1,91 @@
 -- Worked outputs, as one table that the checker computes: document 01's example, and each kind of line.
+use Prim.Native.Nat.{ℕ}
+use Prim.Native.String.{String}
 use mathlib.Core.Path.{_≡_, refl}
 use mathlib.Core.Bool.{Bool, true, false, _&&_}
-use mathlib.Core.List.{List, [], _∷_}
-use Prim.Native.Nat.{ℕ}
+use mathlib.Core.List.{List, [], _∷_, _++_}
 use lib.Dec.{eqb}
 use lib.Ieee.{Float, binary64, ofBits, toBits}
 use Rattle.loops.specs.Loops.{turns}
-use Rattle.printer.specs.Output.{digit, digits, decimal, hex, pattern, flag, letter, cause, reportLine, rowLine, rowLines, listed, body, refused, solved, infeasible}
-use Rattle.printer.specs.declared.Cause.the-variants.{Growth, Pass, Sweep}
+use Rattle.boxed.specs.declared.BoxReport.{BoxReport}
+use Rattle.boxed.specs.declared.Cause.the-variants.{Growth, Pass, Sweep}
+use Rattle.printer.specs.Output.{
+  bytes,
+  newline,
+  digit,
+  digits,
+  decimal,
+  hex,
+  pattern,
+  flag,
+  letter,
+  cause,
+  reportLine,
+  rowLine,
+  rowLines,
+  listed,
+  body,
+  refused,
+  solved,
+  infeasible,
+}
 
-abbrev d : ℕ → Float
-d b = ofBits binary64 b
+-- ---- a case: its name, the bytes that are written, and the lines that they must be, each ended by a newline
 
-same : List ℕ → List ℕ → Bool
+pub record Case : Type 0 where
+  pub name : String
+  pub written : List ℕ
+  pub wanted : List String
+
+abbrev pub case : String → List ℕ → List String → Case
+case name written wanted = record { name = name; written = written; wanted = wanted }
+
+abbrev pub lines : List String → List ℕ
+lines [] = []
+lines (l ∷ m) = bytes l ++ newline ++ lines m
+
+abbrev pub same : List ℕ → List ℕ → Bool
 same [] [] = true
 same [] (y ∷ m) = false
 same (x ∷ l) [] = false
 same (x ∷ l) (y ∷ m) = eqb x y && same l m
 
-cases : Bool
-unfolding digit digits decimal hex pattern flag letter cause reportLine rowLine rowLines listed body refused solved infeasible turns ofBits toBits
-cases =
-    -- document 01's example
-    same (solved 1 1 true true 0 (d 0) (0 ∷ []) (d 0x4000000000000000 ∷ [])) (115 ∷ 111 ∷ 108 ∷ 118 ∷ 101 ∷ 100 ∷ 10 ∷ 115 ∷ 119 ∷ 101 ∷ 101 ∷ 112 ∷ 115 ∷ 32 ∷ 49 ∷ 32 ∷ 112 ∷ 97 ∷ 115 ∷ 115 ∷ 101 ∷ 115 ∷ 32 ∷ 49 ∷ 32 ∷ 99 ∷ 111 ∷ 110 ∷ 118 ∷ 101 ∷ 114 ∷ 103 ∷ 101 ∷ 100 ∷ 32 ∷ 49 ∷ 32 ∷ 101 ∷ 120 ∷ 97 ∷ 99 ∷ 116 ∷ 32 ∷ 49 ∷ 32 ∷ 105 ∷ 100 ∷ 108 ∷ 101 ∷ 32 ∷ 48 ∷ 32 ∷ 114 ∷ 101 ∷ 115 ∷ 105 ∷ 100 ∷ 117 ∷ 97 ∷ 108 ∷ 32 ∷ 48 ∷ 48 ∷ 48 ∷ 48 ∷ 48 ∷ 48 ∷ 48 ∷ 48 ∷ 48 ∷ 48 ∷ 48 ∷ 48 ∷ 48 ∷ 48 ∷ 48 ∷ 48 ∷ 10 ∷ 114 ∷ 111 ∷ 119 ∷ 32 ∷ 48 ∷ 32 ∷ 73 ∷ 32 ∷ 52 ∷ 48 ∷ 48 ∷ 48 ∷ 48 ∷ 48 ∷ 48 ∷ 48 ∷ 48 ∷ 48 ∷ 48 ∷ 48 ∷ 48 ∷ 48 ∷ 48 ∷ 48 ∷ 10 ∷ []) &&
-    -- no rows
-    same (solved 0 0 true true 0 (d 0) [] []) (115 ∷ 111 ∷ 108 ∷ 118 ∷ 101 ∷ 100 ∷ 10 ∷ 115 ∷ 119 ∷ 101 ∷ 101 ∷ 112 ∷ 115 ∷ 32 ∷ 48 ∷ 32 ∷ 112 ∷ 97 ∷ 115 ∷ 115 ∷ 101 ∷ 115 ∷ 32 ∷ 48 ∷ 32 ∷ 99 ∷ 111 ∷ 110 ∷ 118 ∷ 101 ∷ 114 ∷ 103 ∷ 101 ∷ 100 ∷ 32 ∷ 49 ∷ 32 ∷ 101 ∷ 120 ∷ 97 ∷ 99 ∷ 116 ∷ 32 ∷ 49 ∷ 32 ∷ 105 ∷ 100 ∷ 108 ∷ 101 ∷ 32 ∷ 48 ∷ 32 ∷ 114 ∷ 101 ∷ 115 ∷ 105 ∷ 100 ∷ 117 ∷ 97 ∷ 108 ∷ 32 ∷ 48 ∷ 48 ∷ 48 ∷ 48 ∷ 48 ∷ 48 ∷ 48 ∷ 48 ∷ 48 ∷ 48 ∷ 48 ∷ 48 ∷ 48 ∷ 48 ∷ 48 ∷ 48 ∷ 10 ∷ []) &&
-    -- every letter, a NaN's pattern, -0 and letters of hexadecimal digits
-    same (solved 200 9 false false 1 (d 0x3E112E0BE826D695) (0 ∷ 1 ∷ 2 ∷ 3 ∷ []) (d 0xFFF0000000000001 ∷ d 0x8000000000000000 ∷ d 0x7FF0000000000000 ∷ d 0xBFEFFFFFFFFFABCD ∷ [])) (115 ∷ 111 ∷ 108 ∷ 118 ∷ 101 ∷ 100 ∷ 10 ∷ 115 ∷ 119 ∷ 101 ∷ 101 ∷ 112 ∷ 115 ∷ 32 ∷ 50 ∷ 48 ∷ 48 ∷ 32 ∷ 112 ∷ 97 ∷ 115 ∷ 115 ∷ 101 ∷ 115 ∷ 32 ∷ 57 ∷ 32 ∷ 99 ∷ 111 ∷ 110 ∷ 118 ∷ 101 ∷ 114 ∷ 103 ∷ 101 ∷ 100 ∷ 32 ∷ 48 ∷ 32 ∷ 101 ∷ 120 ∷ 97 ∷ 99 ∷ 116 ∷ 32 ∷ 48 ∷ 32 ∷ 105 ∷ 100 ∷ 108 ∷ 101 ∷ 32 ∷ 49 ∷ 32 ∷ 114 ∷ 101 ∷ 115 ∷ 105 ∷ 100 ∷ 117 ∷ 97 ∷ 108 ∷ 32 ∷ 51 ∷ 69 ∷ 49 ∷ 49 ∷ 50 ∷ 69 ∷ 48 ∷ 66 ∷ 69 ∷ 56 ∷ 50 ∷ 54 ∷ 68 ∷ 54 ∷ 57 ∷ 53 ∷ 10 ∷ 114 ∷ 111 ∷ 119 ∷ 32 ∷ 48 ∷ 32 ∷ 73 ∷ 32 ∷ 55 ∷ 70 ∷ 70 ∷ 56 ∷ 48 ∷ 48 ∷ 48 ∷ 48 ∷ 48 ∷ 48 ∷ 48 ∷ 48 ∷ 48 ∷ 48 ∷ 48 ∷ 48 ∷ 10 ∷ 114 ∷ 111 ∷ 119 ∷ 32 ∷ 49 ∷ 32 ∷ 76 ∷ 32 ∷ 56 ∷ 48 ∷ 48 ∷ 48 ∷ 48 ∷ 48 ∷ 48 ∷ 48 ∷ 48 ∷ 48 ∷ 48 ∷ 48 ∷ 48 ∷ 48 ∷ 48 ∷ 48 ∷ 10 ∷ 114 ∷ 111 ∷ 119 ∷ 32 ∷ 50 ∷ 32 ∷ 72 ∷ 32 ∷ 55 ∷ 70 ∷ 70 ∷ 48 ∷ 48 ∷ 48 ∷ 48 ∷ 48 ∷ 48 ∷ 48 ∷ 48 ∷ 48 ∷ 48 ∷ 48 ∷ 48 ∷ 48 ∷ 10 ∷ 114 ∷ 111 ∷ 119 ∷ 32 ∷ 51 ∷ 32 ∷ 90 ∷ 32 ∷ 66 ∷ 70 ∷ 69 ∷ 70 ∷ 70 ∷ 70 ∷ 70 ∷ 70 ∷ 70 ∷ 70 ∷ 70 ∷ 70 ∷ 65 ∷ 66 ∷ 67 ∷ 68 ∷ 10 ∷ []) &&
-    -- each cause, with one listed row and with several
-    same (infeasible Growth 1 0 false false 0 (d 0) (0 ∷ []) (d 0x4170000000000000 ∷ []) (0 ∷ [])) (105 ∷ 110 ∷ 102 ∷ 101 ∷ 97 ∷ 115 ∷ 105 ∷ 98 ∷ 108 ∷ 101 ∷ 32 ∷ 103 ∷ 114 ∷ 111 ∷ 119 ∷ 116 ∷ 104 ∷ 10 ∷ 115 ∷ 119 ∷ 101 ∷ 101 ∷ 112 ∷ 115 ∷ 32 ∷ 49 ∷ 32 ∷ 112 ∷ 97 ∷ 115 ∷ 115 ∷ 101 ∷ 115 ∷ 32 ∷ 48 ∷ 32 ∷ 99 ∷ 111 ∷ 110 ∷ 118 ∷ 101 ∷ 114 ∷ 103 ∷ 101 ∷ 100 ∷ 32 ∷ 48 ∷ 32 ∷ 101 ∷ 120 ∷ 97 ∷ 99 ∷ 116 ∷ 32 ∷ 48 ∷ 32 ∷ 105 ∷ 100 ∷ 108 ∷ 101 ∷ 32 ∷ 48 ∷ 32 ∷ 114 ∷ 101 ∷ 115 ∷ 105 ∷ 100 ∷ 117 ∷ 97 ∷ 108 ∷ 32 ∷ 48 ∷ 48 ∷ 48 ∷ 48 ∷ 48 ∷ 48 ∷ 48 ∷ 48 ∷ 48 ∷ 48 ∷ 48 ∷ 48 ∷ 48 ∷ 48 ∷ 48 ∷ 48 ∷ 10 ∷ 114 ∷ 111 ∷ 119 ∷ 32 ∷ 48 ∷ 32 ∷ 73 ∷ 32 ∷ 52 ∷ 49 ∷ 55 ∷ 48 ∷ 48 ∷ 48 ∷ 48 ∷ 48 ∷ 48 ∷ 48 ∷ 48 ∷ 48 ∷ 48 ∷ 48 ∷ 48 ∷ 48 ∷ 10 ∷ 102 ∷ 105 ∷ 103 ∷ 104 ∷ 116 ∷ 115 ∷ 32 ∷ 48 ∷ 10 ∷ []) &&
-    same (infeasible Pass 1 1 false true 0 (d 0x3FF0000000000000) (0 ∷ 0 ∷ []) (d 0 ∷ d 0 ∷ []) (0 ∷ 1 ∷ 31 ∷ [])) (105 ∷ 110 ∷ 102 ∷ 101 ∷ 97 ∷ 115 ∷ 105 ∷ 98 ∷ 108 ∷ 101 ∷ 32 ∷ 112 ∷ 97 ∷ 115 ∷ 115 ∷ 10 ∷ 115 ∷ 119 ∷ 101 ∷ 101 ∷ 112 ∷ 115 ∷ 32 ∷ 49 ∷ 32 ∷ 112 ∷ 97 ∷ 115 ∷ 115 ∷ 101 ∷ 115 ∷ 32 ∷ 49 ∷ 32 ∷ 99 ∷ 111 ∷ 110 ∷ 118 ∷ 101 ∷ 114 ∷ 103 ∷ 101 ∷ 100 ∷ 32 ∷ 48 ∷ 32 ∷ 101 ∷ 120 ∷ 97 ∷ 99 ∷ 116 ∷ 32 ∷ 49 ∷ 32 ∷ 105 ∷ 100 ∷ 108 ∷ 101 ∷ 32 ∷ 48 ∷ 32 ∷ 114 ∷ 101 ∷ 115 ∷ 105 ∷ 100 ∷ 117 ∷ 97 ∷ 108 ∷ 32 ∷ 51 ∷ 70 ∷ 70 ∷ 48 ∷ 48 ∷ 48 ∷ 48 ∷ 48 ∷ 48 ∷ 48 ∷ 48 ∷ 48 ∷ 48 ∷ 48 ∷ 48 ∷ 48 ∷ 10 ∷ 114 ∷ 111 ∷ 119 ∷ 32 ∷ 48 ∷ 32 ∷ 73 ∷ 32 ∷ 48 ∷ 48 ∷ 48 ∷ 48 ∷ 48 ∷ 48 ∷ 48 ∷ 48 ∷ 48 ∷ 48 ∷ 48 ∷ 48 ∷ 48 ∷ 48 ∷ 48 ∷ 48 ∷ 10 ∷ 114 ∷ 111 ∷ 119 ∷ 32 ∷ 49 ∷ 32 ∷ 73 ∷ 32 ∷ 48 ∷ 48 ∷ 48 ∷ 48 ∷ 48 ∷ 48 ∷ 48 ∷ 48 ∷ 48 ∷ 48 ∷ 48 ∷ 48 ∷ 48 ∷ 48 ∷ 48 ∷ 48 ∷ 10 ∷ 102 ∷ 105 ∷ 103 ∷ 104 ∷ 116 ∷ 115 ∷ 32 ∷ 48 ∷ 32 ∷ 49 ∷ 32 ∷ 51 ∷ 49 ∷ 10 ∷ []) &&
-    same (infeasible Sweep 2 2 true false 0 (d 0) [] [] []) (105 ∷ 110 ∷ 102 ∷ 101 ∷ 97 ∷ 115 ∷ 105 ∷ 98 ∷ 108 ∷ 101 ∷ 32 ∷ 115 ∷ 119 ∷ 101 ∷ 101 ∷ 112 ∷ 10 ∷ 115 ∷ 119 ∷ 101 ∷ 101 ∷ 112 ∷ 115 ∷ 32 ∷ 50 ∷ 32 ∷ 112 ∷ 97 ∷ 115 ∷ 115 ∷ 101 ∷ 115 ∷ 32 ∷ 50 ∷ 32 ∷ 99 ∷ 111 ∷ 110 ∷ 118 ∷ 101 ∷ 114 ∷ 103 ∷ 101 ∷ 100 ∷ 32 ∷ 49 ∷ 32 ∷ 101 ∷ 120 ∷ 97 ∷ 99 ∷ 116 ∷ 32 ∷ 48 ∷ 32 ∷ 105 ∷ 100 ∷ 108 ∷ 101 ∷ 32 ∷ 48 ∷ 32 ∷ 114 ∷ 101 ∷ 115 ∷ 105 ∷ 100 ∷ 117 ∷ 97 ∷ 108 ∷ 32 ∷ 48 ∷ 48 ∷ 48 ∷ 48 ∷ 48 ∷ 48 ∷ 48 ∷ 48 ∷ 48 ∷ 48 ∷ 48 ∷ 48 ∷ 48 ∷ 48 ∷ 48 ∷ 48 ∷ 10 ∷ 102 ∷ 105 ∷ 103 ∷ 104 ∷ 116 ∷ 115 ∷ 10 ∷ []) &&
-    -- refusals, and decimal numbers of one digit, of two and of ten
-    same (refused 4) (114 ∷ 101 ∷ 102 ∷ 117 ∷ 115 ∷ 101 ∷ 100 ∷ 32 ∷ 52 ∷ 10 ∷ []) &&
-    same (refused 10) (114 ∷ 101 ∷ 102 ∷ 117 ∷ 115 ∷ 101 ∷ 100 ∷ 32 ∷ 49 ∷ 48 ∷ 10 ∷ []) &&
-    same (refused 13) (114 ∷ 101 ∷ 102 ∷ 117 ∷ 115 ∷ 101 ∷ 100 ∷ 32 ∷ 49 ∷ 51 ∷ 10 ∷ []) &&
-    same (refused 4294967295) (114 ∷ 101 ∷ 102 ∷ 117 ∷ 115 ∷ 101 ∷ 100 ∷ 32 ∷ 52 ∷ 50 ∷ 57 ∷ 52 ∷ 57 ∷ 54 ∷ 55 ∷ 50 ∷ 57 ∷ 53 ∷ 10 ∷ [])
+abbrev pub all : List Case → Bool
+all [] = true
+all (c ∷ l) = same (c .written) (lines (c .wanted)) && all l
 
-table : cases ≡ true
-unfolding cases same
+-- ---- the table
+
+abbrev d : ℕ → Float
+d b = ofBits binary64 b
+
+abbrev report : ℕ → ℕ → Bool → Bool → ℕ → ℕ → BoxReport
+report sweeps passes converged exact idle residual =
+    record { sweeps = sweeps; «exact_passes» = passes; converged = converged; exact = exact; residual = d residual; idle = idle }
+
+outputs : List Case
+outputs =
+    case "document 01's example" (solved (report 1 1 true true 0 0) (0 ∷ []) (d 0x4000000000000000 ∷ []))
+    ("solved" ∷ "sweeps 1 passes 1 converged 1 exact 1 idle 0 residual 0000000000000000" ∷ "row 0 I 4000000000000000" ∷ []) ∷
+    case "no rows" (solved (report 0 0 true true 0 0) [] [])
+    ("solved" ∷ "sweeps 0 passes 0 converged 1 exact 1 idle 0 residual 0000000000000000" ∷ []) ∷
+    case "every letter, a NaN's bits, -0, and letters of hexadecimal digits"
+    (solved (report 200 9 false false 1 0x3E112E0BE826D695) (0 ∷ 1 ∷ 2 ∷ 3 ∷ [])
+    (d 0xFFF0000000000001 ∷ d 0x8000000000000000 ∷ d 0x7FF0000000000000 ∷ d 0xBFEFFFFFFFFFABCD ∷ []))
+    ("solved" ∷ "sweeps 200 passes 9 converged 0 exact 0 idle 1 residual 3E112E0BE826D695" ∷ "row 0 I 7FF8000000000000" ∷
+    "row 1 L 8000000000000000" ∷ "row 2 H 7FF0000000000000" ∷ "row 3 Z BFEFFFFFFFFFABCD" ∷ []) ∷
+    case "growth, one listed row" (infeasible Growth (report 1 0 false false 0 0) (0 ∷ []) (d 0x4170000000000000 ∷ []) (0 ∷ []))
+    ("infeasible growth" ∷ "sweeps 1 passes 0 converged 0 exact 0 idle 0 residual 0000000000000000" ∷ "row 0 I 4170000000000000" ∷ "fights 0" ∷ []) ∷
+    case "pass, several listed rows" (infeasible Pass (report 1 1 false true 0 0x3FF0000000000000) (0 ∷ 0 ∷ []) (d 0 ∷ d 0 ∷ []) (0 ∷ 1 ∷ 31 ∷ []))
+    ("infeasible pass" ∷ "sweeps 1 passes 1 converged 0 exact 1 idle 0 residual 3FF0000000000000" ∷ "row 0 I 0000000000000000" ∷
+    "row 1 I 0000000000000000" ∷ "fights 0 1 31" ∷ []) ∷
+    case "sweep, no listed row" (infeasible Sweep (report 2 2 true false 0 0) [] [] [])
+    ("infeasible sweep" ∷ "sweeps 2 passes 2 converged 1 exact 0 idle 0 residual 0000000000000000" ∷ "fights" ∷ []) ∷
+    case "a number of one digit" (refused 4) ("refused 4" ∷ []) ∷
+    case "of two, the last one 0" (refused 10) ("refused 10" ∷ []) ∷
+    case "of two" (refused 13) ("refused 13" ∷ []) ∷
+    case "of ten" (refused 4294967295) ("refused 4294967295" ∷ []) ∷ []
+
+table : all outputs ≡ true
+unfolding outputs digit digits decimal hex pattern flag letter cause reportLine rowLine rowLines listed body refused solved infeasible turns ofBits toBits
 table = refl

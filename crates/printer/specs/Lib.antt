@@ -1,4 +1,3 @@
-pub mod Words
 pub mod Writing
 pub mod Output
 pub mod Examples

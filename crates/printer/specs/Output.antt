@@ -1,14 +1,28 @@
 -- Document 01's output of bendsolve. Definitions only.
 use Prim.Native.Nat.{ℕ, zero, suc, _+_, _/_, _%_}
+use Prim.Native.Char.{code}
+use Prim.Native.String.{String}
+use Prim.Native.String as text
 use mathlib.Core.Bool.{Bool, true, false, cond}
 use mathlib.Core.List.{List, [], _∷_, _++_}
 use lib.Dec.{ltb, eqb}
 use lib.Ieee.{Float, nan, binary64, toBits}
 use lib.ListN.{length, getD}
 use Rattle.loops.specs.Loops.{turns}
-use Rattle.printer.specs.Words.{solvedᵗ, infeasibleᵗ, refusedᵗ, growthᵗ, passᵗ, sweepᵗ, sweepsᵗ, passesᵗ, convergedᵗ, exactᵗ, idleᵗ, residualᵗ, rowᵗ, fightsᵗ}
-use Rattle.printer.specs.declared.Cause.{Cause}
-use Rattle.printer.specs.declared.Cause.the-variants.{Growth, Pass, Sweep}
+use Rattle.box_rows.specs.Rows as box
+use Rattle.boxed.specs.declared.BoxReport.{BoxReport}
+use Rattle.boxed.specs.declared.Cause.{Cause}
+use Rattle.boxed.specs.declared.Cause.the-variants.{Growth, Pass, Sweep}
+
+-- ---- texts
+
+-- the bytes of a text, all of whose characters are ASCII
+abbrev pub bytes : String → List ℕ
+bytes text.[] = []
+bytes (text._∷_ c s) = code c ∷ bytes s
+
+abbrev pub newline : List ℕ
+newline = bytes "\n"
 
 -- ---- numbers
 
@@ -35,35 +49,27 @@ hex (suc places) x = hex places (x / 16) ++ (digit (x % 16) ∷ [])
 unfoldable pub pattern : Float → List ℕ
 pattern v = hex 16 (toBits binary64 v)
 
--- 0 or 1
 unfoldable pub flag : Bool → List ℕ
-flag b = cond b 49 48 ∷ []
+flag b = cond b (bytes "1") (bytes "0")
 
 -- ---- lines
 
-abbrev pub space : List ℕ
-space = 32 ∷ []
-
-abbrev pub newline : List ℕ
-newline = 10 ∷ []
-
--- I, L, H or Z
 unfoldable pub letter : ℕ → ℕ
-letter s = cond (eqb s 0) 73 (cond (eqb s 1) 76 (cond (eqb s 2) 72 90))
+letter s = cond (eqb s box.inside) (code "I") (cond (eqb s box.atLo) (code "L") (cond (eqb s box.atHi) (code "H") (code "Z")))
 
 unfoldable pub cause : Cause → List ℕ
-cause Growth = growthᵗ
-cause Pass = passᵗ
-cause Sweep = sweepᵗ
+cause Growth = bytes "growth"
+cause Pass = bytes "pass"
+cause Sweep = bytes "sweep"
 
-unfoldable pub reportLine : ℕ → ℕ → Bool → Bool → ℕ → Float → List ℕ
-reportLine sweeps passes converged exact idle residual =
-    ((sweepsᵗ ++ decimal sweeps) ++ (passesᵗ ++ decimal passes))
-    ++ ((convergedᵗ ++ flag converged) ++ (exactᵗ ++ flag exact))
-    ++ ((idleᵗ ++ decimal idle) ++ (residualᵗ ++ pattern residual) ++ newline)
+unfoldable pub reportLine : BoxReport → List ℕ
+reportLine r =
+    ((bytes "sweeps " ++ decimal (r .sweeps)) ++ (bytes " passes " ++ decimal (r .«exact_passes»)))
+    ++ ((bytes " converged " ++ flag (r .converged)) ++ (bytes " exact " ++ flag (r .exact)))
+    ++ ((bytes " idle " ++ decimal (r .idle)) ++ (bytes " residual " ++ pattern (r .residual)) ++ newline)
 
 unfoldable pub rowLine : ℕ → ℕ → Float → List ℕ
-rowLine i state nu = (rowᵗ ++ decimal i) ++ space ++ (letter state ∷ []) ++ space ++ pattern nu ++ newline
+rowLine i state nu = (bytes "row " ++ decimal i) ++ bytes " " ++ (letter state ∷ []) ++ bytes " " ++ pattern nu ++ newline
 
 -- the lines of the first k rows
 unfoldable pub rowLines : List ℕ → List Float → ℕ → List ℕ
@@ -71,20 +77,19 @@ rowLines states nu k = turns k [] λ i l. l ++ rowLine i (getD states i 0) (getD
 
 -- the first k listed rows, each after one space
 unfoldable pub listed : List ℕ → ℕ → List ℕ
-listed rows k = turns k [] λ i l. l ++ (space ++ decimal (getD rows i 0))
+listed rows k = turns k [] λ i l. l ++ (bytes " " ++ decimal (getD rows i 0))
 
 -- ---- the three outputs
 
 unfoldable pub refused : ℕ → List ℕ
-refused number = (refusedᵗ ++ decimal number) ++ newline
+refused number = (bytes "refused " ++ decimal number) ++ newline
 
 -- line 2, and a line for each multiplier
-unfoldable pub body : ℕ → ℕ → Bool → Bool → ℕ → Float → List ℕ → List Float → List ℕ
-body sweeps passes converged exact idle residual states nu = reportLine sweeps passes converged exact idle residual ++ rowLines states nu (length nu)
+unfoldable pub body : BoxReport → List ℕ → List Float → List ℕ
+body r states nu = reportLine r ++ rowLines states nu (length nu)
 
-unfoldable pub solved : ℕ → ℕ → Bool → Bool → ℕ → Float → List ℕ → List Float → List ℕ
-solved sweeps passes converged exact idle residual states nu = (solvedᵗ ++ newline) ++ body sweeps passes converged exact idle residual states nu
+unfoldable pub solved : BoxReport → List ℕ → List Float → List ℕ
+solved r states nu = bytes "solved\n" ++ body r states nu
 
-unfoldable pub infeasible : Cause → ℕ → ℕ → Bool → Bool → ℕ → Float → List ℕ → List Float → List ℕ → List ℕ
-infeasible why sweeps passes converged exact idle residual states nu rows =
-    (infeasibleᵗ ++ cause why ++ newline) ++ body sweeps passes converged exact idle residual states nu ++ (fightsᵗ ++ listed rows (length rows) ++ newline)
+unfoldable pub infeasible : Cause → BoxReport → List ℕ → List Float → List ℕ → List ℕ
+infeasible c r states nu rows = (bytes "infeasible " ++ cause c ++ newline) ++ body r states nu ++ (bytes "fights" ++ listed rows (length rows) ++ newline)

@@ -91,9 +91,9 @@ pub fn flag(out: &mut [u8], at: usize, word: &[u8], on: bool) -> usize
 {
     let next = text(out, at, word);
     if on {
-        return put(out, next, 49);
+        return put(out, next, b'1');
     }
-    put(out, next, 48)
+    put(out, next, b'0')
 }
 
 // A word and a value's bits after it.

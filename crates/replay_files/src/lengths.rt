@@ -1,4 +1,5 @@
-// Calls of the solver that no bend file leads to, for the numbers of lengths: 5, 6, 7, 9 and 10, and one whose lengths are right.
+// Calls of the solver that no bend file leads to, for the numbers of lengths: 5, 6, 7, 9 and 10, and one whose lengths
+// are right.
 ghost use Prim.Native.Nat.{_≤_};
 use boxed::BoxAnswer;
 use boxed::BoxSolver;

@@ -1,9 +1,10 @@
-// A Rattle caller that lends a report, and one that lends a list of them. What they give is what the calls by value give.
+// A Rattle caller that lends a report, and one that lends a list of them. What they give is what the calls by value
+// give.
 ghost use mathlib.Core.Path.{_≡_};
 ghost use mathlib.Core.List.{[], _∷_};
 ghost use lib.ListN.{length};
-ghost use Rattle.sweep.specs.Rows as box;
-ghost use Rattle.boxed.specs.Solves as solver;
+ghost use Rattle.box_rows.specs.Rows as box;
+ghost use Rattle.boxed.specs.Solve as solve;
 ghost use Rattle.report.specs.Joins as join;
 ghost use Rattle.tally.specs.Tally as def;
 ghost use Rattle.tallied.specs.Joining as said;
@@ -31,7 +32,7 @@ pub fn lend_tally(
         (def.tallied tally
         (said.call
         (box.problem (now (w .entry)) (now («u_free» .entry)) (now (lo .entry)) (now (hi .entry)) (now (scale .entry)))
-        (solver.watch (now (motion .entry)) tolerance)
+        (solve.watch (now (motion .entry)) tolerance)
         (now (nu .entry)) (now (states .entry)) (now (rows .entry)) (length (now (workspace .entry)))))
         (r .tally) (r .answer) (now (nu .exit)) (now (states .exit)) (now (rows .exit))
         (now (workspace .entry)) (now (workspace .exit)) ⌝ }

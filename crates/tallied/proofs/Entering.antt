@@ -7,12 +7,12 @@ use native.Mathlib.Omega.{arith}
 use lib.Dec.{eqb}
 use borrow.Author.Tests.{ne-eqb}
 use lib.Ieee.{Float}
-use Rattle.boxed.specs.Solves as D
-use Rattle.boxed.specs.Solves.{Outcome, refused, solved, infeasible, answerOf, Left}
+use Rattle.boxed.specs.Solve as solve
+use Rattle.boxed.specs.Solve.{Outcome, refused, solved, infeasible, answerOf, Left}
 use Rattle.boxed.specs.declared.BoxAnswer.{BoxAnswer}
 use Rattle.boxed.specs.declared.BoxAnswer.the-variants.{Refused}
 use Rattle.report.specs.declared.SolveReport.{SolveReport}
-use Rattle.tally.specs.Tally as T
+use Rattle.tally.specs.Tally as def
 use Rattle.tally.specs.Tally.{Call, number, full, joinedTo, tallied}
 use Rattle.tallied.specs.Joining.{Entered}
 use Rattle.tallied.specs.Private.{added, joinedBy}
@@ -25,12 +25,12 @@ joined-by t (solved r) = refl
 joined-by t (infeasible c l r) = refl
 
 module _ (t : SolveReport) (c : Call) where
-  abbrev reply : ℕ → D.Result
-  reply = D.reply D.SWEEP_CAP (c .problem) (c .watch) (c .nu) (c .states) (c .listed)
+  abbrev reply : ℕ → solve.Result
+  reply = solve.reply solve.SWEEP_CAP (c .problem) (c .watch) (c .nu) (c .states) (c .listed)
 
   -- a number that is not 0 refuses, and nothing is changed
-  refuses : (k : ℕ) → (k ≡ 0 → ⊥) → (w : List Float) → Entered (T.with t (reply k)) t (Refused k) (c .nu) (c .states) (c .listed) w w
-  unfolding D.reply T.with
+  refuses : (k : ℕ) → (k ≡ 0 → ⊥) → (w : List Float) → Entered (def.with t (reply k)) t (Refused k) (c .nu) (c .states) (c .listed) w w
+  unfolding solve.reply def.with
   refuses zero h w = absurd (h refl)
   refuses (suc k) h w = record { tally = refl; left = record { answer = refl; multipliers = refl; states = refl; listed = refl; workspace = refl } }
 
@@ -40,7 +40,7 @@ module _ (t : SolveReport) (c : Call) where
   not-zero (suc k) h = absurd (omega (arith, rw (ne-eqb (suc k) 0 (λ e. omega (arith, e))) at h))
 
   pub on-full : full t ≡ true → (k : ℕ) → k ≡ cond (eqb (number c) 0) 11 (number c) → (w : List Float) → Entered (tallied t c) t (Refused k) (c .nu) (c .states) (c .listed) w w
-  unfolding tallied T.answerOn T.numberOn
+  unfolding tallied def.answerOn def.numberOn
   on-full f k e w = rw (f, ← e) (refuses k (λ z. not-zero (number c) (sym e ∙ z)) w)
 
   same-number : (k : ℕ) → cond (eqb k 0) 0 k ≡ k
@@ -48,8 +48,8 @@ module _ (t : SolveReport) (c : Call) where
   same-number (suc k) = rw (ne-eqb (suc k) 0 (λ e. omega (arith, e)))
 
   pub on-room : full t ≡ false → (s : SolveReport) (r : BoxAnswer) (nu : List Float) (st q : List ℕ) (w w′ : List Float)
-      → Left (D.solveReply (c .problem) (c .watch) (c .nu) (c .states) (c .listed) (c .room)) r nu st q w w′ → s ≡ joinedBy t r
+      → Left (solve.solveReply (c .problem) (c .watch) (c .nu) (c .states) (c .listed) (c .room)) r nu st q w w′ → s ≡ joinedBy t r
       → Entered (tallied t c) s r nu st q w w′
-  unfolding tallied T.answerOn T.numberOn T.with D.solveReply
+  unfolding tallied def.answerOn def.numberOn def.with solve.solveReply
   on-room f s r nu st q w w′ l e =
       rw (f, same-number (number c)) (record { tally = e ∙ ap (joinedBy t) (l .answer) ∙ joined-by t (reply (number c) .outcome); left = l })

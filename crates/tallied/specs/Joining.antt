@@ -3,8 +3,8 @@ use Prim.Native.Nat.{ℕ}
 use mathlib.Core.Path.{_≡_}
 use mathlib.Core.List.{List}
 use lib.Ieee.{Float}
-use Rattle.sweep.specs.Rows.{Problem}
-use Rattle.boxed.specs.Solves.{Watch, Left}
+use Rattle.box_rows.specs.Rows.{Problem}
+use Rattle.boxed.specs.Solve.{Watch, Left}
 use Rattle.boxed.specs.declared.BoxAnswer.{BoxAnswer}
 use Rattle.report.specs.declared.SolveReport.{SolveReport}
 use Rattle.tally.specs.Tally.{Call, Tallied}

@@ -1,10 +1,11 @@
-// The tallied solve of document 01: a solve whose report is joined to a tally, by value and then by reference. specs/Tally.antt of crate tally defines it.
+// The tallied solve of document 01: a solve whose report is joined to a tally, by value and then by reference.
+// specs/Tally.antt of crate tally defines it.
 ghost use mathlib.Core.Path.{_≡_};
 ghost use mathlib.Core.Bool.{cond};
 ghost use lib.Dec.{eqb};
 ghost use lib.ListN.{length};
-ghost use Rattle.sweep.specs.Rows as box;
-ghost use Rattle.boxed.specs.Solves as solver;
+ghost use Rattle.box_rows.specs.Rows as box;
+ghost use Rattle.boxed.specs.Solve as solve;
 ghost use Rattle.report.specs.Joins as join;
 ghost use Rattle.tally.specs.Tally as def;
 ghost use Rattle.tallied.specs.Joining as said;
@@ -90,8 +91,8 @@ fn or_eleven(number: u32) -> u32
     number
 }
 
-// BoxSolver::solve on a tally, which goes in and comes back with the solve's report joined to it. 5 to 10 are tested first, then 11; a refused solve joins
-// nothing and changes nothing.
+// BoxSolver::solve on a tally, which goes in and comes back with the solve's report joined to it. 5 to 10 are tested
+// first, then 11; a refused solve joins nothing and changes nothing.
 pub fn tallied_solve(
     tally: SolveReport,
     w: &[f64],
@@ -111,7 +112,7 @@ pub fn tallied_solve(
         (def.tallied tally
         (said.call
         (box.problem (now (w .entry)) (now («u_free» .entry)) (now (lo .entry)) (now (hi .entry)) (now (scale .entry)))
-        (solver.watch (now (motion .entry)) tolerance)
+        (solve.watch (now (motion .entry)) tolerance)
         (now (nu .entry)) (now (states .entry)) (now (rows .entry)) (length (now (workspace .entry)))))
         (r .tally) (r .answer) (now (nu .exit)) (now (states .exit)) (now (rows .exit))
         (now (workspace .entry)) (now (workspace .exit)) ⌝ }
@@ -163,7 +164,7 @@ pub fn solve_into(
         (def.tallied (now (tally .entry))
         (said.call
         (box.problem (now (w .entry)) (now («u_free» .entry)) (now (lo .entry)) (now (hi .entry)) (now (scale .entry)))
-        (solver.watch (now (motion .entry)) tolerance)
+        (solve.watch (now (motion .entry)) tolerance)
         (now (nu .entry)) (now (states .entry)) (now (rows .entry)) (length (now (workspace .entry)))))
         (now (tally .exit)) r (now (nu .exit)) (now (states .exit)) (now (rows .exit))
         (now (workspace .entry)) (now (workspace .exit)) ⌝ }

@@ -4,8 +4,8 @@ use mathlib.Core.Bool.{Bool, cond, _||_}
 use mathlib.Core.List.{List, [], _∷_}
 use lib.Dec.{ltb, eqb}
 use lib.Ieee.{Float}
-use Rattle.sweep.specs.Rows.{Problem}
-use Rattle.boxed.specs.Solves.{Watch, Outcome, refused, solved, infeasible, Result, refusal, reply, solveReply, SWEEP_CAP}
+use Rattle.box_rows.specs.Rows.{Problem}
+use Rattle.boxed.specs.Solve.{Watch, Outcome, refused, solved, infeasible, Result, refusal, reply, solveReply, SWEEP_CAP}
 use Rattle.boxed.specs.declared.BoxReport.{BoxReport}
 use Rattle.report.specs.Joins as report
 use Rattle.report.specs.declared.SolveReport.{SolveReport}

@@ -51,13 +51,21 @@ same-length : tie.Need-same-length
 same-length c = search needs
 
 returns-2 : tie.Need-returns-2
-returns-2 c = answered _ _ _ _ _ (c .before .before .before .before .before .before .before .before .before .before .before .before .before .before .before .if1 .left) (record { wrote = c .before .before .refused .ensures; short = refused-short _ (record { below = search needs }) }) (sym (refused-file _ _ _ _ _ (c .before .before .before .before .before .reading .given .1) (c .before .before .before .before .before .before .before .read .ensures)))
+returns-2 c =
+    answered _ _ _ _ _ (c .before .before .before .before .before .before .before .before .before .before .before .before .before .before .before .if1 .left) (record {
+      wrote = c .before .before .refused .ensures;
+      short = refused-short _
+          (record { below = search needs });
+    }) (sym (refused-file _ _ _ _ _ (c .before .before .before .before .before .reading .given .1) (c .before .before .before .before .before .before .before .read .ensures)))
 
 same-length-2 : tie.Need-same-length-2
 same-length-2 c = search needs
 
 returns-3 : tie.Need-returns-3
-returns-3 c = answered _ _ _ _ _ (c .before .before .before .before .before .before .before .before .before .before .before .before .before .before .before .before .before .before .before .before .before .before .before .if1 .left) (c .before .before .before .solve-fronts .ensures) (taken-in _ _ _ _ _ _ (c .before .before .before .before .before .before .before .before .before .before .before .before .before .reading2 .given .1) (c .before .before .before .before .before .before .before .before .before .before .before .before .before .before .before .read .ensures) .same)
+returns-3 c =
+    answered _ _ _ _ _ (c .before .before .before .before .before .before .before .before .before .before .before .before .before .before .before .before .before .before .before .before .before .before .before .if1 .left)
+    (c .before .before .before .solve-fronts .ensures) (taken-in _ _ _ _ _ _ (c .before .before .before .before .before .before .before .before .before .before .before .before .before .reading2 .given .1)
+    (c .before .before .before .before .before .before .before .before .before .before .before .before .before .before .before .read .ensures) .same)
 
 pub of-file-spec : {M : Type 1} → statement M
 of-file-spec =

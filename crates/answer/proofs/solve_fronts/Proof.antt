@@ -39,7 +39,11 @@ slice-aggregate-solve-7 : tie.Need-slice-aggregate-solve-7
 slice-aggregate-solve-7 c = sym (length-take-le _ _ (c .before .before .before .before .before .before .before .before .before .before .before .before .before .before .before .pre .starts))
 
 solve-requires : tie.Need-solve-requires
-solve-requires c κs = front-short (c .before .before .before .before .before .before .before .before .before .before .before .before .before .before .before .before .args .n) (c .before .before .before .before .before .before .before .before .before .before .before .before .before .before .before .before .args .nu .now) (c .before .before .before .before .before .before .before .before .before .before .before .before .before .before .before .before .pre .starts) (c .before .before .before .before .before .before .before .before .before .before .before .before .before .before .before .before .pre .small .few)
+solve-requires c κs =
+    front-short (c .before .before .before .before .before .before .before .before .before .before .before .before .before .before .before .before .args .n)
+    (c .before .before .before .before .before .before .before .before .before .before .before .before .before .before .before .before .args .nu .now)
+    (c .before .before .before .before .before .before .before .before .before .before .before .before .before .before .before .before .pre .starts)
+    (c .before .before .before .before .before .before .before .before .before .before .before .before .before .before .before .before .pre .small .few)
 
 same-length : tie.Need-same-length
 same-length c = search needs

@@ -1,17 +1,15 @@
-use mathlib.Core.Path.{sym, refl}
-use lib.Seq.{take-all, length-take-le}
+use mathlib.Core.Path.{sym}
 use native.Mathlib.Omega.{arith}
+use lib.Seq.{take-all, length-take-le}
 use borrow.Author.Needs.{needs}
 use Rattle.boxed.proofs.listed.Statement.{statement}
 use Rattle.boxed.proofs.listed.Tie as tie
-use Rattle.boxed.proofs.listed.Reads as reads
-use Rattle.boxed.proofs.listed.Lts as lts
 
 slice-aggregate-result : tie.Need-slice-aggregate-result
 slice-aggregate-result c = sym (length-take-le _ _ (omega arith))
 
 returns : tie.Need-returns
-returns c = refl
+returns c = search needs
 
 returns-2 : tie.Need-returns-2
 returns-2 c = sym (take-all _ _ (c .if1 .left))

@@ -39,7 +39,9 @@ same-length-5 : tie.Need-same-length-5
 same-length-5 c = search needs
 
 returns-2 : tie.Need-returns-2
-returns-2 c = accepted _ _ _ _ _ _ _ _ _ _ _ _ (c .before .before .before .before .before .before .before .before .before .before .before .solve .result) _ (c .before .outcome .given .1) (c .before .before .before .before .before .before .before .before .before .before .before .solve .ensures) (c .before .before .before .before .before .before .before .before .before .before .before .before .before .before .before .before .if1 .left)
+returns-2 c =
+    accepted _ _ _ _ _ _ _ _ _ _ _ _ (c .before .before .before .before .before .before .before .before .before .before .before .solve .result) _ (c .before .outcome .given .1)
+    (c .before .before .before .before .before .before .before .before .before .before .before .solve .ensures) (c .before .before .before .before .before .before .before .before .before .before .before .before .before .before .before .before .if1 .left)
 
 same-length-6 : tie.Need-same-length-6
 same-length-6 c = search needs
@@ -54,7 +56,9 @@ same-length-9 : tie.Need-same-length-9
 same-length-9 c = search needs
 
 returns-3 : tie.Need-returns-3
-returns-3 c = rejected _ _ _ _ _ _ _ _ _ _ _ _ (c .before .before .before .before .before .before .before .before .before .before .solve .result) (c .enum-told .given .1) (c .before .before .before .before .before .before .before .before .before .before .solve .ensures) (c .before .before .before .before .before .before .before .before .before .before .before .before .before .before .before .if1 .left)
+returns-3 c =
+    rejected _ _ _ _ _ _ _ _ _ _ _ _ (c .before .before .before .before .before .before .before .before .before .before .solve .result) (c .enum-told .given .1) (c .before .before .before .before .before .before .before .before .before .before .solve .ensures)
+    (c .before .before .before .before .before .before .before .before .before .before .before .before .before .before .before .if1 .left)
 
 pub piskorlu-least-norm-spec : {M : Type 1} → statement M
 piskorlu-least-norm-spec =

@@ -1,23 +1,31 @@
-use mathlib.Core.Path.{refl}
-use Rattle.exact_pass.proofs.Turning.{number-many, number-room, number-none, shown-is}
+use Rattle.box_rows.specs.Rows as box
+use lib.ListN.{length}
+use mathlib.Core.Path.{_≡_, refl, sym, ap, _∙_}
+use Rattle.exact_pass.proofs.Replies.{Fitting, fits-lengths, left-short, left-unfit, left-passed, ray-fits, ray-unfit}
 use native.Mathlib.Omega.{arith}
 use borrow.Author.Needs.{needs}
 use Rattle.exact_pass.proofs.exact_pass.Statement.{statement}
 use Rattle.exact_pass.proofs.exact_pass.Tie as tie
-use Rattle.exact_pass.proofs.exact_pass.Reads as reads
-use Rattle.exact_pass.proofs.exact_pass.Lts as lts
 
 returns : tie.Need-returns
-returns c = rw (number-many _ _ (c .if1 .taken)) (refl, refl, refl, refl, refl)
+returns c = left-short _ _ _ _ _ (c .if1 .taken)
 
-returns-2 : tie.Need-returns-2
-returns-2 c = rw (number-room _ _ (c .before .if1 .left) (c .if2 .taken)) (refl, refl, refl, refl, refl)
+fits-requires : tie.Need-fits-requires
+fits-requires c κs = search needs
 
-show-requires : tie.Need-show-requires
-show-requires c κs = search needs
-
-pass-large-requires : tie.Need-pass-large-requires
-pass-large-requires c κs = (c .before .before .before .before .before .before .before .before .before .before .before .if1 .left, c .before .before .before .before .before .before .before .before .before .before .if2 .left)
+pass-requires : tie.Need-pass-requires
+pass-requires c κs =
+    let at-if2 = c .before .before .before .before in
+    let at-fits2 = at-if2 .before in
+    let at-if1 = at-fits2 .before in
+    let at-args = at-if1 .before .before .before .before .before .before .before .before .before .before in
+    let g = fits-lengths (box.problem (at-args .args .w .now) (at-args .args .u-free .now) (at-args .args .lo .now) (at-args .args .hi .now) (at-args .args .scale .now)) (at-args .args .states .now) (at-args .args .nu .now) (at-args .args .rows .now) (sym (at-fits2 .fits2 .ensures) ∙ at-if2 .if2 .taken) in (
+      rw (g .values) (g .sized),
+      sym (g .values),
+      g .states ∙ sym (g .values),
+      omega (arith, g .listed, g .values),
+      omega (arith, at-if1 .if1 .left),
+    )
 
 same-length : tie.Need-same-length
 same-length c = search needs
@@ -31,51 +39,27 @@ same-length-3 c = search needs
 same-length-4 : tie.Need-same-length-4
 same-length-4 c = search needs
 
+returns-2 : tie.Need-returns-2
+returns-2 c =
+    let at-pass = c .before .before .before .before .before .before .before .before in
+    let at-if2 = at-pass .before .before .before .before .before in
+    let at-fits2 = at-if2 .before in
+    let at-if1 = at-fits2 .before in
+    left-passed _ _ _ _ _ _ _ _ _ _ _ (at-if1 .if1 .left) (at-fits2 .fits2 .ensures) (at-if2 .if2 .taken) (at-pass .pass .ensures .0) (at-pass .pass .ensures .1)
+
 returns-3 : tie.Need-returns-3
-returns-3 c =
-    let many = c .before .before .before .before .before .before .before .before .before .before .before .before .before .before .before .before .before .before .before .before .if1 .left in
-    let short = c .before .before .before .before .before .before .before .before .before .before .before .before .before .before .before .before .before .before .before .if2 .left in
-    let pass = c .before .before .before .before .before .before .before .before .pass-large .ensures in
-    rw (number-none _ _ many short) (shown-is _ _ _ _ _ _ _ _ _ (c .before .before .before .before .before .before .before .before .before .before .before .before .before .before .before .before .show .ensures) (pass .0), pass .1)
-
-pass-small-requires : tie.Need-pass-small-requires
-pass-small-requires c κs = (c .before .before .before .before .if3 .left, c .before .before .before .before .before .before .before .before .before .before .if2 .left)
-
-same-length-5 : tie.Need-same-length-5
-same-length-5 c = search needs
-
-same-length-6 : tie.Need-same-length-6
-same-length-6 c = search needs
-
-same-length-7 : tie.Need-same-length-7
-same-length-7 c = search needs
-
-same-length-8 : tie.Need-same-length-8
-same-length-8 c = search needs
-
-returns-4 : tie.Need-returns-4
-returns-4 c =
-    let many = c .before .before .before .before .before .before .before .before .before .before .before .before .before .before .before .before .before .before .before .before .if1 .left in
-    let short = c .before .before .before .before .before .before .before .before .before .before .before .before .before .before .before .before .before .before .before .if2 .left in
-    let pass = c .before .before .before .before .before .before .before .before .pass-small .ensures in
-    rw (number-none _ _ many short) (shown-is _ _ _ _ _ _ _ _ _ (c .before .before .before .before .before .before .before .before .before .before .before .before .before .before .before .before .show .ensures) (pass .0), pass .1)
+returns-3 c = left-unfit _ _ _ _ _ _ (c .before .before .if1 .left) (c .before .fits2 .ensures) (c .if2 .left)
 
 pub exact-pass-spec : {M : Type 1} → statement M
 exact-pass-spec =
     tie.close
     (tie.spec
     returns
-    returns-2
-    show-requires
-    pass-large-requires
+    fits-requires
+    pass-requires
     same-length
     same-length-2
     same-length-3
     same-length-4
-    returns-3
-    pass-small-requires
-    same-length-5
-    same-length-6
-    same-length-7
-    same-length-8
-    returns-4)
+    returns-2
+    returns-3)

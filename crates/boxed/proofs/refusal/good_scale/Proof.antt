@@ -1,10 +1,7 @@
-use Rattle.boxed.specs.Solves as def
 use borrow.Author.Needs.{needs}
+use Rattle.boxed.specs.Solve as def
 use Rattle.boxed.proofs.refusal.good_scale.Statement.{statement}
 use Rattle.boxed.proofs.refusal.good_scale.Tie as tie
-use Rattle.boxed.proofs.refusal.good_scale.Reads as reads
-use Rattle.boxed.proofs.refusal.good_scale.Lts as lts
-use Rattle.floats.proofs.is_finite.Reads as is-finite-reads
 
 is-finite-requires : tie.Need-is-finite-requires
 is-finite-requires c κs = search needs

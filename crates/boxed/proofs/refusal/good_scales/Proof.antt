@@ -1,15 +1,12 @@
-use Rattle.boxed.specs.Solves as def
-use Rattle.loops.specs.Loops.{every}
-use native.Mathlib.Numerals.{add-one}
-use mathlib.Core.Path.{_≡_, refl}
 use Prim.Native.Nat.{_≤_, _-_}
+use mathlib.Core.Path.{_≡_, refl}
+use native.Mathlib.Numerals.{add-one}
+use native.Mathlib.Omega.{arith}
 use borrow.Author.Needs.{needs}
+use Rattle.boxed.specs.Solve as def
+use Rattle.loops.specs.Loops.{every}
 use Rattle.boxed.proofs.refusal.good_scales.Statement.{statement}
 use Rattle.boxed.proofs.refusal.good_scales.Tie as tie
-use Rattle.boxed.proofs.refusal.good_scales.Reads as reads
-use Rattle.boxed.proofs.refusal.good_scales.Lts as lts
-use Rattle.boxed.proofs.refusal.good_scale.Reads as good-scale-reads
-use Rattle.cells.proofs.at.Reads as at-reads
 
 abbrev Inv-loop : tie.InvT-loop
 Inv-loop scale n good₀ i₀ good i = (i ≤ n) × (good ≡ every (def.goodScaleAt scale) i)
@@ -35,10 +32,16 @@ loop-less c = search needs
 
 loop-again : tie.Need-loop-again Inv-loop μ-loop
 unfolding every
-loop-again c = (search needs, rw (add-one, ← c .before .before .before .loop .inv .1, ← c .before .at .ensures, ← c .good-scale .ensures))
+loop-again c =
+    let at-at = c .before in
+    let at-loop = at-at .before .before in
+    (search needs, rw (add-one, ← at-loop .loop .inv .1, ← at-at .at .ensures, ← c .good-scale .ensures))
 
 returns : tie.Need-returns Inv-loop μ-loop
-returns c = let e = native.Mathlib.Nat.le-antisymm (c .before .loop .inv .0) (c .loop-test .left) in rw (← e) (c .before .loop .inv .1)
+returns c =
+    let at-loop = c .before in
+    let at-args = at-loop .before .before in
+    let e : at-loop .loop .i ≡ at-args .args .n = omega arith in rw (← e) (at-loop .loop .inv .1)
 
 pub good-scales-spec : {M : Type 1} → statement M
 good-scales-spec =

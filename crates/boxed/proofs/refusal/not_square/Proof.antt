@@ -1,10 +1,8 @@
-use Rattle.loops.proofs.Index.{product}
 use native.Mathlib.Omega.{arith}
 use borrow.Author.Needs.{needs}
+use Rattle.loops.proofs.Index.{product}
 use Rattle.boxed.proofs.refusal.not_square.Statement.{statement}
 use Rattle.boxed.proofs.refusal.not_square.Tie as tie
-use Rattle.boxed.proofs.refusal.not_square.Reads as reads
-use Rattle.boxed.proofs.refusal.not_square.Lts as lts
 
 mul-result : tie.Need-mul-result
 mul-result c = omega (arith, product (c .args .n) (c .args .n) (c .pre) (c .pre))

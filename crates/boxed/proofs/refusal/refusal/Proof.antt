@@ -1,68 +1,127 @@
-use borrow.Author.Tests.{ltb-false}
-use mathlib.Core.Bool.{Bool, true, false, _||_}
+use Prim.Native.Nat.{ℕ}
+use mathlib.Core.Bool.{Bool, true, false, not, _&&_, _||_}
 use mathlib.Core.Path.{_≡_, refl, sym, _∙_}
-use Rattle.boxed.specs.Solves as def
+use lib.Dec.{eqb}
+use borrow.Author.Tests.{ltb-false, eqb-true, not-false}
 use borrow.Author.Needs.{needs}
+use Rattle.boxed.specs.Solve as def
+use Rattle.loops.proofs.Every.{both-true}
 use Rattle.boxed.proofs.refusal.refusal.Statement.{statement}
 use Rattle.boxed.proofs.refusal.refusal.Tie as tie
-use Rattle.boxed.proofs.refusal.refusal.Reads as reads
-use Rattle.boxed.proofs.refusal.refusal.Lts as lts
-use Rattle.boxed.proofs.refusal.good_scales.Reads as good-scales-reads
-use Rattle.boxed.proofs.refusal.not_square.Reads as not-square-reads
-use Rattle.boxed.proofs.refusal.too_large.Reads as too-large-reads
-use Rattle.boxed.proofs.refusal.too_short.Reads as too-short-reads
-use Rattle.boxed.proofs.refusal.unequal.Reads as unequal-reads
-use Rattle.boxed.proofs.refusal.uneven.Reads as uneven-reads
 
 too-large-requires : tie.Need-too-large-requires
 too-large-requires c κs = search needs
 
 returns : tie.Need-returns
 unfolding def.refusal
-returns c = rw (← c .before .too-large .ensures, c .if1 .taken)
+returns c =
+    let at-too-large = c .before in
+    rw (← at-too-large .too-large .ensures, c .if1 .taken)
 
 or-left : (a b : Bool) → a || b ≡ false → a ≡ false
 or-left true b h = h
 or-left false b h = refl
 
 not-square-requires : tie.Need-not-square-requires
-not-square-requires c κs = ltb-false _ _ (or-left _ _ (sym (c .before .too-large .ensures) ∙ c .if1 .left))
+not-square-requires c κs =
+    let at-too-large = c .before in
+    ltb-false _ _ (or-left _ _ (sym (at-too-large .too-large .ensures) ∙ c .if1 .left))
 
 returns-2 : tie.Need-returns-2
 unfolding def.refusal
-returns-2 c = rw (← c .before .before .before .too-large .ensures, c .before .before .if1 .left, ← c .before .not-square .ensures, c .if2 .taken)
+returns-2 c =
+    let at-not-square = c .before in
+    let at-if1 = at-not-square .before in
+    let at-too-large = at-if1 .before in
+    rw (← at-too-large .too-large .ensures, at-if1 .if1 .left, ← at-not-square .not-square .ensures, c .if2 .taken)
 
 unequal-requires : tie.Need-unequal-requires
 unequal-requires c κs = search needs
 
 returns-3 : tie.Need-returns-3
 unfolding def.refusal
-returns-3 c = rw (← c .before .before .before .before .before .too-large .ensures, c .before .before .before .before .if1 .left, ← c .before .before .before .not-square .ensures, c .before .before .if2 .left, ← c .before .unequal .ensures, c .if3 .taken)
+returns-3 c =
+    let at-unequal = c .before in
+    let at-if2 = at-unequal .before in
+    let at-not-square = at-if2 .before in
+    let at-if1 = at-not-square .before in
+    let at-too-large = at-if1 .before in
+    rw (← at-too-large .too-large .ensures, at-if1 .if1 .left, ← at-not-square .not-square .ensures, at-if2 .if2 .left, ← at-unequal .unequal .ensures, c .if3 .taken)
+
+-- where 7 does not refuse, there is a scale for each row
+equal-third : (a b c d n : ℕ) (q : Bool) → q ≡ not (eqb a n && eqb b n && eqb c n && eqb d n) → q ≡ false → c ≡ n
+equal-third a b c d n q e h =
+    let all = not-false (eqb a n && eqb b n && eqb c n && eqb d n) (sym e ∙ h) in
+    eqb-true c n (both-true (eqb a n && eqb b n) (eqb c n) (both-true (eqb a n && eqb b n && eqb c n) (eqb d n) all .0) .1)
 
 good-scales-requires : tie.Need-good-scales-requires
-good-scales-requires c κs = search needs
+good-scales-requires c κs =
+    let at-unequal = c .before in
+    equal-third _ _ _ _ _ _ (at-unequal .unequal .ensures) (c .if3 .left)
 
 returns-4 : tie.Need-returns-4
 unfolding def.refusal
-returns-4 c = rw (← c .before .before .before .before .before .before .before .too-large .ensures, c .before .before .before .before .before .before .if1 .left, ← c .before .before .before .before .before .not-square .ensures, c .before .before .before .before .if2 .left, ← c .before .before .before .unequal .ensures, c .before .before .if3 .left, ← c .before .good-scales .ensures, c .if4 .taken)
+returns-4 c =
+    let at-good-scales = c .before in
+    let at-if3 = at-good-scales .before in
+    let at-unequal = at-if3 .before in
+    let at-if2 = at-unequal .before in
+    let at-not-square = at-if2 .before in
+    let at-if1 = at-not-square .before in
+    let at-too-large = at-if1 .before in
+    rw (← at-too-large .too-large .ensures, at-if1 .if1 .left, ← at-not-square .not-square .ensures, at-if2 .if2 .left, ← at-unequal .unequal .ensures, at-if3 .if3 .left, ← at-good-scales .good-scales .ensures, c .if4 .taken)
 
 uneven-requires : tie.Need-uneven-requires
 uneven-requires c κs = search needs
 
 returns-5 : tie.Need-returns-5
 unfolding def.refusal
-returns-5 c = rw (← c .before .before .before .before .before .before .before .before .before .too-large .ensures, c .before .before .before .before .before .before .before .before .if1 .left, ← c .before .before .before .before .before .before .before .not-square .ensures, c .before .before .before .before .before .before .if2 .left, ← c .before .before .before .before .before .unequal .ensures, c .before .before .before .before .if3 .left, ← c .before .before .before .good-scales .ensures, c .before .before .if4 .left, ← c .before .uneven .ensures, c .if5 .taken)
+returns-5 c =
+    let at-uneven = c .before in
+    let at-if4 = at-uneven .before in
+    let at-good-scales = at-if4 .before in
+    let at-if3 = at-good-scales .before in
+    let at-unequal = at-if3 .before in
+    let at-if2 = at-unequal .before in
+    let at-not-square = at-if2 .before in
+    let at-if1 = at-not-square .before in
+    let at-too-large = at-if1 .before in
+    rw (← at-too-large .too-large .ensures, at-if1 .if1 .left, ← at-not-square .not-square .ensures, at-if2 .if2 .left, ← at-unequal .unequal .ensures, at-if3 .if3 .left, ← at-good-scales .good-scales .ensures, at-if4 .if4 .left, ← at-uneven .uneven .ensures, c .if5 .taken)
 
 too-short-requires : tie.Need-too-short-requires
 too-short-requires c κs = search needs
 
 returns-6 : tie.Need-returns-6
 unfolding def.refusal
-returns-6 c = rw (← c .before .before .before .before .before .before .before .before .before .before .before .too-large .ensures, c .before .before .before .before .before .before .before .before .before .before .if1 .left, ← c .before .before .before .before .before .before .before .before .before .not-square .ensures, c .before .before .before .before .before .before .before .before .if2 .left, ← c .before .before .before .before .before .before .before .unequal .ensures, c .before .before .before .before .before .before .if3 .left, ← c .before .before .before .before .before .good-scales .ensures, c .before .before .before .before .if4 .left, ← c .before .before .before .uneven .ensures, c .before .before .if5 .left, ← c .before .too-short .ensures, c .if6 .taken)
+returns-6 c =
+    let at-too-short = c .before in
+    let at-if5 = at-too-short .before in
+    let at-uneven = at-if5 .before in
+    let at-if4 = at-uneven .before in
+    let at-good-scales = at-if4 .before in
+    let at-if3 = at-good-scales .before in
+    let at-unequal = at-if3 .before in
+    let at-if2 = at-unequal .before in
+    let at-not-square = at-if2 .before in
+    let at-if1 = at-not-square .before in
+    let at-too-large = at-if1 .before in
+    rw (← at-too-large .too-large .ensures, at-if1 .if1 .left, ← at-not-square .not-square .ensures, at-if2 .if2 .left, ← at-unequal .unequal .ensures, at-if3 .if3 .left, ← at-good-scales .good-scales .ensures, at-if4 .if4 .left, ← at-uneven .uneven .ensures, at-if5 .if5 .left, ← at-too-short .too-short .ensures, c .if6 .taken)
 
 returns-7 : tie.Need-returns-7
 unfolding def.refusal
-returns-7 c = rw (← c .before .before .before .before .before .before .before .before .before .before .before .too-large .ensures, c .before .before .before .before .before .before .before .before .before .before .if1 .left, ← c .before .before .before .before .before .before .before .before .before .not-square .ensures, c .before .before .before .before .before .before .before .before .if2 .left, ← c .before .before .before .before .before .before .before .unequal .ensures, c .before .before .before .before .before .before .if3 .left, ← c .before .before .before .before .before .good-scales .ensures, c .before .before .before .before .if4 .left, ← c .before .before .before .uneven .ensures, c .before .before .if5 .left, ← c .before .too-short .ensures, c .if6 .left)
+returns-7 c =
+    let at-too-short = c .before in
+    let at-if5 = at-too-short .before in
+    let at-uneven = at-if5 .before in
+    let at-if4 = at-uneven .before in
+    let at-good-scales = at-if4 .before in
+    let at-if3 = at-good-scales .before in
+    let at-unequal = at-if3 .before in
+    let at-if2 = at-unequal .before in
+    let at-not-square = at-if2 .before in
+    let at-if1 = at-not-square .before in
+    let at-too-large = at-if1 .before in
+    rw (← at-too-large .too-large .ensures, at-if1 .if1 .left, ← at-not-square .not-square .ensures, at-if2 .if2 .left, ← at-unequal .unequal .ensures, at-if3 .if3 .left, ← at-good-scales .good-scales .ensures, at-if4 .if4 .left, ← at-uneven .uneven .ensures, at-if5 .if5 .left, ← at-too-short .too-short .ensures, c .if6 .left)
 
 pub refusal-spec : {M : Type 1} → statement M
 refusal-spec =

@@ -1,8 +1,6 @@
 use borrow.Author.Tests.{lt-ltb, le-ltb}
 use Rattle.boxed.proofs.refusal.too_large.Statement.{statement}
 use Rattle.boxed.proofs.refusal.too_large.Tie as tie
-use Rattle.boxed.proofs.refusal.too_large.Reads as reads
-use Rattle.boxed.proofs.refusal.too_large.Lts as lts
 
 returns : tie.Need-returns
 returns c = rw (lt-ltb _ _ (c .if1 .taken))

@@ -1,8 +1,6 @@
 use borrow.Author.Tests.{lt-ltb, le-ltb}
 use Rattle.boxed.proofs.refusal.too_short.Statement.{statement}
 use Rattle.boxed.proofs.refusal.too_short.Tie as tie
-use Rattle.boxed.proofs.refusal.too_short.Reads as reads
-use Rattle.boxed.proofs.refusal.too_short.Lts as lts
 
 returns : tie.Need-returns
 returns c = rw (lt-ltb _ _ (c .if1 .taken))

@@ -1,8 +1,6 @@
 use borrow.Author.Tests.{eq-eqb, ne-eqb}
 use Rattle.boxed.proofs.refusal.unequal.Statement.{statement}
 use Rattle.boxed.proofs.refusal.unequal.Tie as tie
-use Rattle.boxed.proofs.refusal.unequal.Reads as reads
-use Rattle.boxed.proofs.refusal.unequal.Lts as lts
 
 returns : tie.Need-returns
 returns c = rw (ne-eqb _ _ (c .if1 .taken))

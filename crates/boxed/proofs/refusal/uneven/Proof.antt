@@ -2,8 +2,6 @@ use borrow.Author.Tests.{lt-ltb, le-ltb}
 use borrow.Author.Needs.{needs}
 use Rattle.boxed.proofs.refusal.uneven.Statement.{statement}
 use Rattle.boxed.proofs.refusal.uneven.Tie as tie
-use Rattle.boxed.proofs.refusal.uneven.Reads as reads
-use Rattle.boxed.proofs.refusal.uneven.Lts as lts
 
 rem-result : tie.Need-rem-result
 rem-result c = search needs

@@ -34,7 +34,11 @@ same-length c = search needs
 
 returns : tie.Need-returns
 unfolding def.rowLine
-returns c = reading (then (then (then (then (then (c .before .before .before .before .before .before .before .before .before .before .before .before .before .before .before .before .before .before .before .before .before .before .before .count .ensures) (c .before .before .before .before .before .before .before .before .before .before .before .before .before .before .before .before .before .before .before .put .ensures)) (c .before .before .before .before .before .before .before .before .before .before .before .before .before .before .put2 .ensures)) (c .before .before .before .before .before .before .before .before .before .before .put3 .ensures)) (c .before .before .before .before .before .before .pattern .ensures)) (c .before .before .put4 .ensures)) (rw (c .before .before .before .before .before .before .before .before .before .before .before .before .before .before .before .letter .ensures))
+returns c =
+    reading (then (then (then (then (then (c .before .before .before .before .before .before .before .before .before .before .before .before .before .before .before .before .before .before .before .before .before .before .before .count .ensures)
+    (c .before .before .before .before .before .before .before .before .before .before .before .before .before .before .before .before .before .before .before .put .ensures))
+    (c .before .before .before .before .before .before .before .before .before .before .before .before .before .before .put2 .ensures)) (c .before .before .before .before .before .before .before .before .before .before .put3 .ensures))
+    (c .before .before .before .before .before .before .pattern .ensures)) (c .before .before .put4 .ensures)) (rw (c .before .before .before .before .before .before .before .before .before .before .before .before .before .before .before .letter .ensures))
 
 pub row-spec : {M : Type 1} → statement M
 row-spec =

@@ -37,7 +37,13 @@ loop-less : tie.Need-loop-less Inv-loop μ-loop
 loop-less c = search needs
 
 loop-again : tie.Need-loop-again Inv-loop μ-loop
-loop-again c = (search needs, search needs, rows-again (c .before .before .before .before .before .before .before .before .before .before .before .args .states .now) (c .before .before .before .before .before .before .before .before .before .before .before .args .nu .now) _ _ _ (c .before .before .before .before .before .before .before .loop .i) _ _ _ (c .before .before .before .before .state-of .result) (c .before .before .before .before .before .before .before .loop .inv .2) (c .before .before .row .ensures) (c .before .before .before .before .state-of .ensures))
+loop-again c = (
+  search needs,
+  search needs,
+  rows-again (c .before .before .before .before .before .before .before .before .before .before .before .args .states .now)
+      (c .before .before .before .before .before .before .before .before .before .before .before .args .nu .now) _ _ _ (c .before .before .before .before .before .before .before .loop .i) _ _ _ (c .before .before .before .before .state-of .result)
+      (c .before .before .before .before .before .before .before .loop .inv .2) (c .before .before .row .ensures) (c .before .before .before .before .state-of .ensures),
+)
 
 same-length : tie.Need-same-length Inv-loop μ-loop
 same-length c = search needs

@@ -113,7 +113,10 @@ decimal-returns-2 : (t : ℕ) → decimal-lts.Need-returns-2 (
   decimal-below t,
   decimal.Post,
 ) (decimal-at t) decimal.Post
-decimal-returns-2 t c = reading (then (c .before .before .before .before .before .before .before .decimal .ensures) (c .before .before .put2 .ensures)) (ap (λ (d : ℕ). def.decimal (c .before .before .before .before .before .before .before .before .before .before .before .args .x / 10) ++ (d ∷ [])) (c .before .before .before .digit2 .ensures) ∙ decimal-high _ (c .before .before .before .before .before .before .before .before .before .if1 .left))
+decimal-returns-2 t c =
+    reading (then (c .before .before .before .before .before .before .before .decimal .ensures) (c .before .before .put2 .ensures)) (ap (λ (d : ℕ). def.decimal
+    (c .before .before .before .before .before .before .before .before .before .before .before .args .x / 10) ++ (d ∷ [])) (c .before .before .before .digit2 .ensures) ∙ decimal-high _
+    (c .before .before .before .before .before .before .before .before .before .if1 .left))
 
 pub +decimal-spec : {M : Type 1} → statement M
 +decimal-spec = close μ-decimal λ t. decimal-lts.spec (

@@ -94,7 +94,10 @@ hex-returns-2 : (t : ℕ) → hex-lts.Need-returns-2 (
   put-reads.Asked,
   put-reads.Learnt,
 ) (hex-at t) hex.Post
-hex-returns-2 t c = reading (then (c .before .before .before .before .before .before .before .hex .ensures) (c .before .before .put .ensures)) (ap (λ (d : ℕ). def.hex (c .before .before .before .before .before .before .before .before .before .before .before .args .places - 1) (c .before .before .before .before .before .before .before .before .before .before .before .args .x / 16) ++ (d ∷ [])) (c .before .before .before .digit .ensures) ∙ hex-more _ _ (omega (arith, c .before .before .before .before .before .before .before .before .before .if1 .left)))
+hex-returns-2 t c =
+    reading (then (c .before .before .before .before .before .before .before .hex .ensures) (c .before .before .put .ensures)) (ap (λ (d : ℕ). def.hex (c .before .before .before .before .before .before .before .before .before .before .before .args .places - 1)
+    (c .before .before .before .before .before .before .before .before .before .before .before .args .x / 16) ++ (d ∷ []))
+    (c .before .before .before .digit .ensures) ∙ hex-more _ _ (omega (arith, c .before .before .before .before .before .before .before .before .before .if1 .left)))
 
 pub +hex-spec : {M : Type 1} → statement M
 +hex-spec = close μ-hex λ t. hex-lts.spec (

@@ -1,0 +1,15 @@
+use Rattle.box_rows.specs.Rows as box
+use native.Mathlib.Omega.{arith}
+use borrow.Author.Needs.{needs}
+use Rattle.box_rows.proofs.update.Statement.{statement}
+use Rattle.box_rows.proofs.update.Tie as tie
+
+clamp-requires : tie.Need-clamp-requires
+clamp-requires c κs = search needs
+
+returns : tie.Need-returns
+unfolding box.update
+returns c = rw (c .clamp .ensures)
+
+pub update-spec : {M : Type 1} → statement M
+update-spec = tie.close (tie.spec clamp-requires returns)

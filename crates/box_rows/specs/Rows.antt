@@ -1,0 +1,89 @@
+-- The rows of a box problem, by document 01 and boxed.rs: the problem, a row's state, its update, its natural residual and its sum. Definitions only.
+use Prim.Native.Nat.{ℕ, _+_, _*_}
+use mathlib.Core.Bool.{Bool, not, cond, _&&_, _||_}
+use mathlib.Core.List.{List, [], _∷_}
+use lib.Dec.{eqb}
+use lib.ListN.{getD, length}
+use lib.Ieee.{Float, le}
+use Rattle.loops.specs.Loops.{tab}
+use Rattle.floats.specs.Ops.{_⊕_, _⊖_, _⊗_, _⊘_, at, 0ᶠ, 1e-9}
+use Rattle.floats.specs.Helpers.{clamp, abs, isNaN, isFinite}
+
+-- ---- the problem
+
+pub record Problem : Type 0 where
+  pub w : List Float
+  pub uFree : List Float
+  pub lo : List Float
+  pub hi : List Float
+  pub scale : List Float
+
+abbrev pub problem : List Float → List Float → List Float → List Float → List Float → Problem
+problem w uFree lo hi scale = record { w = w; uFree = uFree; lo = lo; hi = hi; scale = scale }
+
+-- n
+abbrev pub size : Problem → ℕ
+size p = length (p .uFree)
+
+-- the entry in row i and column j of a matrix in rows of n: the value at place i·n + j
+abbrev pub entry : List Float → ℕ → ℕ → ℕ → Float
+entry w n i j = at w (i * n + j)
+
+-- row i: its n entries
+unfoldable pub row : List Float → ℕ → ℕ → List Float
+row w n i = tab (entry w n i) n
+
+abbrev pub rowOf : Problem → ℕ → List Float
+rowOf p i = row (p .w) (size p) i
+
+-- ---- states: a byte a row
+
+abbrev pub inside : ℕ
+inside = 0
+
+abbrev pub atLo : ℕ
+atLo = 1
+
+abbrev pub atHi : ℕ
+atHi = 2
+
+abbrev pub idle : ℕ
+idle = 3
+
+abbrev pub state : List ℕ → ℕ → ℕ
+state st i = getD st i 0
+
+abbrev pub acts : List ℕ → ℕ → Bool
+acts st i = not (eqb (state st i) idle)
+
+-- a row cannot act if its diagonal is NaN or at most 0
+unfoldable pub isIdle : Float → Bool
+isIdle d = isNaN d || le d 0ᶠ
+
+-- the state that a multiplier v shows: on a finite bound within 1e-9 of its scale (ON_A_BOUND), the lower one first
+unfoldable pub onBound : Float → Float → Float → Bool
+onBound bound gap s = isFinite bound && le gap (1e-9 ⊗ s)
+
+unfoldable pub stateOf : Float → Float → Float → Float → ℕ
+stateOf lo hi s v = cond (onBound lo (v ⊖ lo) s) atLo (cond (onBound hi (hi ⊖ v) s) atHi inside)
+
+-- ---- a row's sum: u, then + each entry times its multiplier, from the left
+
+unfoldable pub rowSum : List Float → Float → List Float → Float
+rowSum [] u nu = u
+rowSum (a ∷ r) u [] = u
+rowSum (a ∷ r) u (v ∷ nu) = rowSum r (u ⊕ a ⊗ v) nu
+
+-- ---- a row's update: where it puts the multiplier v, the row sum being u and the diagonal d; and how far that is, over the scale s
+
+unfoldable pub update : Float → Float → Float → Float → Float → Float
+update v u d lo hi = clamp (v ⊖ u ⊘ d) lo hi
+
+unfoldable pub naturalResidual : Float → Float → Float → Float → Float → Float → Float
+naturalResidual v u d lo hi s = abs (v ⊖ update v u d lo hi) ⊘ s
+
+-- row i's own, at the multipliers nu
+unfoldable pub residualAt : Problem → List Float → ℕ → Float
+residualAt p nu i =
+    let u = rowSum (rowOf p i) (at (p .uFree) i) nu in
+    naturalResidual (at nu i) u (at (rowOf p i) i) (at (p .lo) i) (at (p .hi) i) (at (p .scale) i)

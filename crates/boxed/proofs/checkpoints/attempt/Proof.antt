@@ -1,0 +1,91 @@
+use Rattle.boxed.proofs.Checks.{mid-length, put-length, attempted}
+use lib.ListN.{length}
+use mathlib.Core.Path.{sym, ap, _∙_}
+use native.Mathlib.Omega.{arith}
+use borrow.Author.Needs.{needs}
+use Rattle.boxed.proofs.checkpoints.attempt.Statement.{statement}
+use Rattle.boxed.proofs.checkpoints.attempt.Tie as tie
+
+add-e : tie.Need-add-e
+add-e c = search needs
+
+sub-copy : tie.Need-sub-copy
+sub-copy c = search needs
+
+part-copy-start : tie.Need-part-copy-start
+part-copy-start c = search needs
+
+part-copy-end : tie.Need-part-copy-end
+part-copy-end c = search needs
+
+copy-requires : tie.Need-copy-requires
+copy-requires c κs =
+    let at-args = c .before .before .before .before .before .before .before .before .before .before .before in
+    let at-pre = at-args in
+    mid-length 1120 (length (at-args .args .u-free .now)) (at-args .args .work .now) (omega (arith, at-pre .pre .0 .0, at-pre .pre .4)) ∙ sym (at-pre .pre .2)
+
+exact-pass-requires : tie.Need-exact-pass-requires
+exact-pass-requires c κs = search needs
+
+sub-settle : tie.Need-sub-settle
+sub-settle c = search needs
+
+part-settle-start : tie.Need-part-settle-start
+part-settle-start c = search needs
+
+part-settle-end : tie.Need-part-settle-end
+part-settle-end c = search needs
+
+settle-requires : tie.Need-settle-requires
+settle-requires c κs =
+    let at-exact-pass = c .before .before .before .before .before .before .before .before .before .before .before in
+    let at-copy = at-exact-pass .before .before .before .before .before .before .before in
+    let at-args = at-copy .before .before .before .before .before .before .before .before .before .before .before .before in
+    let at-pre = at-args in
+    let n = length (at-args .args .u-free .now) in
+    let room = put-length 1120 n (at-args .args .work .now) (at-copy .copy .last .1 .0) (omega (arith, at-pre .pre .0 .0, at-pre .pre .4)) (ap length (at-copy .copy .ensures) ∙ at-pre .pre .2) in
+    mid-length 1120 n (at-exact-pass .exact-pass .last .1 .1 .1 .1 .1 .1 .1 .1 .0)
+    (omega (arith, at-pre .pre .0 .0, at-pre .pre .4, at-exact-pass .exact-pass .kept .1 .1 .1 .1 .1 .1 .1 .1 .0, room))
+    ∙ sym (at-exact-pass .exact-pass .kept .1 .1 .1 .1 .1 .1 .0 ∙ at-pre .pre .2)
+
+same-length : tie.Need-same-length
+same-length c = search needs
+
+same-length-2 : tie.Need-same-length-2
+same-length-2 c = search needs
+
+same-length-3 : tie.Need-same-length-3
+same-length-3 c = search needs
+
+same-length-4 : tie.Need-same-length-4
+same-length-4 c = search needs
+
+returns : tie.Need-returns
+returns c =
+    let at-settle = c .before .before in
+    let at-exact-pass = at-settle .before .before .before .before .before .before .before .before .before .before .before .before in
+    let at-copy = at-exact-pass .before .before .before .before .before .before .before in
+    let at-args = at-copy .before .before .before .before .before .before .before .before .before .before .before .before in
+    let at-pre = at-args in
+    attempted _ _ _ _ (at-args .args .work .now) (at-pre .pre .0) (at-pre .pre .1) (at-pre .pre .2) (at-pre .pre .3) (at-pre .pre .4) _ _ _ _ _ (at-copy .copy .last .1 .0) _ _
+    (at-copy .copy .ensures) (at-exact-pass .exact-pass .ensures) (at-settle .settle .ensures)
+
+pub attempt-spec : {M : Type 1} → statement M
+attempt-spec =
+    tie.close
+    (tie.spec
+    add-e
+    sub-copy
+    part-copy-start
+    part-copy-end
+    copy-requires
+    exact-pass-requires
+    sub-settle
+    part-settle-start
+    part-settle-end
+    settle-requires
+    same-length
+    same-length-2
+    same-length-3
+    same-length-4
+    returns)

@@ -1,0 +1,56 @@
+use Prim.Native.Nat.{_≤_, _-_}
+use mathlib.Core.Path.{_≡_}
+use native.Mathlib.Omega.{arith}
+use lib.ListN.{length}
+use borrow.Author.Needs.{needs}
+use Rattle.boxed.specs.Sweep as def
+use Rattle.loops.proofs.Turns.{turns-from, turns-again, turns-done}
+use Rattle.boxed.proofs.ending.classify.Statement.{statement}
+use Rattle.boxed.proofs.ending.classify.Tie as tie
+
+abbrev Inv-loop : tie.InvT-loop
+Inv-loop lo hi scale nu states₀ n i₀ states i = (i ≤ n) × (n ≡ length states₀) × (length states ≡ length states₀) × (states ≡ def.classified lo hi scale nu states₀ i)
+
+abbrev μ-loop : tie.MeasureT-loop
+μ-loop lo hi scale nu states₀ n i₀ states i = n - i
+
+loop-holds : tie.Need-loop-holds Inv-loop μ-loop
+unfolding def.classified
+loop-holds c = (search needs, search needs, search needs, turns-from _ _)
+
+classify-row-requires : tie.Need-classify-row-requires Inv-loop μ-loop
+classify-row-requires c κs = search needs
+
+add-i : tie.Need-add-i Inv-loop μ-loop
+add-i c = search needs
+
+loop-less : tie.Need-loop-less Inv-loop μ-loop
+loop-less c = search needs
+
+loop-again : tie.Need-loop-again Inv-loop μ-loop
+unfolding def.classified
+loop-again c =
+    let at-classify-row = c .before .before in
+    let at-loop = at-classify-row .before .before .before in
+    (search needs, search needs, search needs, turns-again _ _ _ _ _ (at-loop .loop .inv .3) (at-classify-row .classify-row .ensures))
+
+same-length : tie.Need-same-length Inv-loop μ-loop
+same-length c = search needs
+
+returns : tie.Need-returns Inv-loop μ-loop
+unfolding def.classified
+returns c = turns-done _ _ _ _ _ (omega arith) (omega arith) (c .before .loop .inv .3)
+
+pub classify-spec : {M : Type 1} → statement M
+classify-spec =
+    tie.close
+    (tie.spec
+    Inv-loop
+    μ-loop
+    loop-holds
+    classify-row-requires
+    add-i
+    loop-less
+    loop-again
+    same-length
+    returns)

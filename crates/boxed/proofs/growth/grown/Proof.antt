@@ -1,0 +1,66 @@
+use Prim.Native.Nat.{_≤_, _-_}
+use mathlib.Core.Path.{_≡_}
+use native.Mathlib.Omega.{arith}
+use lib.ListN.{length}
+use borrow.Author.Needs.{needs}
+use Rattle.boxed.specs.Sweep as def
+use Rattle.loops.proofs.Gather.{gather-start, gather-again, gather-done, gather-le}
+use Rattle.loops.specs.Gathering.{Gathering}
+use Rattle.boxed.proofs.growth.grown.Statement.{statement}
+use Rattle.boxed.proofs.growth.grown.Tie as tie
+
+abbrev Inv-loop : tie.InvT-loop
+Inv-loop nu scale rows₀ n k₀ i₀ rows k i = (i ≤ n) × (n ≡ length nu) × (length rows ≡ length rows₀) × Gathering (def.grownAt nu scale) rows₀ i k rows
+
+abbrev μ-loop : tie.MeasureT-loop
+μ-loop nu scale rows₀ n k₀ i₀ rows k i = n - i
+
+loop-holds : tie.Need-loop-holds Inv-loop μ-loop
+loop-holds c = (search needs, search needs, search needs, gather-start _ _)
+
+at-requires : tie.Need-at-requires Inv-loop μ-loop
+at-requires c κs = search needs
+
+at-requires-2 : tie.Need-at-requires-2 Inv-loop μ-loop
+at-requires-2 c κs = search needs
+
+grown-row-requires : tie.Need-grown-row-requires Inv-loop μ-loop
+grown-row-requires c κs = omega (arith, gather-le _ _ _ _ _ (c .before .before .before .before .loop .inv .3))
+
+add-i : tie.Need-add-i Inv-loop μ-loop
+add-i c = search needs
+
+loop-less : tie.Need-loop-less Inv-loop μ-loop
+loop-less c = search needs
+
+loop-again : tie.Need-loop-again Inv-loop μ-loop
+loop-again c =
+    let at-grown-row = c .before .before in
+    let at-at2 = at-grown-row .before .before in
+    let at-at = at-at2 .before in
+    let at-loop = at-at .before .before in
+    (search needs, search needs, search needs, gather-again _ _ _ _ _ _ _ (at-loop .loop .inv .3) (rw (← at-at .at .ensures, ← at-at2 .at2 .ensures) (at-grown-row .grown-row .ensures .0)) (rw (← at-at .at .ensures, ← at-at2 .at2 .ensures) (at-grown-row .grown-row .ensures .1)))
+
+same-length : tie.Need-same-length Inv-loop μ-loop
+same-length c = search needs
+
+returns : tie.Need-returns Inv-loop μ-loop
+returns c =
+    let at-loop = c .before in
+    gather-done _ _ (at-loop .loop .i) _ _ _ (omega arith) (omega arith) (at-loop .loop .inv .3)
+
+pub grown-spec : {M : Type 1} → statement M
+grown-spec =
+    tie.close
+    (tie.spec
+    Inv-loop
+    μ-loop
+    loop-holds
+    at-requires
+    at-requires-2
+    grown-row-requires
+    add-i
+    loop-less
+    loop-again
+    same-length
+    returns)

@@ -1,0 +1,37 @@
+use mathlib.Core.Path.{refl}
+use native.Mathlib.Numerals.{add-one}
+use borrow.Author.Needs.{needs}
+use Rattle.boxed.specs.Sweep as def
+use Rattle.loops.specs.Loops.{counted, noted}
+use Rattle.boxed.proofs.growth.grown_row.Statement.{statement}
+use Rattle.boxed.proofs.growth.grown_row.Tie as tie
+
+abs-requires : tie.Need-abs-requires
+abs-requires c κs = search needs
+
+put-number-requires : tie.Need-put-number-requires
+put-number-requires c κs = search needs
+
+add-result : tie.Need-add-result
+add-result c = search needs
+
+same-length : tie.Need-same-length
+same-length c = search needs
+
+returns : tie.Need-returns
+unfolding counted noted def.isGrown
+returns c =
+    let at-put-number = c .before .before in
+    let at-if1 = at-put-number .before .before in
+    let at-abs = at-if1 .before in
+    rw (← at-abs .abs .ensures, at-if1 .if1 .taken) (add-one _, at-put-number .put-number .ensures)
+
+returns-2 : tie.Need-returns-2
+unfolding counted noted def.isGrown
+returns-2 c =
+    let at-abs = c .before in
+    rw (← at-abs .abs .ensures, c .if1 .left) (refl, refl)
+
+pub grown-row-spec : {M : Type 1} → statement M
+grown-row-spec =
+    tie.close (tie.spec abs-requires put-number-requires add-result same-length returns returns-2)

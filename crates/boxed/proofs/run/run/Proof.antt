@@ -1,0 +1,148 @@
+use Rattle.boxed.proofs.Turns.{Kept, run-start, run-again, run-ended, run-over}
+use Rattle.box_rows.specs.Rows as box
+use Rattle.boxed.specs.Solve as def
+use Rattle.boxed.specs.Private as private
+use borrow.Author.Tests.{not-true, not-false}
+use mathlib.Core.Path.{_≡_, refl, sym, _∙_}
+use Prim.Native.Nat.{_≤_, _-_}
+use borrow.Author.Needs.{needs}
+use native.Mathlib.Omega.{arith}
+use Rattle.boxed.proofs.run.run.Statement.{statement}
+use Rattle.boxed.proofs.run.run.Tie as tie
+
+abbrev Inv-loop : tie.InvT-loop
+Inv-loop limits w u-free lo hi scale motion states₀ nu₀ rows₀ work₀ counts₀ states nu rows work counts =
+    (counts .sweeps ≤ limits .cap) × (counts .passes ≤ counts .sweeps) × Kept states₀ states nu₀ nu rows₀ rows work₀ work
+    × (def.run (limits .cap) (box.problem w u-free lo hi scale) (def.watch motion (limits .tolerance)) (def.iterate nu₀ states₀ (def.counts 0 0)) (counts .sweeps)
+    ≡ def.going (def.iterate nu states counts))
+    × (rows ≡ rows₀) × (private.beyond work ≡ private.beyond work₀)
+
+abbrev μ-loop : tie.MeasureT-loop
+μ-loop limits w u-free lo hi scale motion states₀ nu₀ rows₀ work₀ counts₀ states nu rows work counts =
+    limits .cap - counts .sweeps
+
+loop-holds : tie.Need-loop-holds Inv-loop μ-loop
+loop-holds c = (omega arith, omega arith, record { of-states = refl; of-nu = refl; of-rows = refl; of-work = refl }, run-start _ _ _ _, refl, refl)
+
+turn-requires : tie.Need-turn-requires Inv-loop μ-loop
+turn-requires c κs =
+    let at-if1 = c .before .before .before .before in
+    let at-struct-known2 = at-if1 .before in
+    let at-loop = at-struct-known2 .before .before in
+    let at-pre = at-loop .before .before .before .before .before .before .before .before .before .before .before in (
+      at-pre .pre .0,
+      at-loop .loop .inv .2 .of-states ∙ at-pre .pre .1,
+      at-loop .loop .inv .2 .of-nu ∙ at-pre .pre .2,
+      omega (arith, at-pre .pre .3, at-loop .loop .inv .2 .of-rows),
+      omega (arith, at-pre .pre .4, at-loop .loop .inv .2 .of-work),
+      at-pre .pre .5,
+      omega (arith, at-if1 .if1 .taken, at-struct-known2 .struct-known2 .given),
+      omega (arith, at-if1 .if1 .taken, at-struct-known2 .struct-known2 .given, at-loop .loop .inv .1),
+    )
+
+going-requires : tie.Need-going-requires Inv-loop μ-loop
+going-requires c κs = search needs
+
+same-length : tie.Need-same-length Inv-loop μ-loop
+same-length c =
+    let at-turn = c .before .before .before .before .before .before .before .before .before .before in
+    let at-loop = at-turn .before .before .before .before .before .before .before .before in
+    at-turn .turn .kept .1 .1 .1 .1 .1 .1 .1 .0 ∙ at-loop .loop .inv .2 .of-states
+
+same-length-2 : tie.Need-same-length-2 Inv-loop μ-loop
+same-length-2 c =
+    let at-turn = c .before .before .before .before .before .before .before .before .before .before in
+    let at-loop = at-turn .before .before .before .before .before .before .before .before in
+    at-turn .turn .kept .1 .1 .1 .1 .1 .1 .1 .1 .0 ∙ at-loop .loop .inv .2 .of-nu
+
+same-length-3 : tie.Need-same-length-3 Inv-loop μ-loop
+same-length-3 c =
+    let at-turn = c .before .before .before .before .before .before .before .before .before .before in
+    let at-loop = at-turn .before .before .before .before .before .before .before .before in
+    at-turn .turn .kept .1 .1 .1 .1 .1 .1 .1 .1 .1 .0 ∙ at-loop .loop .inv .2 .of-rows
+
+same-length-4 : tie.Need-same-length-4 Inv-loop μ-loop
+same-length-4 c =
+    let at-turn = c .before .before .before .before .before .before .before .before .before .before in
+    let at-loop = at-turn .before .before .before .before .before .before .before .before in
+    at-turn .turn .kept .1 .1 .1 .1 .1 .1 .1 .1 .1 .1 .0 ∙ at-loop .loop .inv .2 .of-work
+
+returns : tie.Need-returns Inv-loop μ-loop
+returns c =
+    let at-if2 = c in
+    let at-going = at-if2 .before in
+    let at-turn = at-going .before .before .before .before .before .before .before .before .before in
+    let at-if1 = at-turn .before .before .before .before .before in
+    let at-loop = at-if1 .before .before .before in (
+      run-ended _ _ _ _ (at-loop .loop .counts .sweeps) _ (at-turn .turn .result .sweeping) _ _ _ _ _ (at-loop .loop .inv .3) (at-turn .turn .ensures .0) _ _
+          (sym (at-going .going .ensures) ∙ not-true _ (at-if2 .if2 .taken)) (at-if1 .if1 .taken) (at-loop .loop .inv .4),
+      at-turn .turn .ensures .3 ∙ at-loop .loop .inv .5,
+    )
+
+loop-less : tie.Need-loop-less Inv-loop μ-loop
+loop-less c =
+    let at-turn = c .before .before .before .before .before .before .before .before .before .before .before in
+    let at-if1 = at-turn .before .before .before .before .before in
+    omega (arith, at-turn .turn .ensures .1, at-if1 .if1 .taken)
+
+loop-again : tie.Need-loop-again Inv-loop μ-loop
+loop-again c =
+    let at-if2 = c .before in
+    let at-going = at-if2 .before in
+    let at-turn = at-going .before .before .before .before .before .before .before .before .before in
+    let at-if1 = at-turn .before .before .before .before .before in
+    let at-loop = at-if1 .before .before .before in
+    let x = run-again _ _ _ _ (at-loop .loop .counts .sweeps) _ (at-turn .turn .result .sweeping) _ _ (at-turn .turn .result .counts) _ _ (at-loop .loop .inv .3) (at-turn .turn .ensures .0)
+    (sym (at-going .going .ensures) ∙ not-false _ (at-if2 .if2 .left)) (at-turn .turn .ensures .1) in (
+      omega (arith, at-turn .turn .ensures .1, at-if1 .if1 .taken),
+      omega (arith, at-turn .turn .ensures .1, at-turn .turn .ensures .2, at-loop .loop .inv .1),
+      record {
+        of-states = at-turn .turn .kept .1 .1 .1 .1 .1 .1 .1 .0 ∙ at-loop .loop .inv .2 .of-states;
+        of-nu = at-turn .turn .kept .1 .1 .1 .1 .1 .1 .1 .1 .0 ∙ at-loop .loop .inv .2 .of-nu;
+        of-rows = at-turn .turn .kept .1 .1 .1 .1 .1 .1 .1 .1 .1 .0 ∙ at-loop .loop .inv .2 .of-rows;
+        of-work = at-turn .turn .kept .1 .1 .1 .1 .1 .1 .1 .1 .1 .1 .0 ∙ at-loop .loop .inv .2 .of-work;
+      },
+      x .0,
+      x .1 ∙ at-loop .loop .inv .4,
+      at-turn .turn .ensures .3 ∙ at-loop .loop .inv .5,
+    )
+
+same-length-5 : tie.Need-same-length-5 Inv-loop μ-loop
+same-length-5 c = c .before .before .before .loop .inv .2 .of-states
+
+same-length-6 : tie.Need-same-length-6 Inv-loop μ-loop
+same-length-6 c = c .before .before .before .loop .inv .2 .of-nu
+
+same-length-7 : tie.Need-same-length-7 Inv-loop μ-loop
+same-length-7 c = c .before .before .before .loop .inv .2 .of-rows
+
+same-length-8 : tie.Need-same-length-8 Inv-loop μ-loop
+same-length-8 c = c .before .before .before .loop .inv .2 .of-work
+
+returns-2 : tie.Need-returns-2 Inv-loop μ-loop
+returns-2 c =
+    let at-if1 = c in
+    let at-loop = at-if1 .before .before .before in
+    (run-over _ _ _ _ (at-loop .loop .counts) _ _ _ _ _ (at-loop .loop .inv .3) (at-loop .loop .inv .4) (at-loop .loop .inv .0) (at-if1 .if1 .left), at-loop .loop .inv .5)
+
+pub run-spec : {M : Type 1} → statement M
+run-spec =
+    tie.close
+    (tie.spec
+    Inv-loop
+    μ-loop
+    loop-holds
+    turn-requires
+    going-requires
+    same-length
+    same-length-2
+    same-length-3
+    same-length-4
+    returns
+    loop-less
+    loop-again
+    same-length-5
+    same-length-6
+    same-length-7
+    same-length-8
+    returns-2)

@@ -1,0 +1,182 @@
+use Rattle.boxed.proofs.Checks.{front-within, front-length}
+use Rattle.boxed.proofs.Turns.{one-more, turn-grown, turn-ended, turn-tested}
+use borrow.Author.Tests.{not-true, not-false}
+use lib.Seq.{length-take-le}
+use lib.ListN.{length}
+use mathlib.Core.Path.{refl, sym, ap, _∙_}
+use native.Mathlib.Omega.{arith}
+use borrow.Author.Needs.{needs}
+use Rattle.boxed.proofs.run.turn.Statement.{statement}
+use Rattle.boxed.proofs.run.turn.Tie as tie
+
+array-borrow-prefix-before : tie.Need-array-borrow-prefix-before
+array-borrow-prefix-before c = search needs
+
+slice-aggregate-sweep : tie.Need-slice-aggregate-sweep
+slice-aggregate-sweep c =
+    let at-pre = c .before .before .before .before .before .before .before .before .before .before .before .before .before in
+    sym (length-take-le _ _ (omega (arith, at-pre .pre .0 .0)))
+
+sweep-requires : tie.Need-sweep-requires
+sweep-requires c κs =
+    let at-pre = c .before .before .before .before .before .before .before .before .before .before .before .before .before in
+    ((at-pre .pre .0 .0, at-pre .pre .0 .1), at-pre .pre .0 .2, at-pre .pre .0 .3, at-pre .pre .1, at-pre .pre .2, length-take-le _ _ (omega (arith, at-pre .pre .0 .0)))
+
+add-t28 : tie.Need-add-t28
+add-t28 c = search needs
+
+grown-requires : tie.Need-grown-requires
+grown-requires c κs = search needs
+
+same-length : tie.Need-same-length
+same-length c = search needs
+
+same-length-2 : tie.Need-same-length-2
+same-length-2 c = search needs
+
+same-length-3 : tie.Need-same-length-3
+same-length-3 c = search needs
+
+returns : tie.Need-returns
+returns c =
+    let at-if1 = c in
+    let at-grown = at-if1 .before .before .before in
+    let at-sweep = at-grown .before .before .before .before .before .before .before in
+    let at-args = at-sweep .before .before .before .before .before .before .before .before .before .before .before .before .before .before in
+    let at-pre = at-args in (
+      turn-grown _ _ _ _ _ (at-args .args .counts) _ _ (at-sweep .sweep .last .1 .1 .1 .1 .1 .0) _ _ _
+          (at-sweep .sweep .ensures .0) (one-more (at-args .args .counts)) (at-sweep .sweep .kept .1 .1 .1 .1 .1 .0 ∙ at-pre .pre .2) (at-grown .grown .ensures) (at-if1 .if1 .taken),
+      refl,
+      omega arith,
+      refl,
+    )
+
+check-requires : tie.Need-check-requires
+check-requires c κs =
+    let at-grown = c .before .before .before .before .before .before .before in
+    let at-sweep = at-grown .before .before .before .before .before .before .before in
+    let at-pre = at-sweep .before .before .before .before .before .before .before .before .before .before .before .before .before .before in
+    (at-pre .pre .0, at-pre .pre .1, at-sweep .sweep .kept .1 .1 .1 .1 .1 .0 ∙ at-pre .pre .2, omega (arith, at-pre .pre .3, at-grown .grown .kept), at-pre .pre .4, at-pre .pre .7)
+
+going-requires : tie.Need-going-requires
+going-requires c κs = search needs
+
+same-length-4 : tie.Need-same-length-4
+same-length-4 c = search needs
+
+same-length-5 : tie.Need-same-length-5
+same-length-5 c = search needs
+
+same-length-6 : tie.Need-same-length-6
+same-length-6 c = search needs
+
+same-length-7 : tie.Need-same-length-7
+same-length-7 c = search needs
+
+returns-2 : tie.Need-returns-2
+returns-2 c =
+    let at-if2 = c in
+    let at-going = at-if2 .before in
+    let at-check = at-going .before .before .before .before .before .before .before .before .before .before in
+    let at-if1 = at-check .before .before .before .before .before in
+    let at-grown = at-if1 .before .before .before in
+    let at-sweep = at-grown .before .before .before .before .before .before .before in
+    let at-args = at-sweep .before .before .before .before .before .before .before .before .before .before .before .before .before .before in
+    let at-pre = at-args in (
+      turn-ended _ _ _ _ _ (at-args .args .counts) _ _ (at-sweep .sweep .last .1 .1 .1 .1 .1 .0) _ _ _
+          (at-sweep .sweep .ensures .0) (one-more (at-args .args .counts)) (at-sweep .sweep .kept .1 .1 .1 .1 .1 .0 ∙ at-pre .pre .2) (at-grown .grown .ensures) (at-if1 .if1 .left)
+          _ _ _ _ _ (at-check .check .ensures .0) (sym (at-going .going .ensures) ∙ not-true _ (at-if2 .if2 .taken)),
+      at-check .check .ensures .1,
+      at-check .check .ensures .2,
+      at-check .check .ensures .3,
+    )
+
+array-share-prefix-before : tie.Need-array-share-prefix-before
+array-share-prefix-before c =
+    let at-sweep = c .before .before .before .before .before .before .before .before .before .before .before .before .before .before .before .before .before .before .before .before .before .before .before .before .before .before .before .before in
+    let at-pre = at-sweep .before .before .before .before .before .before .before .before .before .before .before .before .before .before in
+    front-within (at-sweep .sweep .last .1 .1 .1 .1 .1 .1 .0) _ _ (ap length (at-sweep .sweep .ensures .1) ∙ at-pre .pre .2)
+
+slice-aggregate-tests : tie.Need-slice-aggregate-tests
+slice-aggregate-tests c =
+    let at-sweep = c .before .before .before .before .before .before .before .before .before .before .before .before .before .before .before .before .before .before .before .before .before .before .before .before .before .before .before .before .before in
+    let at-pre = at-sweep .before .before .before .before .before .before .before .before .before .before .before .before .before .before in
+    front-length (at-sweep .sweep .last .1 .1 .1 .1 .1 .1 .0) _ _ (ap length (at-sweep .sweep .ensures .1) ∙ at-pre .pre .2)
+
+tests-requires : tie.Need-tests-requires
+tests-requires c κs =
+    let at-check = c .before .before .before .before .before .before .before .before .before .before .before .before .before .before .before in
+    let at-grown = at-check .before .before .before .before .before .before .before .before in
+    let at-sweep = at-grown .before .before .before .before .before .before .before in
+    let at-pre = at-sweep .before .before .before .before .before .before .before .before .before .before .before .before .before .before in (
+      at-pre .pre .0,
+      at-check .check .kept .1 .1 .1 .1 .1 .1 .0 ∙ at-pre .pre .1,
+      at-check .check .kept .1 .1 .1 .1 .1 .1 .1 .0 ∙ at-sweep .sweep .kept .1 .1 .1 .1 .1 .0 ∙ at-pre .pre .2,
+      sym (front-length (at-sweep .sweep .last .1 .1 .1 .1 .1 .1 .0) _ _ (ap length (at-sweep .sweep .ensures .1) ∙ at-pre .pre .2)),
+      omega (arith, at-pre .pre .3, at-grown .grown .kept, at-check .check .kept),
+      at-pre .pre .5,
+    )
+
+same-length-8 : tie.Need-same-length-8
+same-length-8 c = search needs
+
+same-length-9 : tie.Need-same-length-9
+same-length-9 c =
+    let at-check = c .before .before .before .before .before .before .before .before .before .before .before .before .before .before .before .before .before .before in
+    let at-sweep = at-check .before .before .before .before .before .before .before .before .before .before .before .before .before .before .before in
+    at-check .check .kept .1 .1 .1 .1 .1 .1 .1 .0 ∙ at-sweep .sweep .kept .1 .1 .1 .1 .1 .0
+
+same-length-10 : tie.Need-same-length-10
+same-length-10 c = search needs
+
+same-length-11 : tie.Need-same-length-11
+same-length-11 c = search needs
+
+returns-3 : tie.Need-returns-3
+returns-3 c =
+    let at-tests = c .before .before in
+    let at-if2 = at-tests .before .before .before .before .before in
+    let at-going = at-if2 .before in
+    let at-check = at-going .before .before .before .before .before .before .before .before .before .before in
+    let at-if1 = at-check .before .before .before .before .before in
+    let at-grown = at-if1 .before .before .before in
+    let at-sweep = at-grown .before .before .before .before .before .before .before in
+    let at-args = at-sweep .before .before .before .before .before .before .before .before .before .before .before .before .before .before in
+    let at-pre = at-args in (
+      turn-tested _ _ _ _ _ (at-args .args .counts) _ _ (at-sweep .sweep .last .1 .1 .1 .1 .1 .0) _ _ _
+          (at-sweep .sweep .ensures .0) (one-more (at-args .args .counts)) (at-sweep .sweep .kept .1 .1 .1 .1 .1 .0 ∙ at-pre .pre .2) (at-grown .grown .ensures) (at-if1 .if1 .left)
+          (at-check .check .result .sweeping) _ _ _ _ (at-check .check .ensures .0) (sym (at-going .going .ensures) ∙ not-false _ (at-if2 .if2 .left))
+          (at-sweep .sweep .last .1 .1 .1 .1 .1 .1 .0) _ _ _ (at-sweep .sweep .ensures .1) (at-pre .pre .2) (at-tests .tests .ensures),
+      at-check .check .ensures .1,
+      at-check .check .ensures .2,
+      at-check .check .ensures .3,
+    )
+
+pub turn-spec : {M : Type 1} → statement M
+turn-spec =
+    tie.close
+    (tie.spec
+    array-borrow-prefix-before
+    slice-aggregate-sweep
+    sweep-requires
+    add-t28
+    grown-requires
+    same-length
+    same-length-2
+    same-length-3
+    returns
+    check-requires
+    going-requires
+    same-length-4
+    same-length-5
+    same-length-6
+    same-length-7
+    returns-2
+    array-share-prefix-before
+    slice-aggregate-tests
+    tests-requires
+    same-length-8
+    same-length-9
+    same-length-10
+    same-length-11
+    returns-3)

@@ -1,0 +1,89 @@
+use Rattle.boxed.proofs.Solving.{all-idle, some-act}
+use mathlib.Core.Path.{refl, _∙_}
+use native.Mathlib.Omega.{arith}
+use borrow.Author.Needs.{needs}
+use Rattle.boxed.proofs.solve_rows.Statement.{statement}
+use Rattle.boxed.proofs.solve_rows.Tie as tie
+
+start-requires : tie.Need-start-requires
+start-requires c κs =
+    let at-pre = c .before .before .before .before .before .before .before .before .before .before .before .before in
+    rw (at-pre .pre .2) ((at-pre .pre .0 .0, at-pre .pre .0 .1), at-pre .pre .0 .2, at-pre .pre .0 .3, at-pre .pre .1)
+
+cast-nothing : tie.Need-cast-nothing
+cast-nothing c = search needs
+
+nothing-requires : tie.Need-nothing-requires
+nothing-requires c κs = search needs
+
+same-length : tie.Need-same-length
+same-length c = search needs
+
+same-length-2 : tie.Need-same-length-2
+same-length-2 c = search needs
+
+returns : tie.Need-returns
+returns c =
+    let at-nothing = c in
+    let at-if1 = at-nothing .before in
+    let at-start = at-if1 .before .before .before .before .before in
+    let at-args = at-start .before .before .before .before .before .before .before .before .before .before .before .before .before in
+    let at-pre = at-args in
+    (all-idle _ _ _ (at-args .args .nu .now) _ _ (at-pre .pre .2) _ _ _ (at-start .start .ensures .0) (at-if1 .if1 .taken) _ (at-nothing .nothing .ensures), refl)
+
+run-requires : tie.Need-run-requires
+run-requires c κs = search needs
+
+cast-answer : tie.Need-cast-answer
+cast-answer c =
+    let at-start = c .before .before .before .before .before .before .before .before .before .before .before .before .before .before .before .before .before .before .before .before in
+    let at-pre = at-start .before .before .before .before .before .before .before .before .before .before .before .before .before in
+    omega (arith, at-start .start .ensures .1, at-pre .pre .0 .0, at-pre .pre .2)
+
+answer-requires : tie.Need-answer-requires
+answer-requires c κs =
+    let at-run = c .before .before .before .before .before .before .before .before .before .before in
+    let at-start = at-run .before .before .before .before .before .before .before .before .before .before in
+    let at-pre = at-start .before .before .before .before .before .before .before .before .before .before .before .before .before in
+    (at-pre .pre .0, at-run .run .kept .1 .1 .1 .1 .1 .1 .1 .0 ∙ at-start .start .kept .1 .1 .1 .0 ∙ at-pre .pre .1, at-run .run .kept .1 .1 .1 .1 .1 .1 .1 .1 .0 ∙ at-start .start .kept .1 .1 .1 .1 .0 ∙ at-pre .pre .2)
+
+same-length-3 : tie.Need-same-length-3
+same-length-3 c = search needs
+
+same-length-4 : tie.Need-same-length-4
+same-length-4 c = search needs
+
+same-length-5 : tie.Need-same-length-5
+same-length-5 c = search needs
+
+same-length-6 : tie.Need-same-length-6
+same-length-6 c = search needs
+
+returns-2 : tie.Need-returns-2
+returns-2 c =
+    let at-answer = c .before .before in
+    let at-run = at-answer .before .before .before .before .before .before .before .before .before .before .before in
+    let at-if1 = at-run .before .before .before .before .before in
+    let at-start = at-if1 .before .before .before .before .before in
+    let at-args = at-start .before .before .before .before .before .before .before .before .before .before .before .before .before in
+    let at-pre = at-args in
+    (some-act _ _ _ (at-args .args .nu .now) _ _ (at-pre .pre .2) _ _ _ (at-start .start .ensures .0) (at-if1 .if1 .left) _ _ _ _ (at-answer .answer .ensures _ _ _ (at-run .run .ensures .0)), at-run .run .ensures .1)
+
+pub solve-rows-spec : {M : Type 1} → statement M
+solve-rows-spec =
+    tie.close
+    (tie.spec
+    start-requires
+    cast-nothing
+    nothing-requires
+    same-length
+    same-length-2
+    returns
+    run-requires
+    cast-answer
+    answer-requires
+    same-length-3
+    same-length-4
+    same-length-5
+    same-length-6
+    returns-2)

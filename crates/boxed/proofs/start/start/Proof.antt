@@ -1,0 +1,84 @@
+use Prim.Native.Nat.{_≤_, _-_}
+use mathlib.Core.Path.{_≡_, ap, _∙_}
+use native.Mathlib.Omega.{arith}
+use lib.ListN.{length}
+use borrow.Author.Needs.{needs}
+use Rattle.boxed.specs.Sweep as def
+use Rattle.box_rows.proofs.Matrix.{row-fits, row-length}
+use Rattle.loops.proofs.Turns.{turns-from, turns-again, turns-done}
+use Rattle.boxed.proofs.start.start.Statement.{statement}
+use Rattle.boxed.proofs.start.start.Tie as tie
+
+abbrev Inv-loop : tie.InvT-loop
+Inv-loop w lo hi states₀ nu₀ n idle₀ i₀ states nu idle i = (i ≤ n) × (idle ≤ i) × (length nu ≡ length nu₀) × (length states ≡ length states₀) × (n ≡ length nu₀) × (def.started nu states idle ≡ def.start w n lo hi nu₀ states₀ i)
+
+abbrev μ-loop : tie.MeasureT-loop
+μ-loop w lo hi states₀ nu₀ n idle₀ i₀ states nu idle i = n - i
+
+loop-holds : tie.Need-loop-holds Inv-loop μ-loop
+unfolding def.start
+loop-holds c = (search needs, search needs, search needs, search needs, search needs, turns-from _ _)
+
+row-requires : tie.Need-row-requires Inv-loop μ-loop
+row-requires c κs =
+    let at-loop = c .before in
+    let at-args = at-loop .before .before .before .before .before .before in
+    row-fits (at-args .args .w .now) (length (at-args .args .nu .now)) (at-loop .loop .i) (at-args .pre .0 .1) (omega arith)
+
+at-requires : tie.Need-at-requires Inv-loop μ-loop
+at-requires c κs = omega (arith, ap length (c .row .ensures) ∙ row-length _ _ _)
+
+at-requires-2 : tie.Need-at-requires-2 Inv-loop μ-loop
+at-requires-2 c κs = search needs
+
+at-requires-3 : tie.Need-at-requires-3 Inv-loop μ-loop
+at-requires-3 c κs = search needs
+
+start-row-requires : tie.Need-start-row-requires Inv-loop μ-loop
+start-row-requires c κs = search needs
+
+add-i : tie.Need-add-i Inv-loop μ-loop
+add-i c = search needs
+
+loop-less : tie.Need-loop-less Inv-loop μ-loop
+loop-less c = search needs
+
+loop-again : tie.Need-loop-again Inv-loop μ-loop
+unfolding def.start
+loop-again c =
+    let at-start-row = c .before .before .before .before in
+    let at-at3 = at-start-row .before .before .before in
+    let at-at2 = at-at3 .before in
+    let at-at = at-at2 .before in
+    let at-row = at-at .before in
+    let at-loop = at-row .before .before in
+    (search needs, at-start-row .start-row .ensures .1, search needs, search needs, search needs, turns-again _ _ _ _ _ (at-loop .loop .inv .5) (rw (at-at .at .ensures, at-at2 .at2 .ensures, at-at3 .at3 .ensures, at-row .row .ensures) at (at-start-row .start-row .ensures .0)))
+
+same-length : tie.Need-same-length Inv-loop μ-loop
+same-length c = search needs
+
+same-length-2 : tie.Need-same-length-2 Inv-loop μ-loop
+same-length-2 c = search needs
+
+returns : tie.Need-returns Inv-loop μ-loop
+unfolding def.start
+returns c = (turns-done _ _ _ _ _ (omega arith) (omega arith) (c .before .loop .inv .5), search needs)
+
+pub start-spec : {M : Type 1} → statement M
+start-spec =
+    tie.close
+    (tie.spec
+    Inv-loop
+    μ-loop
+    loop-holds
+    row-requires
+    at-requires
+    at-requires-2
+    at-requires-3
+    start-row-requires
+    add-i
+    loop-less
+    loop-again
+    same-length
+    same-length-2
+    returns)

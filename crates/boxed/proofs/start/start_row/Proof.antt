@@ -1,0 +1,86 @@
+use mathlib.Core.Path.{sym, _∙_}
+use native.Mathlib.Numerals.{add-one}
+use borrow.Author.Needs.{needs}
+use Rattle.boxed.specs.Sweep as def
+use Rattle.boxed.proofs.start.start_row.Statement.{statement}
+use Rattle.boxed.proofs.start.start_row.Tie as tie
+
+is-idle-requires : tie.Need-is-idle-requires
+is-idle-requires c κs = search needs
+
+put-state-requires : tie.Need-put-state-requires
+put-state-requires c κs = search needs
+
+clamp-requires : tie.Need-clamp-requires
+clamp-requires c κs = search needs
+
+put-requires : tie.Need-put-requires
+put-requires c κs = search needs
+
+add-result : tie.Need-add-result
+add-result c = search needs
+
+same-length : tie.Need-same-length
+same-length c = search needs
+
+same-length-2 : tie.Need-same-length-2
+same-length-2 c = search needs
+
+returns : tie.Need-returns
+unfolding def.startRow
+returns c =
+    let at-put = c .before .before in
+    let at-clamp = at-put .before in
+    let at-put-state = at-clamp .before .before .before .before in
+    let at-if1 = at-put-state .before .before in
+    let at-is-idle = at-if1 .before in
+    (rw (sym (at-is-idle .is-idle .ensures) ∙ at-if1 .if1 .taken, add-one, at-put .put .ensures, at-put-state .put-state .ensures, at-clamp .clamp .ensures), search needs)
+
+put-state-requires-2 : tie.Need-put-state-requires-2
+put-state-requires-2 c κs = search needs
+
+at-requires : tie.Need-at-requires
+at-requires c κs = search needs
+
+clamp-requires-2 : tie.Need-clamp-requires-2
+clamp-requires-2 c κs = search needs
+
+put-requires-2 : tie.Need-put-requires-2
+put-requires-2 c κs = search needs
+
+same-length-3 : tie.Need-same-length-3
+same-length-3 c = search needs
+
+same-length-4 : tie.Need-same-length-4
+same-length-4 c = search needs
+
+returns-2 : tie.Need-returns-2
+unfolding def.startRow
+returns-2 c =
+    let at-put2 = c .before .before in
+    let at-clamp2 = at-put2 .before in
+    let at-at = at-clamp2 .before in
+    let at-put-state2 = at-at .before .before .before .before .before in
+    let at-if1 = at-put-state2 .before .before in
+    let at-is-idle = at-if1 .before in
+    (rw (sym (at-is-idle .is-idle .ensures) ∙ at-if1 .if1 .left, at-put2 .put2 .ensures, at-put-state2 .put-state2 .ensures, at-clamp2 .clamp2 .ensures, at-at .at .ensures), search needs)
+
+pub start-row-spec : {M : Type 1} → statement M
+start-row-spec =
+    tie.close
+    (tie.spec
+    is-idle-requires
+    put-state-requires
+    clamp-requires
+    put-requires
+    add-result
+    same-length
+    same-length-2
+    returns
+    put-state-requires-2
+    at-requires
+    clamp-requires-2
+    put-requires-2
+    same-length-3
+    same-length-4
+    returns-2)

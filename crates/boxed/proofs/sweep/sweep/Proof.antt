@@ -1,0 +1,100 @@
+use Rattle.boxed.specs.Sweep as def
+use Rattle.loops.proofs.Turns.{turns-from, turns-again, turns-done}
+use Prim.Native.Nat.{_+_, _*_, _≤_, _<_, _-_}
+use mathlib.Core.Path.{_≡_, refl, sym, ap, _∙_}
+use lib.ListN.{length, take}
+use lib.Ieee.{nan}
+use Rattle.loops.specs.Loops.{pasted}
+use Rattle.loops.proofs.Paste.{front-start, front-again, front-done, front-whole}
+use Rattle.boxed.proofs.Later.{sweep-later}
+use borrow.Author.Needs.{needs}
+use native.Mathlib.Omega.{arith}
+use Rattle.boxed.proofs.sweep.sweep.Statement.{statement}
+use Rattle.boxed.proofs.sweep.sweep.Tie as tie
+use Rattle.boxed.proofs.sweep.sweep.Reads as reads
+use Rattle.boxed.proofs.sweep.sweep.Lts as lts
+use Rattle.boxed.proofs.read.at.Reads as at-reads
+use Rattle.boxed.proofs.read.put.Reads as put-reads
+use Rattle.boxed.proofs.sweep.sweep_row.Reads as sweep-row-reads
+
+abbrev Inv-loop : tie.InvT-loop
+Inv-loop w u-free lo hi states nu₀ before₀ n i₀ nu before i =
+    (i ≤ n) × (n ≡ length u-free) × (length nu ≡ length nu₀) × (nu ≡ def.sweep w u-free lo hi states nu₀ i)
+    × (length before ≡ length before₀) × (before ≡ pasted (take i nu₀) before₀)
+
+abbrev μ-loop : tie.MeasureT-loop
+μ-loop w u-free lo hi states nu₀ before₀ n i₀ nu before i = n - i
+
+loop-holds : tie.Need-loop-holds Inv-loop μ-loop
+unfolding def.sweep
+loop-holds c =
+    let at-args = c .before .before .before .before .before .before .before in
+    (search needs, search needs, search needs, turns-from _ _, search needs, front-start (at-args .args .nu .now) (at-args .args .before .now))
+
+-- src/sweep.rt:60:30
+at-requires : tie.Need-at-requires Inv-loop μ-loop
+at-requires c κs = search needs
+
+-- src/sweep.rt:60:9
+put-requires : tie.Need-put-requires Inv-loop μ-loop
+put-requires c κs = search needs
+
+sweep-row-requires : tie.Need-sweep-row-requires Inv-loop μ-loop
+sweep-row-requires c κs = search needs
+
+add-i : tie.Need-add-i Inv-loop μ-loop
+add-i c = search needs
+
+loop-less : tie.Need-loop-less Inv-loop μ-loop
+loop-less c = search needs
+
+loop-again : tie.Need-loop-again Inv-loop μ-loop
+unfolding def.sweep
+loop-again c =
+    let at-sweep-row = c .before .before in
+    let at-put = at-sweep-row .before .before .before .before in
+    let at-at = at-put .before in
+    let at-loop = at-at .before .before .before .before in
+    let at-args = at-loop .before .before .before .before .before .before .before .before in (
+      search needs,
+      search needs,
+      search needs,
+      turns-again _ _ _ _ _ (at-loop .loop .inv .3) (at-sweep-row .sweep-row .ensures),
+      search needs,
+      front-again (at-args .args .nu .now) (at-args .args .before .now) (at-loop .loop .i) nan (at-loop .loop .before) _ (at-loop .loop .inv .5) (omega arith)
+          (rw (at-put .put .ensures, at-at .at .ensures, at-loop .loop .inv .3, sweep-later _ _ _ _ _ (at-args .args .nu .now) (at-loop .loop .i) (at-loop .loop .i) (omega arith))),
+    )
+
+same-length : tie.Need-same-length Inv-loop μ-loop
+same-length c = search needs
+
+-- src/sweep.rt:40:1
+same-length-2 : tie.Need-same-length-2 Inv-loop μ-loop
+same-length-2 c = search needs
+
+returns : tie.Need-returns Inv-loop μ-loop
+unfolding def.sweep
+returns c =
+    let at-loop = c .before in
+    let at-args = at-loop .before .before .before .before .before .before .before .before in (
+      turns-done _ _ _ _ _ (omega arith) (omega arith) (at-loop .loop .inv .3),
+      front-done (at-args .args .nu .now) (at-args .args .before .now) (at-loop .loop .i) (at-loop .loop .before) (at-loop .loop .inv .5) (omega arith)
+          ∙ front-whole (at-args .args .nu .now) (at-args .args .before .now) (omega arith),
+    )
+
+pub sweep-spec : {M : Type 1} → statement M
+sweep-spec =
+    tie.close
+    (tie.spec
+    Inv-loop
+    μ-loop
+    loop-holds
+    at-requires
+    put-requires
+    sweep-row-requires
+    add-i
+    loop-less
+    loop-again
+    same-length
+    same-length-2
+    returns)

@@ -1,0 +1,89 @@
+use mathlib.Core.Path.{_≡_, sym, ap, _∙_}
+use native.Mathlib.Omega.{arith}
+use lib.ListN.{length}
+use borrow.Author.Tests.{eq-eqb, ne-eqb}
+use borrow.Author.Needs.{needs}
+use Rattle.boxed.specs.Sweep as def
+use Rattle.box_rows.specs.Rows as box
+use Rattle.box_rows.proofs.Matrix.{row-fits, row-length}
+use Rattle.boxed.proofs.sweep.sweep_row.Statement.{statement}
+use Rattle.boxed.proofs.sweep.sweep_row.Tie as tie
+
+state-requires : tie.Need-state-requires
+state-requires c κs = search needs
+
+returns : tie.Need-returns
+unfolding def.sweepRow
+returns c =
+    let at-state = c .before in
+    rw (eq-eqb _ _ (sym (at-state .state .ensures) ∙ c .if1 .taken))
+
+row-requires : tie.Need-row-requires
+row-requires c κs =
+    let at-args = c .before .before .before .before .before .before .before .before in
+    row-fits (at-args .args .w .now) (length (at-args .args .u-free .now)) (at-args .args .i) (at-args .pre .0 .1) (at-args .pre .5)
+
+at-requires : tie.Need-at-requires
+at-requires c κs = search needs
+
+row-sum-requires : tie.Need-row-sum-requires
+row-sum-requires c κs = search needs
+
+at-requires-2 : tie.Need-at-requires-2
+at-requires-2 c κs = search needs
+
+at-requires-3 : tie.Need-at-requires-3
+at-requires-3 c κs =
+    let at-row = c .before .before .before .before .before in
+    let at-pre = at-row .before .before .before .before .before .before .before .before .before in
+    omega (arith, ap length (at-row .row .ensures) ∙ row-length _ _ _, at-pre .pre .5)
+
+at-requires-4 : tie.Need-at-requires-4
+at-requires-4 c κs = search needs
+
+at-requires-5 : tie.Need-at-requires-5
+at-requires-5 c κs = search needs
+
+update-requires : tie.Need-update-requires
+update-requires c κs = search needs
+
+put-requires : tie.Need-put-requires
+put-requires c κs = search needs
+
+same-length : tie.Need-same-length
+same-length c = search needs
+
+returns-2 : tie.Need-returns-2
+unfolding def.sweepRow
+returns-2 c =
+    let at-put = c .before .before in
+    let at-update = at-put .before .before in
+    let at-at5 = at-update .before in
+    let at-at4 = at-at5 .before in
+    let at-at3 = at-at4 .before in
+    let at-at2 = at-at3 .before in
+    let at-row-sum = at-at2 .before .before in
+    let at-at = at-row-sum .before .before in
+    let at-row = at-at .before in
+    let at-if1 = at-row .before in
+    let at-state = at-if1 .before in
+    let at-args = at-state .before .before .before .before .before .before .before in
+    rw (ne-eqb _ _ (λ (e : box.state (at-args .args .states .now) (at-args .args .i) ≡ 3). at-if1 .if1 .left (at-state .state .ensures ∙ e)), at-put .put .ensures, at-update .update .ensures, at-row-sum .row-sum .ensures, at-at .at .ensures, at-at2 .at2 .ensures, at-at3 .at3 .ensures, at-at4 .at4 .ensures, at-at5 .at5 .ensures, at-row .row .ensures)
+
+pub sweep-row-spec : {M : Type 1} → statement M
+sweep-row-spec =
+    tie.close
+    (tie.spec
+    state-requires
+    returns
+    row-requires
+    at-requires
+    row-sum-requires
+    at-requires-2
+    at-requires-3
+    at-requires-4
+    at-requires-5
+    update-requires
+    put-requires
+    same-length
+    returns-2)

@@ -1,0 +1,71 @@
+use Prim.Native.Nat.{_≤_, _-_}
+use mathlib.Core.List.{_++_}
+use mathlib.Core.Path.{_≡_}
+use native.Mathlib.Omega.{arith}
+use lib.ListN.{drop, length}
+use borrow.Author.Needs.{needs}
+use Rattle.boxed.specs.Sweep as def
+use Rattle.loops.specs.Loops.{tab}
+use Rattle.box_rows.proofs.Matrix.{tab-filled}
+use Rattle.loops.proofs.Fill.{tab-start, tab-again}
+use Rattle.boxed.proofs.tests.change.Statement.{statement}
+use Rattle.boxed.proofs.tests.change.Tie as tie
+
+abbrev Inv-loop : tie.InvT-loop
+Inv-loop nu before y₀ n i₀ y i = (i ≤ n) × (n ≡ length nu) × (length y ≡ length y₀) × (y ≡ tab (def.changeAt nu before) i ++ drop i y₀)
+
+abbrev μ-loop : tie.MeasureT-loop
+μ-loop nu before y₀ n i₀ y i = n - i
+
+loop-holds : tie.Need-loop-holds Inv-loop μ-loop
+loop-holds c = (search needs, search needs, search needs, tab-start _ _)
+
+at-requires : tie.Need-at-requires Inv-loop μ-loop
+at-requires c κs = search needs
+
+at-requires-2 : tie.Need-at-requires-2 Inv-loop μ-loop
+at-requires-2 c κs = search needs
+
+put-requires : tie.Need-put-requires Inv-loop μ-loop
+put-requires c κs = search needs
+
+add-i : tie.Need-add-i Inv-loop μ-loop
+add-i c = search needs
+
+loop-less : tie.Need-loop-less Inv-loop μ-loop
+loop-less c = search needs
+
+loop-again : tie.Need-loop-again Inv-loop μ-loop
+loop-again c =
+    let at-put = c .before .before in
+    let at-at2 = at-put .before in
+    let at-at = at-at2 .before in
+    let at-loop = at-at .before .before .before in
+    let at-pre = at-loop .before .before .before .before in
+    (search needs, search needs, search needs, rw (at-put .put .ensures, at-at .at .ensures, at-at2 .at2 .ensures) (tab-again _ _ _ _ (at-loop .loop .inv .3) (at-loop .loop .inv .2) (omega (arith, at-pre .pre .1, at-loop .loop .inv .2))))
+
+same-length : tie.Need-same-length Inv-loop μ-loop
+same-length c = search needs
+
+returns : tie.Need-returns Inv-loop μ-loop
+unfolding def.change
+returns c =
+    let at-loop = c .before in
+    let at-args = at-loop .before .before .before .before in
+    tab-filled _ (at-loop .loop .i) _ (at-args .args .y .now) (at-loop .loop .y) (at-loop .loop .inv .3) (omega arith) (omega arith) (omega arith) (omega arith)
+
+pub change-spec : {M : Type 1} → statement M
+change-spec =
+    tie.close
+    (tie.spec
+    Inv-loop
+    μ-loop
+    loop-holds
+    at-requires
+    at-requires-2
+    put-requires
+    add-i
+    loop-less
+    loop-again
+    same-length
+    returns)

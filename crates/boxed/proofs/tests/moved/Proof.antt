@@ -1,0 +1,83 @@
+use Prim.Native.Nat.{_/_, _≤_, _-_}
+use mathlib.Core.Path.{_≡_, ap, _∙_}
+use native.Mathlib.Nat.{div-le-self}
+use native.Mathlib.Omega.{arith}
+use lib.ListN.{length}
+use borrow.Author.Needs.{needs}
+use Rattle.boxed.specs.Sweep as def
+use Rattle.box_rows.proofs.Matrix.{row-length}
+use Rattle.boxed.proofs.Rows.{rows-fit}
+use Rattle.loops.proofs.Turns.{turns-from, turns-again, turns-done}
+use Rattle.boxed.proofs.tests.moved.Statement.{statement}
+use Rattle.boxed.proofs.tests.moved.Tie as tie
+
+abbrev Inv-loop : tie.InvT-loop
+Inv-loop motion nu before n coords worst₀ c₀ worst c = (c ≤ coords) × (coords ≡ length motion / n) × (n ≡ length nu) × (worst ≡ def.moved motion nu before c)
+
+abbrev μ-loop : tie.MeasureT-loop
+μ-loop motion nu before n coords worst₀ c₀ worst c = coords - c
+
+div-coords : tie.Need-div-coords Inv-loop μ-loop
+div-coords c = search needs
+
+loop-holds : tie.Need-loop-holds Inv-loop μ-loop
+unfolding def.moved
+loop-holds c = (search needs, search needs, search needs, turns-from _ _)
+
+row-requires : tie.Need-row-requires Inv-loop μ-loop
+row-requires c κs =
+    let at-loop = c .before in
+    let at-args = at-loop .before .before .before .before in
+    rows-fit (length (at-args .args .motion .now)) (length (at-args .args .nu .now)) (at-loop .loop .c) (c .loop-test .taken)
+
+coordinate-requires : tie.Need-coordinate-requires Inv-loop μ-loop
+coordinate-requires c κs =
+    let at-pre = c .before .before .before .before .before .before in
+    (ap length (c .row .ensures) ∙ row-length _ _ _, at-pre .pre .0)
+
+abs-requires : tie.Need-abs-requires Inv-loop μ-loop
+abs-requires c κs = search needs
+
+larger-requires : tie.Need-larger-requires Inv-loop μ-loop
+larger-requires c κs = search needs
+
+add-c : tie.Need-add-c Inv-loop μ-loop
+add-c c =
+    let at-loop-test = c .before .before .before .before in
+    let at-args = at-loop-test .before .before .before .before .before in
+    omega (arith, at-loop-test .loop-test .taken, div-le-self (length (at-args .args .motion .now)) (length (at-args .args .nu .now)))
+
+loop-less : tie.Need-loop-less Inv-loop μ-loop
+loop-less c = search needs
+
+loop-again : tie.Need-loop-again Inv-loop μ-loop
+unfolding def.moved
+loop-again c =
+    let at-abs = c .before in
+    let at-coordinate = at-abs .before in
+    let at-row = at-coordinate .before in
+    let at-loop = at-row .before .before in
+    (search needs, search needs, search needs, turns-again _ _ _ _ _ (at-loop .loop .inv .3) (rw (c .larger .ensures, at-abs .abs .ensures, at-coordinate .coordinate .ensures, at-row .row .ensures)))
+
+returns : tie.Need-returns Inv-loop μ-loop
+unfolding def.moved
+returns c =
+    let at-loop = c .before in
+    turns-done _ _ _ _ _ (at-loop .loop .inv .0) (c .loop-test .left) (at-loop .loop .inv .3)
+
+pub moved-spec : {M : Type 1} → statement M
+moved-spec =
+    tie.close
+    (tie.spec
+    Inv-loop
+    μ-loop
+    div-coords
+    loop-holds
+    row-requires
+    coordinate-requires
+    abs-requires
+    larger-requires
+    add-c
+    loop-less
+    loop-again
+    returns)

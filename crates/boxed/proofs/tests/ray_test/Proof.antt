@@ -1,0 +1,68 @@
+use mathlib.Core.Path.{sym, _∙_}
+use native.Mathlib.Omega.{arith}
+use lib.Seq.{length-take-le}
+use borrow.Author.Needs.{needs}
+use Rattle.boxed.proofs.Testing.{none-fight, some-fight, changed-le, changed-front, ray-front}
+use Rattle.boxed.proofs.tests.ray_test.Statement.{statement}
+use Rattle.boxed.proofs.tests.ray_test.Tie as tie
+
+array-borrow-prefix-y : tie.Need-array-borrow-prefix-y
+array-borrow-prefix-y c = search needs
+
+slice-aggregate-change : tie.Need-slice-aggregate-change
+slice-aggregate-change c = sym (length-take-le _ _ (omega (arith, c .before .before .before .before .before .before .before .before .before .before .pre .0 .0)))
+
+change-requires : tie.Need-change-requires
+change-requires c κs =
+    let at-pre = c .before .before .before .before .before .before .before .before .before .before in
+    (omega (arith, at-pre .pre .2, at-pre .pre .3), length-take-le _ _ (omega (arith, at-pre .pre .0 .0)) ∙ sym (at-pre .pre .2))
+
+array-share-prefix-y : tie.Need-array-share-prefix-y
+array-share-prefix-y c =
+    let at-change = c .before in
+    let at-pre = at-change .before .before .before .before .before .before .before .before .before .before .before in
+    changed-le _ _ _ _ _ (at-change .change .ensures) (at-pre .pre .2)
+
+slice-aggregate-ray : tie.Need-slice-aggregate-ray
+slice-aggregate-ray c =
+    let at-change = c .before .before in
+    let at-pre = at-change .before .before .before .before .before .before .before .before .before .before .before in
+    sym (length-take-le _ _ (changed-le _ _ _ _ _ (at-change .change .ensures) (at-pre .pre .2)))
+
+ray-requires : tie.Need-ray-requires
+ray-requires c κs = search needs
+
+same-length : tie.Need-same-length
+same-length c = search needs
+
+returns : tie.Need-returns
+returns c =
+    let at-ray = c .before .before .before in
+    let at-change = at-ray .before .before .before .before in
+    let at-pre = at-change .before .before .before .before .before .before .before .before .before .before .before in
+    none-fight _ _ _ _ _ _ _ (ray-front _ _ _ _ _ _ _ _ (at-pre .pre .0) (at-pre .pre .1) (at-pre .pre .4) (changed-front _ _ _ _ _ (at-change .change .ensures) (at-pre .pre .2)) (at-ray .ray .ensures)) (c .if1 .taken)
+
+same-length-2 : tie.Need-same-length-2
+same-length-2 c = search needs
+
+returns-2 : tie.Need-returns-2
+returns-2 c =
+    let at-ray = c .before .before .before in
+    let at-change = at-ray .before .before .before .before in
+    let at-pre = at-change .before .before .before .before .before .before .before .before .before .before .before in
+    some-fight _ _ _ _ _ _ _ (ray-front _ _ _ _ _ _ _ _ (at-pre .pre .0) (at-pre .pre .1) (at-pre .pre .4) (changed-front _ _ _ _ _ (at-change .change .ensures) (at-pre .pre .2)) (at-ray .ray .ensures)) (c .if1 .left)
+
+pub ray-test-spec : {M : Type 1} → statement M
+ray-test-spec =
+    tie.close
+    (tie.spec
+    array-borrow-prefix-y
+    slice-aggregate-change
+    change-requires
+    array-share-prefix-y
+    slice-aggregate-ray
+    ray-requires
+    same-length
+    returns
+    same-length-2
+    returns-2)

@@ -1,0 +1,44 @@
+use Prim.Native.Nat.{_≤_, _-_}
+use mathlib.Core.Path.{_≡_}
+use native.Mathlib.Omega.{arith}
+use lib.ListN.{length}
+use borrow.Author.Needs.{needs}
+use Rattle.boxed.specs.Sweep as def
+use Rattle.box_rows.specs.Rows as box
+use Rattle.loops.proofs.Turns.{turns-from, turns-again, turns-done}
+use Rattle.boxed.proofs.tests.residual.Statement.{statement}
+use Rattle.boxed.proofs.tests.residual.Tie as tie
+
+abbrev Inv-loop : tie.InvT-loop
+Inv-loop w u-free lo hi scale states nu n worst₀ i₀ worst i = (i ≤ n) × (n ≡ length u-free) × (worst ≡ def.residual (box.problem w u-free lo hi scale) states nu i)
+
+abbrev μ-loop : tie.MeasureT-loop
+μ-loop w u-free lo hi scale states nu n worst₀ i₀ worst i = n - i
+
+loop-holds : tie.Need-loop-holds Inv-loop μ-loop
+unfolding def.residual
+loop-holds c = search (turns-from, needs)
+
+residual-row-requires : tie.Need-residual-row-requires Inv-loop μ-loop
+residual-row-requires c κs = search needs
+
+add-i : tie.Need-add-i Inv-loop μ-loop
+add-i c = search needs
+
+loop-less : tie.Need-loop-less Inv-loop μ-loop
+loop-less c = search needs
+
+loop-again : tie.Need-loop-again Inv-loop μ-loop
+unfolding def.residual
+loop-again c =
+    let at-loop = c .before .before in
+    (search needs, search needs, turns-again _ _ _ _ _ (at-loop .loop .inv .2) (c .residual-row .ensures))
+
+returns : tie.Need-returns Inv-loop μ-loop
+unfolding def.residual
+returns c = turns-done _ _ _ _ _ (omega arith) (omega arith) (c .before .loop .inv .2)
+
+pub residual-spec : {M : Type 1} → statement M
+residual-spec =
+    tie.close
+    (tie.spec Inv-loop μ-loop loop-holds residual-row-requires add-i loop-less loop-again returns)

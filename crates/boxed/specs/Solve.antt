@@ -1,0 +1,211 @@
+-- `BoxSolver::solve` of boxed.rs by document 01: the sweeps with their tests, the ending, the refusals. Definitions only.
+use Prim.Native.Nat.{ℕ, zero, suc, _*_, _%_}
+use mathlib.Core.Path.{_≡_}
+use mathlib.Core.Bool.{Bool, true, false, not, cond, _&&_, _||_}
+use mathlib.Core.List.{List, [], _∷_, _++_}
+use lib.Dec.{ltb, eqb}
+use lib.ListN.{length, take, drop}
+use lib.Ieee.{Float, lt, le}
+use Rattle.loops.specs.Loops.{turns, every, fronted}
+use Rattle.floats.specs.Ops.{at, 0ᶠ, 1e-9}
+use Rattle.floats.specs.Helpers.{isFinite}
+use Rattle.box_rows.specs.Rows as box
+use Rattle.exact_pass.specs.Ray.{ray}
+use Rattle.exact_pass.specs.Pass as pass
+use Rattle.boxed.specs.Sweep as sweep
+use Rattle.boxed.specs.declared.Cause.{Cause}
+use Rattle.boxed.specs.declared.Cause.the-variants as cause
+use Rattle.boxed.specs.declared.Counts.{Counts}
+use Rattle.boxed.specs.declared.BoxReport.{BoxReport}
+use Rattle.boxed.specs.declared.BoxAnswer.{BoxAnswer}
+use Rattle.boxed.specs.declared.BoxAnswer.the-variants.{Solved, Infeasible, Refused}
+
+-- ---- the sweeps after which an exact pass is tried: the table's, and the last that there may be
+
+abbrev pub table : List ℕ
+table = 1 ∷ 2 ∷ 4 ∷ 8 ∷ 16 ∷ 32 ∷ 64 ∷ 128 ∷ []
+
+unfoldable pub member : ℕ → List ℕ → Bool
+member k [] = false
+member k (a ∷ l) = eqb k a || member k l
+
+abbrev pub checkpoint : ℕ → ℕ → Bool
+checkpoint cap k = member k (table ++ (cap ∷ []))
+
+-- ---- a solve between two sweeps, or how it ended
+
+abbrev pub counts : ℕ → ℕ → Counts
+counts sweeps passes = record { sweeps = sweeps; passes = passes }
+
+pub record Iterate : Type 0 where
+  pub nu : List Float
+  pub states : List ℕ
+  pub counts : Counts
+
+abbrev pub iterate : List Float → List ℕ → Counts → Iterate
+iterate nu st c = record { nu = nu; states = st; counts = c }
+
+pub data Ending : Type 0 where
+  exact converged : Ending
+  infeasible : Cause → List ℕ → Ending
+
+pub data Run : Type 0 where
+  going : Iterate → Run
+  ended : Ending → Iterate → Run
+
+unfoldable pub unless : Cause → Iterate → List ℕ → Run
+unless c s [] = going s
+unless c s (a ∷ l) = ended (infeasible c (a ∷ l)) s
+
+-- ---- a sweep and its tests
+
+-- one pass more
+abbrev pub tried : Counts → Counts
+tried c = counts (c .sweeps) (suc (c .passes))
+
+unfoldable pub passed : Iterate → pass.Pass → Run
+passed s (pass.moved t) = going (iterate (s .nu) (t .states) (tried (s .counts)))
+passed s (pass.failed t) = going (iterate (s .nu) (t .states) (tried (s .counts)))
+passed s (pass.found t) = ended exact (iterate (t .nu) (t .states) (tried (s .counts)))
+passed s (pass.infeasible l t) = ended (infeasible cause.Pass l) (iterate (s .nu) (t .states) (tried (s .counts)))
+
+unfoldable pub checked : ℕ → box.Problem → Run → Run
+checked cap p (ended e s) = ended e s
+checked cap p (going s) = cond (checkpoint cap (s .counts .sweeps)) (passed s (pass.exactPass p (s .states) (s .nu))) (going s)
+
+-- the motion that is watched: a row of values for each coordinate, and a tolerance
+pub record Watch : Type 0 where
+  pub motion : List Float
+  pub tolerance : Float
+
+abbrev pub watch : List Float → Float → Watch
+watch motion tolerance = record { motion = motion; tolerance = tolerance }
+
+-- `before` are the multipliers before the sweep
+unfoldable pub tested : box.Problem → Watch → List Float → Run → Run
+tested p m before (ended e s) = ended e s
+tested p m before (going s) =
+    cond (sweep.hasStopped (m .motion) (m .tolerance) (s .nu) before)
+    (cond (le (sweep.residual p (s .states) (s .nu) (box.size p)) 1e-9) (ended converged s)
+    (unless cause.Sweep s (ray p (s .states) (sweep.change (s .nu) before (box.size p)))))
+    (going s)
+
+unfoldable pub turn : ℕ → box.Problem → Watch → ℕ → Run → Run
+turn cap p m i (ended e s) = ended e s
+turn cap p m i (going s) =
+    let nu = sweep.sweep (p .w) (p .uFree) (p .lo) (p .hi) (s .states) (s .nu) (box.size p) in
+    let t = iterate nu (s .states) (counts (suc (s .counts .sweeps)) (s .counts .passes)) in
+    tested p m (s .nu) (checked cap p (unless cause.Growth t (sweep.grown nu (p .scale) (box.size p))))
+
+-- after k more sweeps at most
+unfoldable pub run : ℕ → box.Problem → Watch → Iterate → ℕ → Run
+run cap p m s k = turns k (going s) (turn cap p m)
+
+-- ---- the whole
+
+pub data Outcome : Type 0 where
+  refused : ℕ → Outcome
+  solved : BoxReport → Outcome
+  infeasible : Cause → List ℕ → BoxReport → Outcome
+
+-- what a call answers and leaves: multipliers, states and row list
+pub record Result : Type 0 where
+  pub outcome : Outcome
+  pub nu : List Float
+  pub states : List ℕ
+  pub listed : List ℕ
+
+abbrev pub left : Outcome → List Float → List ℕ → List ℕ → Result
+left o nu st l = record { outcome = o; nu = nu; states = st; listed = l }
+
+unfoldable pub reportOf : box.Problem → ℕ → Bool → Bool → Iterate → BoxReport
+reportOf p idle c e s =
+    record {
+      sweeps = s .counts .sweeps;
+      «exact_passes» = s .counts .passes;
+      converged = c;
+      exact = e;
+      residual = sweep.residual p (s .states) (s .nu) (box.size p);
+      idle = idle;
+    }
+
+-- where no pass found the solution, the states are those that the multipliers show
+unfoldable pub unfound : box.Problem → ℕ → List ℕ → Bool → Iterate → Result
+unfound p idle l c s =
+    left (solved (reportOf p idle c false s)) (s .nu) (sweep.classified (p .lo) (p .hi) (p .scale) (s .nu) (s .states) (box.size p)) l
+
+unfoldable pub result : box.Problem → ℕ → List ℕ → Run → Result
+result p idle l (going s) = unfound p idle l false s
+result p idle l (ended converged s) = unfound p idle l true s
+result p idle l (ended exact s) = left (solved (reportOf p idle true true s)) (s .nu) (s .states) l
+result p idle l (ended (infeasible c r) s) = left (infeasible c r (reportOf p idle false false s)) (s .nu) (s .states) (fronted r l)
+
+-- all rows Idle: nothing to solve
+abbrev pub nothing : ℕ → BoxReport
+nothing idle = record { sweeps = 0; «exact_passes» = 0; converged = true; exact = true; residual = 0ᶠ; idle = idle }
+
+-- st are n states
+unfoldable pub solve : ℕ → box.Problem → Watch → List Float → List ℕ → List ℕ → Result
+solve cap p m nu st l =
+    let b = sweep.start (p .w) (box.size p) (p .lo) (p .hi) nu st (box.size p) in
+    cond (eqb (b .idle) (box.size p)) (left (solved (nothing (b .idle))) (b .nu) (b .states) l)
+    (result p (b .idle) l (run cap p m (iterate (b .nu) (b .states) (counts 0 0)) cap))
+
+-- ---- refusals, in the order of document 01: 0 is none. `room` is the workspace's length.
+
+unfoldable pub goodScale : Float → Bool
+goodScale s = isFinite s && lt 0ᶠ s
+
+abbrev pub goodScaleAt : List Float → ℕ → Bool
+goodScaleAt scale i = goodScale (at scale i)
+
+abbrev pub first : List (Bool × ℕ) → ℕ
+first [] = 0
+first (c ∷ l) = cond (c .0) (c .1) (first l)
+
+unfoldable pub refusal : box.Problem → List Float → List Float → List ℕ → List ℕ → ℕ → ℕ
+refusal p motion nu st l room =
+    let n = box.size p in
+    first
+    ((ltb 32 n || ltb 2048 (length motion), 5) ∷
+    (not (eqb (length (p .w)) (n * n)), 6) ∷
+    (not (eqb (length (p .lo)) n && eqb (length (p .hi)) n && eqb (length (p .scale)) n && eqb (length nu) n), 7) ∷
+    (not (every (goodScaleAt (p .scale)) n), 8) ∷
+    (ltb 0 n && not (eqb (length motion % n) 0), 9) ∷
+    (ltb room 2304 || ltb (length st) n || ltb (length l) n, 10) ∷ [])
+
+-- states past the n of the problem stay
+unfoldable pub reply : ℕ → box.Problem → Watch → List Float → List ℕ → List ℕ → ℕ → Result
+reply cap p m nu st l zero =
+    let x = solve cap p m nu (take (box.size p) st) l in
+    left (x .outcome) (x .nu) (x .states ++ drop (box.size p) st) (x .listed)
+reply cap p m nu st l (suc k) = left (refused (suc k)) nu st l
+
+-- the most sweeps one solve runs
+abbrev pub SWEEP_CAP : ℕ
+SWEEP_CAP = 200
+
+unfoldable pub solveReply : box.Problem → Watch → List Float → List ℕ → List ℕ → ℕ → Result
+solveReply p m nu st l room = reply SWEEP_CAP p m nu st l (refusal p (m .motion) nu st l room)
+
+-- ---- what the call promises
+
+-- the code's answer to an outcome: the rows of an infeasible one are the filled front of the row list, of which it tells the length
+abbrev pub answerOf : Outcome → BoxAnswer
+answerOf (refused k) = Refused k
+answerOf (solved r) = Solved r
+answerOf (infeasible c l r) = Infeasible c (length l) r
+
+-- how many values at the workspace's front are free afterwards: none where the call is refused
+abbrev pub used : Outcome → ℕ
+used (refused k) = 0
+used (solved r) = 2304
+used (infeasible c l r) = 2304
+
+-- The answer r of a call is that of the result x, and so are the multipliers, the states and the row list that it leaves. The workspace held w before the call and w′ after it.
+pub record Left (x : Result) (r : BoxAnswer) (nu : List Float) (st q : List ℕ) (w w′ : List Float) : Type 0 where
+  pub answer : r ≡ answerOf (x .outcome)
+  pub multipliers : nu ≡ x .nu
+  pub states : st ≡ x .states
+  pub listed : q ≡ x .listed
+  pub workspace : drop (used (x .outcome)) w′ ≡ drop (used (x .outcome)) w

@@ -1,0 +1,36 @@
+// Growth: the rows whose multiplier is past a million scales, Idle rows included.
+ghost use mathlib.Core.Path.{_≡_};
+ghost use Prim.Native.Nat.{_≤_, _<_};
+ghost use lib.ListN.{length};
+ghost use Rattle.loops.specs.Loops.{counted, noted};
+ghost use Rattle.loops.specs.Gathering.{Gathering};
+ghost use Rattle.boxed.specs.Sweep as def;
+use crate::read;
+
+fn grown_row(v: f64, s: f64, i: usize, k: usize, rows: &mut [usize]) -> usize
+    requires { ⌜ k < length (now rows) ⌝ }
+    ensures { λ q. ⌜ (q ≡ counted (def.isGrown v s) k)
+        × (now (rows .exit) ≡ noted (def.isGrown v s) (now (rows .entry)) k i) ⌝ }
+{
+    if floats::abs(v) > exact_pass::DIVERGENCE * s {
+        read::put_number(rows, k, i);
+        return k + 1;
+    }
+    k
+}
+
+// They stand at the front of `rows`, rising; how many there are.
+pub fn grown(nu: &[f64], scale: &[f64], rows: &mut [usize]) -> usize
+    requires { ⌜ (length (now scale) ≡ length (now nu)) × (length (now nu) ≤ length (now rows)) ⌝ }
+    ensures { λ q. ⌜ Gathering (def.grownAt (now (nu .entry)) (now (scale .entry))) (now (rows .entry))
+        (length (now (nu .entry))) q (now (rows .exit)) ⌝ }
+{
+    let n = nu.len();
+    let mut k = 0;
+    let mut i = 0;
+    while i < n {
+        k = grown_row(read::at(nu, i), read::at(scale, i), i, k, rows);
+        i += 1;
+    }
+    k
+}

@@ -1,0 +1,55 @@
+// Where a solve starts: a row that cannot act is Idle, and every multiplier is clamped to its box, that of an Idle row
+// from 0.
+ghost use mathlib.Core.Path.{_≡_};
+ghost use Prim.Native.Nat.{_+_, _≤_, _<_};
+ghost use lib.ListN.{length};
+ghost use Rattle.box_rows.specs.Private as lists;
+ghost use Rattle.boxed.specs.Sweep as def;
+use crate::read;
+
+// Row i, of which d is the diagonal; how many rows up to it are Idle.
+fn start_row(
+    d: f64,
+    lo: f64,
+    hi: f64,
+    states: &mut [u8],
+    nu: &mut [f64],
+    i: usize,
+    idle: usize,
+) -> usize
+    requires { ⌜ (i < length (now nu)) × (length (now states) ≡ length (now nu)) × (idle ≤ i) ⌝ }
+    ensures { λ q. ⌜
+        (def.started (now (nu .exit)) (now (states .exit)) q
+        ≡ def.startRow d lo hi i (def.started (now (nu .entry)) (now (states .entry)) idle))
+        × (q ≤ i + 1) ⌝ }
+{
+    if box_rows::is_idle(d) {
+        read::put_state(states, i, box_rows::IDLE);
+        read::put(nu, i, floats::clamp(0.0, lo, hi));
+        return idle + 1;
+    }
+    read::put_state(states, i, box_rows::INSIDE);
+    read::put(nu, i, floats::clamp(read::at(nu, i), lo, hi));
+    idle
+}
+
+// How many rows are Idle.
+pub fn start(w: &[f64], lo: &[f64], hi: &[f64], states: &mut [u8], nu: &mut [f64]) -> usize
+    requires { ⌜ lists.Square (now w) (length (now nu)) × (length (now lo) ≡ length (now nu))
+        × (length (now hi) ≡ length (now nu)) × (length (now states) ≡ length (now nu)) ⌝ }
+    ensures { λ q. ⌜
+        (def.started (now (nu .exit)) (now (states .exit)) q
+        ≡ def.start (now (w .entry)) (length (now (nu .entry))) (now (lo .entry)) (now (hi .entry))
+        (now (nu .entry)) (now (states .entry)) (length (now (nu .entry))))
+        × (q ≤ length (now (nu .entry))) ⌝ }
+{
+    let n = nu.len();
+    let mut idle = 0;
+    let mut i = 0;
+    while i < n {
+        let d = read::at(read::row(w, n, i), i);
+        idle = start_row(d, read::at(lo, i), read::at(hi, i), states, nu, i, idle);
+        i += 1;
+    }
+    idle
+}

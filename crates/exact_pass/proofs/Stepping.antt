@@ -1,0 +1,101 @@
+-- One step of a pass, from what its calls promise: one law for each return.
+use Prim.Native.Nat.{ℕ, zero, suc, _+_, _*_, _≤_, _<_}
+use mathlib.Core.Path.{_≡_, refl, sym, ap, _∙_}
+use mathlib.Core.Bool.{Bool, true, false, cond}
+use mathlib.Core.List.{List, [], _∷_}
+use native.Mathlib.Omega.{arith}
+use lib.Dec.{eqb}
+use lib.ListN.{length, replicate}
+use lib.Ieee.{Float, lt}
+use borrow.Author.Tests.{eq-eqb, ne-eqb}
+use Rattle.floats.specs.Ops.{_⊖_, _⊘_, 0ᶠ}
+use Rattle.floats.specs.Helpers.{isFinite}
+use Rattle.box_rows.specs.Rows as box
+use Rattle.exact_pass.specs.Ray.{ray}
+use Rattle.exact_pass.specs.Pass as def
+use Rattle.exact_pass.specs.Pass.{Trial, trial}
+use Rattle.exact_pass.specs.Promise.{Passed, Front}
+use Rattle.exact_pass.specs.declared.Blocking.{Blocking}
+use Rattle.exact_pass.specs.declared.Exact.{Exact}
+use Rattle.exact_pass.specs.declared.Exact.the-variants.{Moved, Failed, Infeasible}
+
+-- ---- the blocking row is a row
+
+nearer-row : (n a s : ℕ) (ratio : Float) (r : Blocking) → a < n → r .row < n → def.nearer a s ratio r .row < n
+unfolding def.nearer
+nearer-row n a s ratio r h g = go (lt ratio (r .alpha)) refl
+  where
+    go : (b : Bool) → lt ratio (r .alpha) ≡ b → def.nearer a s ratio r .row < n
+    go true e = rw e h
+    go false e = rw e g
+
+pub ratio-row-below : (n a : ℕ) (v y lo hi : Float) (r q : Blocking) → q ≡ def.ratioRow a v y lo hi r → a < n → r .row < n → q .row < n
+unfolding def.ratioRow
+ratio-row-below n a v y lo hi r q e h g = rw e (go (lt 0ᶠ y) (lt y 0ᶠ))
+  where
+    go : (b c : Bool) → cond b (def.nearer a 2 ((hi ⊖ v) ⊘ y) r) (cond c (def.nearer a 1 ((lo ⊖ v) ⊘ y) r) r) .row < n
+    go true c = nearer-row n a 2 ((hi ⊖ v) ⊘ y) r h g
+    go false true = nearer-row n a 1 ((lo ⊖ v) ⊘ y) r h g
+    go false false = g
+
+-- ---- no bound is met
+
+module _ (r rows : List ℕ) (c : ℕ) (rows′ : List ℕ) (f : Front r rows c rows′) (nu : List Float) (st : List ℕ) where
+  unmet-failed : (l : List ℕ) → r ≡ l → c ≡ 0 → Passed (def.unmet (trial nu st) l) rows Failed nu st rows′
+  unfolding def.unmet
+  unmet-failed [] e h = record { answer = refl; tried = refl; listed = rw e at (f .front) }
+  unmet-failed (a ∷ l) e h = absurd (omega (arith, f .count, h, ap length e))
+
+  unmet-ray : (l : List ℕ) → r ≡ l → (c ≡ 0 → ⊥) → Passed (def.unmet (trial nu st) l) rows (Infeasible c) nu st rows′
+  unfolding def.unmet
+  unmet-ray [] e h = absurd (h (f .count ∙ ap length e))
+  unmet-ray (a ∷ l) e h = record { answer = ap Infeasible (f .count ∙ ap length e); tried = refl; listed = rw e at (f .front) }
+
+module _ (p : box.Problem) (st l : List ℕ) (y d : List Float) (rows : List ℕ) (c : ℕ) (rows′ : List ℕ)
+    (scattered : d ≡ def.scattered l y (replicate (box.size p) 0ᶠ) (length l)) (f : Front (ray p st d) rows c rows′) where
+  pub unbounded-failed : c ≡ 0 → (nu : List Float) → Passed (def.unbounded p (trial nu st) l y) rows Failed nu st rows′
+  unfolding def.unbounded
+  unbounded-failed h nu = rw (← scattered) (unmet-failed (ray p st d) rows c rows′ f nu st (ray p st d) refl h)
+
+  pub unbounded-ray : (c ≡ 0 → ⊥) → (nu : List Float) → Passed (def.unbounded p (trial nu st) l y) rows (Infeasible c) nu st rows′
+  unfolding def.unbounded
+  unbounded-ray h nu = rw (← scattered) (unmet-ray (ray p st d) rows c rows′ f nu st (ray p st d) refl h)
+
+-- ---- along y, by how the ratio test comes out
+
+module _ (p : box.Problem) (nu : List Float) (st l : List ℕ) (y : List Float) (b : Bool) (alpha : Float) (r : Blocking) (rows : List ℕ)
+    (far : alpha ≡ def.longest b) (test : r ≡ def.ratioTest (p .lo) (p .hi) l nu y alpha (length l)) where
+  tested : def.ratioTest (p .lo) (p .hi) l nu y (def.longest b) (length l) ≡ r
+  tested = rw (← far) (sym test)
+
+  pub taken-unbounded : (e : Exact) (rows′ : List ℕ) (f : Bool) → f ≡ isFinite (r .alpha) → f ≡ false → ((v : List Float) → Passed (def.unbounded p (trial v st) l y) rows e v st rows′) → Passed (def.takeStep p (trial nu st) l y b) rows e nu st rows′
+  unfolding def.takeStep def.stepped
+  taken-unbounded e rows′ f g h k = rw (tested, ← g, h) (k nu)
+
+  pub taken-released : (e : Exact) (nu′ : List Float) (st′ : List ℕ) (f : Bool) → f ≡ isFinite (r .alpha) → f ≡ true → r .state ≡ 0 → nu′ ≡ def.advance l y (r .alpha) nu (length l) → ((m : List ℕ) → Passed (def.release p (trial nu′ st)) m e nu′ st′ m) → Passed (def.takeStep p (trial nu st) l y b) rows e nu′ st′ rows
+  unfolding def.takeStep def.stepped
+  taken-released e nu′ st′ f g h s m k = rw (tested, ← g, h, eq-eqb (r .state) 0 s, ← m) (k rows)
+
+  pub taken-to-bound : (nu′ nu″ : List Float) (st″ : List ℕ) (f : Bool) → f ≡ isFinite (r .alpha) → f ≡ true → (r .state ≡ 0 → ⊥) → nu′ ≡ def.advance l y (r .alpha) nu (length l) → trial nu″ st″ ≡ def.hold (p .lo) (p .hi) (trial nu′ st) r → Passed (def.takeStep p (trial nu st) l y b) rows Moved nu″ st″ rows
+  unfolding def.takeStep def.stepped
+  taken-to-bound nu′ nu″ st″ f g h s m k = rw (tested, ← g, h, ne-eqb (r .state) 0 s, ← m) (record { answer = refl; tried = k; listed = refl })
+
+-- ---- toward the target
+
+pub toward-run : (p : box.Problem) (nu : List Float) (st l : List ℕ) (z y₁ y : List Float) (b : Bool) (rows : List ℕ) (e : Exact) (nu′ : List Float) (st′ rows′ : List ℕ) → Passed (def.takeStep p (trial nu st) l y b) rows e nu′ st′ rows′ → y ≡ def.direction b (p .scale) l z nu y₁
+    → def.targeted z y₁ b ≡ def.target (p .w) (p .uFree) (p .scale) st nu l → Passed (def.toward p (trial nu st) l) rows e nu′ st′ rows′
+unfolding def.toward
+toward-run p nu st l z y₁ y b rows e nu′ st′ rows′ h f g = rw (← g, ← f) h
+
+-- ---- a step, where l lists the free rows
+
+module _ (p : box.Problem) (t : Trial) (rows : List ℕ) (e : Exact) (nu′ : List Float) (st′ rows′ : List ℕ) (k : ℕ) where
+  pub step-released : (l : List ℕ) → k ≡ length l → k ≡ 0 → Passed (def.release p t) rows e nu′ st′ rows′ → Passed (def.stepOf p t l) rows e nu′ st′ rows′
+  unfolding def.stepOf
+  step-released [] f g h = h
+  step-released (a ∷ l) f g h = absurd (omega (arith, f, g))
+
+  pub step-toward : (l : List ℕ) → k ≡ length l → (k ≡ 0 → ⊥) → Passed (def.toward p t l) rows e nu′ st′ rows′ → Passed (def.stepOf p t l) rows e nu′ st′ rows′
+  unfolding def.stepOf
+  step-toward [] f g h = absurd (g f)
+  step-toward (a ∷ l) f g h = h

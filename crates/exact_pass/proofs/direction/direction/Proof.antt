@@ -1,0 +1,22 @@
+use Rattle.exact_pass.specs.Pass as def
+use native.Mathlib.Omega.{arith}
+use borrow.Author.Needs.{needs}
+use Rattle.exact_pass.proofs.direction.direction.Statement.{statement}
+use Rattle.exact_pass.proofs.direction.direction.Tie as tie
+
+returns : tie.Need-returns
+unfolding def.direction
+returns c = rw (c .if1 .taken)
+
+to-target-requires : tie.Need-to-target-requires
+to-target-requires c κs = search needs
+
+same-length : tie.Need-same-length
+same-length c = search needs
+
+returns-2 : tie.Need-returns-2
+unfolding def.direction
+returns-2 c = rw (c .before .before .before .before .if1 .left) (c .before .before .to-target .ensures)
+
+pub direction-spec : {M : Type 1} → statement M
+direction-spec = tie.close (tie.spec returns to-target-requires same-length returns-2)

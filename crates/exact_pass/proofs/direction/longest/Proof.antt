@@ -1,0 +1,17 @@
+use Rattle.floats.proofs.Infinity.{infinity-is, neg-infinity-is}
+use Rattle.exact_pass.specs.Pass as def
+use borrow.Author.Needs.{needs}
+use native.Mathlib.Omega.{arith}
+use Rattle.exact_pass.proofs.direction.longest.Statement.{statement}
+use Rattle.exact_pass.proofs.direction.longest.Tie as tie
+
+returns : tie.Need-returns
+unfolding def.longest
+returns c = rw (c .if1 .taken, infinity-is)
+
+returns-2 : tie.Need-returns-2
+unfolding def.longest
+returns-2 c = rw (c .if1 .left)
+
+pub longest-spec : {M : Type 1} → statement M
+longest-spec = tie.close (tie.spec returns returns-2)

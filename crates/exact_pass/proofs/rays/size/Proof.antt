@@ -1,0 +1,15 @@
+use Rattle.exact_pass.specs.Ray as rays
+use native.Mathlib.Omega.{arith}
+use borrow.Author.Needs.{needs}
+use Rattle.exact_pass.proofs.rays.size.Statement.{statement}
+use Rattle.exact_pass.proofs.rays.size.Tie as tie
+
+abs-requires : tie.Need-abs-requires
+abs-requires c κs = search needs
+
+returns : tie.Need-returns
+unfolding rays.sizeOf
+returns c = rw (c .abs .ensures)
+
+pub size-spec : {M : Type 1} → statement M
+size-spec = tie.close (tie.spec abs-requires returns)

@@ -1,0 +1,61 @@
+use Rattle.exact_pass.proofs.Rows.{free-row}
+use Prim.Native.Nat.{_+_, _*_, _≤_, _<_, _-_}
+use mathlib.Core.Path.{_≡_, refl, sym, ap, _∙_}
+use lib.ListN.{length}
+use Rattle.exact_pass.specs.Pass as def
+use Rattle.loops.proofs.Turns.{turns-from, turns-again, turns-done}
+use borrow.Author.Needs.{needs}
+use native.Mathlib.Omega.{arith}
+use Rattle.exact_pass.proofs.start.start.Statement.{statement}
+use Rattle.exact_pass.proofs.start.start.Tie as tie
+
+abbrev Inv-loop : tie.InvT-loop
+Inv-loop lo hi scale states₀ nu₀ n acting₀ i₀ states nu acting i = (i ≤ n) × (acting ≤ i) × (length nu ≡ length nu₀) × (length states ≡ length states₀) × (n ≡ length nu₀) × (def.started nu states acting ≡ def.start lo hi scale nu₀ states₀ i)
+
+abbrev μ-loop : tie.MeasureT-loop
+μ-loop lo hi scale states₀ nu₀ n acting₀ i₀ states nu acting i = n - i
+
+loop-holds : tie.Need-loop-holds Inv-loop μ-loop
+unfolding def.start
+loop-holds c = search (turns-from, needs)
+
+start-row-requires : tie.Need-start-row-requires Inv-loop μ-loop
+start-row-requires c κs = search needs
+
+add-i : tie.Need-add-i Inv-loop μ-loop
+add-i c = search needs
+
+loop-less : tie.Need-loop-less Inv-loop μ-loop
+loop-less c = search needs
+
+loop-again : tie.Need-loop-again Inv-loop μ-loop
+unfolding def.start
+loop-again c =
+    let at-start-row = c .before .before .before .before in
+    let at-loop = at-start-row .before .before .before .before in
+    (search needs, at-start-row .start-row .ensures .1, search needs, search needs, search needs, turns-again _ _ _ _ _ (at-loop .loop .inv .5) (at-start-row .start-row .ensures .0))
+
+same-length : tie.Need-same-length Inv-loop μ-loop
+same-length c = search needs
+
+same-length-2 : tie.Need-same-length-2 Inv-loop μ-loop
+same-length-2 c = search needs
+
+returns : tie.Need-returns Inv-loop μ-loop
+unfolding def.start
+returns c = (turns-done _ _ _ _ _ (omega arith) (omega arith) (c .before .loop .inv .5), search needs)
+
+pub start-spec : {M : Type 1} → statement M
+start-spec =
+    tie.close
+    (tie.spec
+    Inv-loop
+    μ-loop
+    loop-holds
+    start-row-requires
+    add-i
+    loop-less
+    loop-again
+    same-length
+    same-length-2
+    returns)

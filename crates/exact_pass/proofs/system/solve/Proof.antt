@@ -1,0 +1,33 @@
+use Rattle.exact_pass.proofs.Systems.{parts-start, parts-again, parts-done, matrix-row-length, right-hand-length, solved-x, solved-work, target-run, target-work}
+use mathlib.Core.Path.{_≡_, refl, sym, ap, _∙_}
+use native.Mathlib.Omega.{arith}
+use borrow.Author.Needs.{needs}
+use Rattle.exact_pass.proofs.system.solve.Statement.{statement}
+use Rattle.exact_pass.proofs.system.solve.Tie as tie
+
+solve-requires : tie.Need-solve-requires
+solve-requires c κs = search needs
+
+same-length : tie.Need-same-length
+same-length c = search needs
+
+same-length-2 : tie.Need-same-length-2
+same-length-2 c = search needs
+
+same-length-3 : tie.Need-same-length-3
+same-length-3 c = search needs
+
+same-length-4 : tie.Need-same-length-4
+same-length-4 c = search needs
+
+returns : tie.Need-returns
+returns c =
+    let at-solve = c .before .before .before .before .before .before .before .before in
+    let at-args = at-solve .before .before .before .before .before .before .before .before .before in
+    let at-pre = at-args in
+    (solved-x _ _ _ _ (at-args .args .work .now) (at-pre .pre .0) (at-pre .pre .1) refl (at-pre .pre .2) (at-pre .pre .3) _ (at-solve .solve .ensures .x-left), solved-work _ _ _ _ (at-args .args .work .now) (at-pre .pre .0) (at-pre .pre .1) refl (at-pre .pre .2) (at-pre .pre .3) _ (at-solve .solve .ensures .workspace-left))
+
+pub solve-spec : {M : Type 1} → statement M
+solve-spec =
+    tie.close
+    (tie.spec solve-requires same-length same-length-2 same-length-3 same-length-4 returns)

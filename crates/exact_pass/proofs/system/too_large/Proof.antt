@@ -1,0 +1,15 @@
+use Rattle.exact_pass.specs.Pass as def
+use native.Mathlib.Omega.{arith}
+use borrow.Author.Needs.{needs}
+use Rattle.exact_pass.proofs.system.too_large.Statement.{statement}
+use Rattle.exact_pass.proofs.system.too_large.Tie as tie
+
+abs-requires : tie.Need-abs-requires
+abs-requires c κs = search needs
+
+returns : tie.Need-returns
+unfolding def.tooLarge
+returns c = rw (c .abs .ensures)
+
+pub too-large-spec : {M : Type 1} → statement M
+too-large-spec = tie.close (tie.spec abs-requires returns)

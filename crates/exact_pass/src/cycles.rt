@@ -1,0 +1,118 @@
+// Cycles of steps: a step depends on multipliers and states alone, so a pass that comes back to those of an earlier
+// step goes round for ever, and whole rounds of the steps that are left are left out. Multipliers are marked in the
+// workspace, past least norm's part.
+ghost use mathlib.Core.Path.{_≡_};
+ghost use mathlib.Core.Bool.{true};
+ghost use Prim.Native.Nat.{_+_, _≤_, _<_};
+ghost use lib.ListN.{length, take, drop};
+ghost use Rattle.box_rows.specs.Rows as box;
+ghost use Rattle.exact_pass.specs.Pass as def;
+ghost use Rattle.exact_pass.specs.Private as private;
+use crate::Mark;
+use crate::read;
+
+// Whether two multipliers are one value, every NaN as one.
+fn same(x: f64, y: f64) -> bool
+    ensures { λ q. ⌜ (q ≡ true → x ≡ y) ⌝ }
+{
+    if x != x {
+        return y != y;
+    }
+    if y != y {
+        return false;
+    }
+    f64::to_bits(x) == f64::to_bits(y)
+}
+
+fn same_multipliers(nu: &[f64], work: &[f64]) -> bool
+    requires { ⌜ 1088 + length (now nu) ≤ length (now work) ⌝ }
+    ensures { λ q. ⌜
+        (q ≡ true → (now (nu .entry)) ≡ private.part 1088 (length (now (nu .entry))) (now (work .entry))) ⌝ }
+{
+    let n = nu.len();
+    let mut i = 0;
+    while i < n {
+        if !same(read::at(work, crate::MARKED + i), read::at(nu, i)) {
+            return false;
+        }
+        i += 1;
+    }
+    true
+}
+
+fn same_states(states: &[u8], marks: &[u8]) -> bool
+    requires { ⌜ length (now states) ≤ length (now marks) ⌝ }
+    ensures { λ q. ⌜ (q ≡ true → (now (states .entry)) ≡ take (length (now (states .entry))) (now (marks .entry))) ⌝ }
+{
+    let n = states.len();
+    let mut i = 0;
+    while i < n {
+        if read::state(marks, i) != read::state(states, i) {
+            return false;
+        }
+        i += 1;
+    }
+    true
+}
+
+// How many of the steps left are still to be made, `since` steps after the mark.
+pub fn left_after(
+    nu: &[f64],
+    states: &[u8],
+    work: &[f64],
+    marks: &[u8],
+    since: usize,
+    left: usize,
+) -> usize
+    requires { ⌜
+        (1088 + length (now nu) ≤ length (now work)) × (length (now states) ≤ length (now marks)) × (0 < since) ⌝ }
+    ensures { λ q. ⌜ ((p : box.Problem)
+        → def.steps p
+        (def.trial (private.part 1088 (length (now (nu .entry))) (now (work .entry)))
+        (take (length (now (states .entry))) (now (marks .entry))))
+        since
+        ≡ def.moved (def.trial (now (nu .entry)) (now (states .entry)))
+        → def.steps p (def.trial (now (nu .entry)) (now (states .entry))) left
+        ≡ def.steps p (def.trial (now (nu .entry)) (now (states .entry))) q)
+        × (q ≤ left) ⌝ }
+{
+    if same_states(states, marks) {
+        if same_multipliers(nu, work) {
+            return left % since;
+        }
+    }
+    left
+}
+
+// The states marked.
+pub fn mark_states(states: &[u8], marks: &mut [u8])
+    requires { ⌜ length (now states) ≤ length (now marks) ⌝ }
+    ensures { λ q. ⌜ take (length (now (states .entry))) (now (marks .exit)) ≡ (now (states .entry)) ⌝ }
+{
+    let n = states.len();
+    let mut i = 0;
+    while i < n {
+        read::put_state(marks, i, read::state(states, i));
+        i += 1;
+    }
+}
+
+// The mark is set anew after 2, 4, 8 .. steps (Brent).
+pub fn mark(nu: &[f64], states: &[u8], work: &mut [f64], marks: &mut [u8], m: Mark) -> Mark
+    requires { ⌜ (1120 ≤ length (now work)) × (length (now nu) ≤ 32) × (length (now states) ≤ length (now marks))
+        × (m .since ≤ 264) × (m .span ≤ 528) ⌝ }
+    ensures { λ q. ⌜
+        private.Marked (now (nu .entry)) (now (states .entry)) (now (work .entry)) (now (marks .entry)) (m .since)
+        (now (work .exit)) (now (marks .exit)) (q .since)
+        × (q .since ≤ m .since) × (q .span ≤ 528) × (drop 1120 (now (work .exit)) ≡ drop 1120 (now (work .entry))) ⌝ }
+{
+    if m.since < m.span {
+        return m;
+    }
+    read::copy(nu, work, crate::MARKED);
+    mark_states(states, marks);
+    Mark {
+        since: 0,
+        span: 2 * m.span,
+    }
+}

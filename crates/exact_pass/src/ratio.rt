@@ -1,0 +1,88 @@
+// The ratio test, and the step that it allows.
+ghost use mathlib.Core.Path.{_≡_};
+ghost use Prim.Native.Nat.{_≤_, _<_};
+ghost use lib.ListN.{length};
+ghost use Rattle.exact_pass.specs.Pass as def;
+ghost use Rattle.exact_pass.specs.Private as private;
+use crate::Blocking;
+use crate::read;
+
+fn nearer(a: usize, state: u8, ratio: f64, r: Blocking) -> Blocking
+    ensures { λ q. ⌜ q ≡ def.nearer a state ratio r ⌝ }
+{
+    if ratio < r.alpha {
+        return Blocking {
+            alpha: floats::larger(ratio, 0.0),
+            row: a,
+            state,
+        };
+    }
+    r
+}
+
+// Row a at v, which goes along y.
+fn ratio_row(a: usize, v: f64, y: f64, lo: f64, hi: f64, r: Blocking) -> Blocking
+    ensures { λ q. ⌜ q ≡ def.ratioRow a v y lo hi r ⌝ }
+{
+    if y > 0.0 {
+        return nearer(a, box_rows::AT_HI, (hi - v) / y, r);
+    }
+    if y < 0.0 {
+        return nearer(a, box_rows::AT_LO, (lo - v) / y, r);
+    }
+    r
+}
+
+// As far as the boxes let the free rows go along y, and no farther than alpha.
+pub fn ratio_test(
+    lo: &[f64],
+    hi: &[f64],
+    free: &[u8],
+    nu: &[f64],
+    y: &[f64],
+    alpha: f64,
+) -> Blocking
+    requires { ⌜ private.Below (length (now nu)) (now free) × (length (now free) ≤ length (now y))
+        × (length (now lo) ≡ length (now nu))
+        × (length (now hi) ≡ length (now nu)) × (0 < length (now nu)) ⌝ }
+    ensures { λ q. ⌜ (q
+        ≡ def.ratioTest (now (lo .entry)) (now (hi .entry)) (now (free .entry)) (now (nu .entry)) (now (y .entry))
+        alpha (length (now (free .entry))))
+        × (q .row < length (now (nu .entry))) ⌝ }
+{
+    let k = free.len();
+    let mut r = Blocking {
+        alpha,
+        row: 0,
+        state: box_rows::INSIDE,
+    };
+    let mut i = 0;
+    while i < k {
+        let a = read::row_number(free, i);
+        r = ratio_row(
+            a,
+            read::at(nu, a),
+            read::at(y, i),
+            read::at(lo, a),
+            read::at(hi, a),
+            r,
+        );
+        i += 1;
+    }
+    r
+}
+
+// The free rows moved by alpha along y.
+pub fn advance(free: &[u8], y: &[f64], alpha: f64, nu: &mut [f64])
+    requires { ⌜ private.Below (length (now nu)) (now free) × (length (now free) ≤ length (now y)) ⌝ }
+    ensures { λ q. ⌜ now (nu .exit)
+        ≡ def.advance (now (free .entry)) (now (y .entry)) alpha (now (nu .entry)) (length (now (free .entry))) ⌝ }
+{
+    let k = free.len();
+    let mut i = 0;
+    while i < k {
+        let a = read::row_number(free, i);
+        read::put(nu, a, read::at(nu, a) + alpha * read::at(y, i));
+        i += 1;
+    }
+}

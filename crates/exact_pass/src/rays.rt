@@ -1,0 +1,260 @@
+// The ray test: whether the problem falls without end along a direction y, and the rows where y is not zero.
+ghost use mathlib.Core.Path.{_≡_};
+ghost use mathlib.Core.Bool.{not};
+ghost use Prim.Native.Nat.{_≤_, _<_};
+ghost use lib.Dec.{eqb};
+ghost use lib.ListN.{length};
+ghost use Rattle.loops.specs.Loops.{counted, noted, fronted};
+ghost use Rattle.box_rows.specs.Rows as box;
+ghost use Rattle.box_rows.specs.Private as lists;
+ghost use Rattle.exact_pass.specs.Ray as rays;
+ghost use Rattle.exact_pass.specs.Promise as promise;
+ghost use Rattle.exact_pass.specs.Private as private;
+use crate::read;
+
+fn size(y: f64, s: f64) -> f64
+    ensures { λ q. ⌜ q ≡ rays.sizeOf y s ⌝ }
+{
+    floats::abs(y) / s
+}
+
+fn larger_row(scale: &[f64], states: &[u8], y: &[f64], a: usize, worst: f64) -> f64
+    requires { ⌜
+        (a < length (now y)) × (length (now scale) ≡ length (now y)) × (length (now states) ≡ length (now y)) ⌝ }
+    ensures { λ q. ⌜ q ≡ rays.largestRow (now (scale .entry)) (now (states .entry)) (now (y .entry)) a worst ⌝ }
+{
+    if read::state(states, a) == box_rows::IDLE {
+        return worst;
+    }
+    floats::larger(worst, size(read::at(y, a), read::at(scale, a)))
+}
+
+fn largest(scale: &[f64], states: &[u8], y: &[f64]) -> f64
+    requires { ⌜ (length (now scale) ≡ length (now y)) × (length (now states) ≡ length (now y)) ⌝ }
+    ensures { λ q. ⌜
+        q ≡ rays.largest (now (scale .entry)) (now (states .entry)) (now (y .entry)) (length (now (y .entry))) ⌝ }
+{
+    let n = y.len();
+    let mut worst = 0.0;
+    let mut a = 0;
+    while a < n {
+        worst = larger_row(scale, states, y, a, worst);
+        a += 1;
+    }
+    worst
+}
+
+// Whether a multiplier may grow without end along y.
+fn grows(y: f64, lo: f64, hi: f64) -> bool
+    ensures { λ q. ⌜ q ≡ rays.grows y lo hi ⌝ }
+{
+    let up = (y > 0.0) & (hi == 1.0 / 0.0);
+    let down = (y < 0.0) & (lo == -1.0 / 0.0);
+    up | down
+}
+
+// A row is dropped (0) where it is Idle or moves next to nothing; else it is taken (1) if it may grow, and there is no
+// ray (2) if it may not.
+fn verdict(lo: f64, hi: f64, state: u8, size: f64, y: f64, least: f64) -> u8
+    ensures { λ q. ⌜ q ≡ private.verdict (rays.dropped (not (eqb state box.idle)) size least) (rays.grows y lo hi) ⌝ }
+{
+    if state == box_rows::IDLE {
+        return 0;
+    }
+    if size <= least {
+        return 0;
+    }
+    if grows(y, lo, hi) {
+        return 1;
+    }
+    2
+}
+
+fn taken(verdict: u8, a: usize, k: usize, list: &mut [usize]) -> usize
+    requires { ⌜ (k < length (now list)) × (length (now list) ≤ 32) ⌝ }
+    ensures { λ q. ⌜
+        (q ≡ counted (eqb verdict 1) k) × (now (list .exit) ≡ noted (eqb verdict 1) (now (list .entry)) k a) ⌝ }
+{
+    if verdict == 1 {
+        read::put_number(list, k, a);
+        return k + 1;
+    }
+    k
+}
+
+fn collect(
+    lo: &[f64],
+    hi: &[f64],
+    scale: &[f64],
+    states: &[u8],
+    y: &[f64],
+    least: f64,
+    list: &mut [usize],
+) -> usize
+    requires { ⌜ (length (now y) ≤ length (now list)) × (length (now list) ≤ 32) × (length (now lo) ≡ length (now y))
+        × (length (now hi) ≡ length (now y)) × (length (now scale) ≡ length (now y))
+        × (length (now states) ≡ length (now y)) ⌝ }
+    ensures { λ q. ⌜ private.Collecting
+        (rays.collected (now (lo .entry)) (now (hi .entry)) (now (scale .entry)) (now (states .entry))
+        (now (y .entry)) least (length (now (y .entry))))
+        (now (list .entry)) (length (now (y .entry))) q (now (list .exit)) ⌝ }
+{
+    let n = y.len();
+    let mut k = 0;
+    let mut a = 0;
+    while a < n {
+        let v = verdict(
+            read::at(lo, a),
+            read::at(hi, a),
+            read::state(states, a),
+            size(read::at(y, a), read::at(scale, a)),
+            read::at(y, a),
+            least,
+        );
+        if v == 2 {
+            return 0;
+        }
+        k = taken(v, a, k, list);
+        a += 1;
+    }
+    k
+}
+
+fn linear(u_free: &[f64], y: &[f64], l: &[usize]) -> f64
+    requires { ⌜ private.Below (length (now y)) (now l) × (length (now «u_free») ≡ length (now y)) ⌝ }
+    ensures { λ q. ⌜
+        q ≡ rays.linear (now («u_free» .entry)) (now (y .entry)) (now (l .entry)) (length (now (l .entry))) ⌝ }
+{
+    let k = l.len();
+    let mut s = 0.0;
+    let mut i = 0;
+    while i < k {
+        let a = read::number(l, i);
+        s = s + read::at(u_free, a) * read::at(y, a);
+        i += 1;
+    }
+    s
+}
+
+fn quadratic_row(row: &[f64], v: f64, y: &[f64], l: &[usize], quad: f64) -> f64
+    requires { ⌜ private.Below (length (now y)) (now l) × (length (now row) ≡ length (now y)) ⌝ }
+    ensures { λ q. ⌜ q
+        ≡ rays.quadraticRow (now (row .entry)) v (now (y .entry)) (now (l .entry)) quad (length (now (l .entry))) ⌝ }
+{
+    let k = l.len();
+    let mut q = quad;
+    let mut j = 0;
+    while j < k {
+        let b = read::number(l, j);
+        q = q + v * read::at(row, b) * read::at(y, b);
+        j += 1;
+    }
+    q
+}
+
+fn quadratic(w: &[f64], y: &[f64], l: &[usize]) -> f64
+    requires { ⌜ private.Below (length (now y)) (now l) × lists.Square (now w) (length (now y)) ⌝ }
+    ensures { λ q. ⌜ q
+        ≡ rays.quadratic (now (w .entry)) (length (now (y .entry))) (now (y .entry)) (now (l .entry))
+        (length (now (l .entry))) ⌝ }
+{
+    let k = l.len();
+    let n = y.len();
+    let mut q = 0.0;
+    let mut i = 0;
+    while i < k {
+        let a = read::number(l, i);
+        q = quadratic_row(read::row(w, n, a), read::at(y, a), y, l, q);
+        i += 1;
+    }
+    q
+}
+
+fn farthest(scale: &[f64], y: &[f64], l: &[usize]) -> f64
+    requires { ⌜ private.Below (length (now y)) (now l) × (length (now scale) ≡ length (now y)) ⌝ }
+    ensures { λ q. ⌜
+        q ≡ rays.farthest (now (scale .entry)) (now (y .entry)) (now (l .entry)) (length (now (l .entry))) ⌝ }
+{
+    let k = l.len();
+    let mut worst = 0.0;
+    let mut i = 0;
+    while i < k {
+        let a = read::number(l, i);
+        worst = floats::larger(worst, size(read::at(y, a), read::at(scale, a)));
+        i += 1;
+    }
+    worst
+}
+
+// Along nu + t y the problem falls as t · lin + t² · quad / 2: without end if quad is zero, else to its least at t =
+// −lin / quad.
+fn falls(w: &[f64], u_free: &[f64], scale: &[f64], y: &[f64], l: &[usize]) -> bool
+    requires { ⌜ private.Below (length (now y)) (now l) × lists.Square (now w) (length (now y))
+        × (length (now «u_free») ≡ length (now y)) × (length (now scale) ≡ length (now y)) ⌝ }
+    ensures { λ q. ⌜ q
+        ≡ rays.isFalling (now (w .entry)) (now («u_free» .entry)) (now (scale .entry)) (now (y .entry))
+        (now (l .entry)) ⌝ }
+{
+    let lin = linear(u_free, y, l);
+    if lin >= 0.0 {
+        return false;
+    }
+    let quad = quadratic(w, y, l);
+    if quad <= 0.0 {
+        return true;
+    }
+    -lin / quad * farthest(scale, y, l) > crate::DIVERGENCE
+}
+
+fn front(l: &[usize], rows: &mut [usize])
+    requires { ⌜ length (now l) ≤ length (now rows) ⌝ }
+    ensures { λ q. ⌜ now (rows .exit) ≡ fronted (now (l .entry)) (now (rows .entry)) ⌝ }
+{
+    let k = l.len();
+    let mut i = 0;
+    while i < k {
+        read::put_number(rows, i, read::number(l, i));
+        i += 1;
+    }
+}
+
+pub fn ray(
+    w: &[f64],
+    u_free: &[f64],
+    lo: &[f64],
+    hi: &[f64],
+    scale: &[f64],
+    states: &[u8],
+    y: &[f64],
+    rows: &mut [usize],
+) -> usize
+    requires { ⌜ lists.Sized (length (now «u_free»)) (now w) (now lo) (now hi) (now scale)
+        × (length (now states) ≡ length (now «u_free»))
+        × (length (now y) ≡ length (now «u_free»)) × (length (now «u_free») ≤ length (now rows)) ⌝ }
+    ensures { λ q. ⌜ promise.Front
+        (rays.ray
+        (box.problem (now (w .entry)) (now («u_free» .entry)) (now (lo .entry)) (now (hi .entry))
+        (now (scale .entry)))
+        (now (states .entry)) (now (y .entry)))
+        (now (rows .entry)) q (now (rows .exit)) ⌝ }
+{
+    let s = largest(scale, states, y);
+    if s == 0.0 {
+        return 0;
+    }
+    let mut list = [0usize; 32];
+    let k = collect(
+        lo,
+        hi,
+        scale,
+        states,
+        y,
+        crate::EXACT_RESIDUAL * s,
+        &mut list,
+    );
+    if falls(w, u_free, scale, y, &list[..k]) {
+        front(&list[..k], rows);
+        return k;
+    }
+    0
+}

@@ -1,0 +1,66 @@
+// Where a pass starts: each row in the state that its multiplier shows, and a row on a bound exactly there.
+ghost use mathlib.Core.Path.{_≡_};
+ghost use Prim.Native.Nat.{_+_, _≤_, _<_};
+ghost use lib.ListN.{length};
+ghost use Rattle.exact_pass.specs.Pass as def;
+use crate::read;
+
+// The multiplier of a row in a state: a row on a bound has that bound.
+pub fn placed(lo: f64, hi: f64, state: u8, v: f64) -> f64
+    ensures { λ q. ⌜ q ≡ def.placed lo hi state v ⌝ }
+{
+    if state == box_rows::AT_LO {
+        return lo;
+    }
+    if state == box_rows::AT_HI {
+        return hi;
+    }
+    v
+}
+
+fn start_row(
+    lo: &[f64],
+    hi: &[f64],
+    scale: &[f64],
+    states: &mut [u8],
+    nu: &mut [f64],
+    i: usize,
+    acting: usize,
+) -> usize
+    requires { ⌜ (i < length (now nu)) × (length (now lo) ≡ length (now nu)) × (length (now hi) ≡ length (now nu))
+        × (length (now scale) ≡ length (now nu))
+        × (length (now states) ≡ length (now nu)) × (acting ≤ i) ⌝ }
+    ensures { λ q. ⌜ (def.started (now (nu .exit)) (now (states .exit)) q
+        ≡ def.startRow (now (lo .entry)) (now (hi .entry)) (now (scale .entry)) i
+        (def.started (now (nu .entry)) (now (states .entry)) acting))
+        × (q ≤ i + 1) ⌝ }
+{
+    if read::state(states, i) == box_rows::IDLE {
+        return acting;
+    }
+    let v = read::at(nu, i);
+    let s = box_rows::state_of(read::at(lo, i), read::at(hi, i), read::at(scale, i), v);
+    read::put_state(states, i, s);
+    read::put(nu, i, placed(read::at(lo, i), read::at(hi, i), s, v));
+    acting + 1
+}
+
+// How many rows act.
+pub fn start(lo: &[f64], hi: &[f64], scale: &[f64], states: &mut [u8], nu: &mut [f64]) -> usize
+    requires { ⌜ (length (now lo) ≡ length (now nu)) × (length (now hi) ≡ length (now nu))
+        × (length (now scale) ≡ length (now nu))
+        × (length (now states) ≡ length (now nu)) ⌝ }
+    ensures { λ q. ⌜ (def.started (now (nu .exit)) (now (states .exit)) q
+        ≡ def.start (now (lo .entry)) (now (hi .entry)) (now (scale .entry)) (now (nu .entry)) (now (states .entry))
+        (length (now (nu .entry))))
+        × (q ≤ length (now (nu .entry))) ⌝ }
+{
+    let n = nu.len();
+    let mut acting = 0;
+    let mut i = 0;
+    while i < n {
+        acting = start_row(lo, hi, scale, states, nu, i, acting);
+        i += 1;
+    }
+    acting
+}

@@ -1,0 +1,553 @@
+// One step of a pass, and the run of them.
+ghost use mathlib.Core.Path.{_≡_};
+ghost use mathlib.Core.List.{List};
+ghost use Prim.Native.Nat.{_*_, _≤_, _<_};
+ghost use lib.ListN.{length, drop, replicate};
+ghost use Rattle.floats.specs.Ops.{0ᶠ};
+ghost use Rattle.exact_pass.specs.Ray.{ray};
+ghost use lib.Ieee.{Float};
+ghost use Rattle.box_rows.specs.Rows as box;
+ghost use Rattle.box_rows.specs.Private as lists;
+ghost use Rattle.exact_pass.specs.Pass as def;
+ghost use Rattle.exact_pass.specs.Promise as promise;
+ghost use Rattle.exact_pass.specs.Private as private;
+use crate::Blocking;
+use crate::Exact;
+use crate::Mark;
+use crate::cycles;
+use crate::direction;
+use crate::free_rows;
+use crate::ratio;
+use crate::rays;
+use crate::read;
+use crate::release;
+use crate::start;
+use crate::system;
+
+fn scatter(free: &[u8], y: &[f64], d: &mut [f64])
+    requires { ⌜ private.Below (length (now d)) (now free) × (length (now y) ≡ length (now free)) ⌝ }
+    ensures { λ q. ⌜ now (d .exit)
+        ≡ def.scattered (now (free .entry)) (now (y .entry)) (now (d .entry)) (length (now (free .entry))) ⌝ }
+{
+    let k = free.len();
+    let mut i = 0;
+    while i < k {
+        read::put(d, read::row_number(free, i), read::at(y, i));
+        i += 1;
+    }
+}
+
+fn clear(d: &mut [f64])
+    ensures { λ q. ⌜ now (d .exit) ≡ replicate (length (now (d .entry))) 0ᶠ ⌝ }
+{
+    let n = d.len();
+    let mut i = 0;
+    while i < n {
+        read::put(d, i, 0.0);
+        i += 1;
+    }
+}
+
+// The rows of a ray along the direction y of the free rows. d is scratch for the direction of all rows.
+fn free_ray(
+    w: &[f64],
+    u_free: &[f64],
+    lo: &[f64],
+    hi: &[f64],
+    scale: &[f64],
+    states: &[u8],
+    free: &[u8],
+    y: &[f64],
+    rows: &mut [usize],
+    d: &mut [f64],
+) -> usize
+    requires { ⌜ lists.Sized (length (now «u_free»)) (now w) (now lo) (now hi) (now scale)
+        × (length (now states) ≡ length (now «u_free»))
+        × private.Below (length (now «u_free»)) (now free) × (length (now y) ≡ length (now free))
+        × (length (now «u_free») ≤ length (now rows))
+        × (length (now d) ≡ length (now «u_free»)) ⌝ }
+    ensures { λ q. ⌜ promise.Front
+        (ray
+        (box.problem (now (w .entry)) (now («u_free» .entry)) (now (lo .entry)) (now (hi .entry))
+        (now (scale .entry)))
+        (now (states .entry))
+        (def.scattered (now (free .entry)) (now (y .entry)) (replicate (length (now («u_free» .entry))) 0ᶠ)
+        (length (now (free .entry)))))
+        (now (rows .entry)) q (now (rows .exit)) ⌝ }
+{
+    clear(d);
+    scatter(free, y, d);
+    rays::ray(w, u_free, lo, hi, scale, states, d, rows)
+}
+
+// The direction y of the free rows meets no bound: no motion meets every row, or the pass has failed.
+fn unbounded(
+    w: &[f64],
+    u_free: &[f64],
+    lo: &[f64],
+    hi: &[f64],
+    scale: &[f64],
+    states: &[u8],
+    free: &[u8],
+    y: &[f64],
+    rows: &mut [usize],
+) -> Exact
+    requires { ⌜ lists.Sized (length (now «u_free»)) (now w) (now lo) (now hi) (now scale)
+        × (length (now states) ≡ length (now «u_free»))
+        × private.Below (length (now «u_free»)) (now free) × (length (now y) ≡ length (now free))
+        × (length (now «u_free») ≤ length (now rows)) ⌝ }
+    ensures { λ q. ⌜ ((v : List Float)
+        → promise.Passed
+        (def.unbounded
+        (box.problem (now (w .entry)) (now («u_free» .entry)) (now (lo .entry)) (now (hi .entry))
+        (now (scale .entry)))
+        (def.trial v (now (states .entry))) (now (free .entry)) (now (y .entry)))
+        (now (rows .entry)) q v (now (states .entry)) (now (rows .exit)))
+        ⌝ }
+{
+    let n = u_free.len();
+    let mut d = [0.0f64; 32];
+    let c = free_ray(w, u_free, lo, hi, scale, states, free, y, rows, &mut d[..n]);
+    if c == 0 {
+        return Exact::Failed;
+    }
+    Exact::Infeasible(c)
+}
+
+// The row that blocks a step is held on its bound.
+fn hold(lo: &[f64], hi: &[f64], states: &mut [u8], nu: &mut [f64], r: Blocking)
+    requires { ⌜ (r .row < length (now nu)) × (length (now lo) ≡ length (now nu)) × (length (now hi) ≡ length (now nu))
+        × (length (now states) ≡ length (now nu)) ⌝ }
+    ensures { λ q. ⌜ def.trial (now (nu .exit)) (now (states .exit))
+        ≡ def.hold (now (lo .entry)) (now (hi .entry)) (def.trial (now (nu .entry)) (now (states .entry))) r ⌝ }
+{
+    let a = r.row;
+    read::put(
+        nu,
+        a,
+        start::placed(read::at(lo, a), read::at(hi, a), r.state, read::at(nu, a)),
+    );
+    read::put_state(states, a, r.state);
+}
+
+// A step of the free rows along y, as far as the boxes let it. At its end a row is freed.
+fn take_step(
+    w: &[f64],
+    u_free: &[f64],
+    lo: &[f64],
+    hi: &[f64],
+    scale: &[f64],
+    states: &mut [u8],
+    nu: &mut [f64],
+    free: &[u8],
+    y: &[f64],
+    inconsistent: bool,
+    rows: &mut [usize],
+) -> Exact
+    requires { ⌜ lists.Sized (length (now nu)) (now w) (now lo) (now hi) (now scale)
+        × (length (now «u_free») ≡ length (now nu)) × (length (now states) ≡ length (now nu))
+        × private.Below (length (now nu)) (now free) × (length (now y) ≡ length (now free)) × (0 < length (now nu))
+        × (length (now nu) ≤ length (now rows)) ⌝ }
+    ensures { λ q. ⌜ promise.Passed
+        (def.takeStep
+        (box.problem (now (w .entry)) (now («u_free» .entry)) (now (lo .entry)) (now (hi .entry))
+        (now (scale .entry)))
+        (def.trial (now (nu .entry)) (now (states .entry))) (now (free .entry)) (now (y .entry)) inconsistent)
+        (now (rows .entry)) q (now (nu .exit)) (now (states .exit)) (now (rows .exit)) ⌝ }
+{
+    let r = ratio::ratio_test(lo, hi, free, nu, y, direction::longest(inconsistent));
+    let alpha = r.alpha;
+    if !floats::is_finite(alpha) {
+        return unbounded(w, u_free, lo, hi, scale, states, free, y, rows);
+    }
+    ratio::advance(free, y, alpha, nu);
+    if r.state == box_rows::INSIDE {
+        return release::release(w, u_free, lo, hi, scale, states, nu);
+    }
+    hold(lo, hi, states, nu, r);
+    Exact::Moved
+}
+
+// A step toward the target of the free rows.
+fn toward(
+    w: &[f64],
+    u_free: &[f64],
+    lo: &[f64],
+    hi: &[f64],
+    scale: &[f64],
+    states: &mut [u8],
+    nu: &mut [f64],
+    free: &[u8],
+    m: &mut [f64],
+    y: &mut [f64],
+    z: &mut [f64],
+    rows: &mut [usize],
+    work: &mut [f64],
+) -> Exact
+    requires { ⌜ lists.Sized (length (now nu)) (now w) (now lo) (now hi) (now scale)
+        × (length (now «u_free») ≡ length (now nu)) × (length (now states) ≡ length (now nu))
+        × private.Below (length (now nu)) (now free) × (0 < length (now nu)) × (length (now free) ≤ 32)
+        × (length (now m) ≡ length (now free) * length (now free)) × (length (now y) ≡ length (now free))
+        × (length (now z) ≡ length (now free)) × (length (now nu) ≤ length (now rows))
+        × (1120 ≤ length (now work)) ⌝ }
+    ensures { λ q. ⌜ promise.Passed
+        (def.toward
+        (box.problem (now (w .entry)) (now («u_free» .entry)) (now (lo .entry)) (now (hi .entry))
+        (now (scale .entry)))
+        (def.trial (now (nu .entry)) (now (states .entry))) (now (free .entry)))
+        (now (rows .entry)) q (now (nu .exit)) (now (states .exit)) (now (rows .exit))
+        × (drop 1088 (now (work .exit)) ≡ drop 1088 (now (work .entry))) ⌝ }
+{
+    let inconsistent = system::target(w, u_free, scale, states, nu, free, m, y, z, work);
+    direction::direction(inconsistent, scale, free, z, nu, y);
+    take_step(
+        w,
+        u_free,
+        lo,
+        hi,
+        scale,
+        states,
+        nu,
+        free,
+        y,
+        inconsistent,
+        rows,
+    )
+}
+
+fn step(
+    w: &[f64],
+    u_free: &[f64],
+    lo: &[f64],
+    hi: &[f64],
+    scale: &[f64],
+    states: &mut [u8],
+    nu: &mut [f64],
+    m: &mut [f64],
+    y: &mut [f64],
+    z: &mut [f64],
+    rows: &mut [usize],
+    work: &mut [f64],
+) -> Exact
+    requires { ⌜ lists.Sized (length (now nu)) (now w) (now lo) (now hi) (now scale)
+        × (length (now «u_free») ≡ length (now nu)) × (length (now states) ≡ length (now nu))
+        × (length (now nu) * length (now nu) ≤ length (now m)) × (length (now nu) ≤ length (now y))
+        × (length (now nu) ≤ length (now z)) × (length (now nu) ≤ length (now rows)) × (1120 ≤ length (now work)) ⌝ }
+    ensures { λ q. ⌜ promise.Passed
+        (def.stepOf
+        (box.problem (now (w .entry)) (now («u_free» .entry)) (now (lo .entry)) (now (hi .entry))
+        (now (scale .entry)))
+        (def.trial (now (nu .entry)) (now (states .entry)))
+        (def.freeRows (now (states .entry)) (length (now («u_free» .entry)))))
+        (now (rows .entry)) q (now (nu .exit)) (now (states .exit)) (now (rows .exit))
+        × (drop 1088 (now (work .exit)) ≡ drop 1088 (now (work .entry))) ⌝ }
+{
+    let mut free = [0u8; 32];
+    let k = free_rows::free_rows(states, &mut free);
+    if k == 0 {
+        return release::release(w, u_free, lo, hi, scale, states, nu);
+    }
+    let kk = k * k;
+    toward(
+        w,
+        u_free,
+        lo,
+        hi,
+        scale,
+        states,
+        nu,
+        &free[..k],
+        &mut m[..kk],
+        &mut y[..k],
+        &mut z[..k],
+        rows,
+        work,
+    )
+}
+
+fn moved(e: Exact) -> bool
+    ensures { λ q. ⌜ q ≡ private.isMoved e ⌝ }
+{
+    match e {
+        Exact::Moved => true,
+        Exact::Found => false,
+        Exact::Failed => false,
+        Exact::Infeasible(_) => false,
+    }
+}
+
+// At most so many steps; each is held against the multipliers and states marked, so that a cycle is found.
+fn run(
+    w: &[f64],
+    u_free: &[f64],
+    lo: &[f64],
+    hi: &[f64],
+    scale: &[f64],
+    states: &mut [u8],
+    nu: &mut [f64],
+    matrix: &mut [f64],
+    y: &mut [f64],
+    z: &mut [f64],
+    rows: &mut [usize],
+    work: &mut [f64],
+    most: usize,
+) -> Exact
+    requires { ⌜ lists.Sized (length (now nu)) (now w) (now lo) (now hi) (now scale)
+        × (length (now «u_free») ≡ length (now nu)) × (length (now states) ≡ length (now nu))
+        × (length (now nu) * length (now nu) ≤ length (now matrix)) × (length (now nu) ≤ length (now y))
+        × (length (now nu) ≤ length (now z)) × (length (now nu) ≤ length (now rows)) × (1120 ≤ length (now work))
+        × (most ≤ 264) ⌝ }
+    ensures { λ q. ⌜ promise.Passed
+        (def.closed
+        (def.steps
+        (box.problem (now (w .entry)) (now («u_free» .entry)) (now (lo .entry)) (now (hi .entry))
+        (now (scale .entry)))
+        (def.trial (now (nu .entry)) (now (states .entry))) most))
+        (now (rows .entry)) q (now (nu .exit)) (now (states .exit)) (now (rows .exit))
+        × (drop 1120 (now (work .exit)) ≡ drop 1120 (now (work .entry))) ⌝ }
+{
+    let mut marks = [0u8; 32];
+    read::copy(nu, work, crate::MARKED);
+    cycles::mark_states(states, &mut marks);
+    let mut m = Mark { since: 0, span: 2 };
+    let mut left = most;
+    while left > 0 {
+        let e = step(
+            w,
+            u_free,
+            lo,
+            hi,
+            scale,
+            states,
+            nu,
+            matrix,
+            y,
+            z,
+            rows,
+            work,
+        );
+        if !moved(e) {
+            return e;
+        }
+        let since = m.since + 1;
+        let span = m.span;
+        left = cycles::left_after(nu, states, work, &marks, since, left - 1);
+        m = cycles::mark(nu, states, work, &mut marks, Mark { since, span });
+    }
+    Exact::Failed
+}
+
+fn pass_2(
+    w: &[f64],
+    u_free: &[f64],
+    lo: &[f64],
+    hi: &[f64],
+    scale: &[f64],
+    states: &mut [u8],
+    nu: &mut [f64],
+    rows: &mut [usize],
+    work: &mut [f64],
+    most: usize,
+) -> Exact
+    requires { ⌜ lists.Sized (length (now nu)) (now w) (now lo) (now hi) (now scale)
+        × (length (now «u_free») ≡ length (now nu)) × (length (now states) ≡ length (now nu))
+        × (length (now nu) ≤ 2) × (length (now nu) ≤ length (now rows)) × (1120 ≤ length (now work)) × (most ≤ 264) ⌝ }
+    ensures { λ q. ⌜ promise.Passed
+        (def.closed
+        (def.steps
+        (box.problem (now (w .entry)) (now («u_free» .entry)) (now (lo .entry)) (now (hi .entry))
+        (now (scale .entry)))
+        (def.trial (now (nu .entry)) (now (states .entry))) most))
+        (now (rows .entry)) q (now (nu .exit)) (now (states .exit)) (now (rows .exit))
+        × (drop 1120 (now (work .exit)) ≡ drop 1120 (now (work .entry))) ⌝ }
+{
+    let mut m = [0.0f64; 4];
+    let mut y = [0.0f64; 2];
+    let mut z = [0.0f64; 2];
+    run(
+        w,
+        u_free,
+        lo,
+        hi,
+        scale,
+        states,
+        nu,
+        &mut m,
+        &mut y,
+        &mut z,
+        rows,
+        work,
+        most,
+    )
+}
+
+fn pass_8(
+    w: &[f64],
+    u_free: &[f64],
+    lo: &[f64],
+    hi: &[f64],
+    scale: &[f64],
+    states: &mut [u8],
+    nu: &mut [f64],
+    rows: &mut [usize],
+    work: &mut [f64],
+    most: usize,
+) -> Exact
+    requires { ⌜ lists.Sized (length (now nu)) (now w) (now lo) (now hi) (now scale)
+        × (length (now «u_free») ≡ length (now nu)) × (length (now states) ≡ length (now nu))
+        × (length (now nu) ≤ 8) × (length (now nu) ≤ length (now rows)) × (1120 ≤ length (now work)) × (most ≤ 264) ⌝ }
+    ensures { λ q. ⌜ promise.Passed
+        (def.closed
+        (def.steps
+        (box.problem (now (w .entry)) (now («u_free» .entry)) (now (lo .entry)) (now (hi .entry))
+        (now (scale .entry)))
+        (def.trial (now (nu .entry)) (now (states .entry))) most))
+        (now (rows .entry)) q (now (nu .exit)) (now (states .exit)) (now (rows .exit))
+        × (drop 1120 (now (work .exit)) ≡ drop 1120 (now (work .entry))) ⌝ }
+{
+    let mut m = [0.0f64; 64];
+    let mut y = [0.0f64; 8];
+    let mut z = [0.0f64; 8];
+    run(
+        w,
+        u_free,
+        lo,
+        hi,
+        scale,
+        states,
+        nu,
+        &mut m,
+        &mut y,
+        &mut z,
+        rows,
+        work,
+        most,
+    )
+}
+
+fn pass_16(
+    w: &[f64],
+    u_free: &[f64],
+    lo: &[f64],
+    hi: &[f64],
+    scale: &[f64],
+    states: &mut [u8],
+    nu: &mut [f64],
+    rows: &mut [usize],
+    work: &mut [f64],
+    most: usize,
+) -> Exact
+    requires { ⌜ lists.Sized (length (now nu)) (now w) (now lo) (now hi) (now scale)
+        × (length (now «u_free») ≡ length (now nu)) × (length (now states) ≡ length (now nu))
+        × (length (now nu) ≤ 16) × (length (now nu) ≤ length (now rows)) × (1120 ≤ length (now work)) × (most ≤ 264) ⌝ }
+    ensures { λ q. ⌜ promise.Passed
+        (def.closed
+        (def.steps
+        (box.problem (now (w .entry)) (now («u_free» .entry)) (now (lo .entry)) (now (hi .entry))
+        (now (scale .entry)))
+        (def.trial (now (nu .entry)) (now (states .entry))) most))
+        (now (rows .entry)) q (now (nu .exit)) (now (states .exit)) (now (rows .exit))
+        × (drop 1120 (now (work .exit)) ≡ drop 1120 (now (work .entry))) ⌝ }
+{
+    let mut m = [0.0f64; 256];
+    let mut y = [0.0f64; 16];
+    let mut z = [0.0f64; 16];
+    run(
+        w,
+        u_free,
+        lo,
+        hi,
+        scale,
+        states,
+        nu,
+        &mut m,
+        &mut y,
+        &mut z,
+        rows,
+        work,
+        most,
+    )
+}
+
+fn pass_32(
+    w: &[f64],
+    u_free: &[f64],
+    lo: &[f64],
+    hi: &[f64],
+    scale: &[f64],
+    states: &mut [u8],
+    nu: &mut [f64],
+    rows: &mut [usize],
+    work: &mut [f64],
+    most: usize,
+) -> Exact
+    requires { ⌜ lists.Sized (length (now nu)) (now w) (now lo) (now hi) (now scale)
+        × (length (now «u_free») ≡ length (now nu)) × (length (now states) ≡ length (now nu))
+        × (length (now nu) ≤ 32) × (length (now nu) ≤ length (now rows)) × (1120 ≤ length (now work)) × (most ≤ 264) ⌝ }
+    ensures { λ q. ⌜ promise.Passed
+        (def.closed
+        (def.steps
+        (box.problem (now (w .entry)) (now («u_free» .entry)) (now (lo .entry)) (now (hi .entry))
+        (now (scale .entry)))
+        (def.trial (now (nu .entry)) (now (states .entry))) most))
+        (now (rows .entry)) q (now (nu .exit)) (now (states .exit)) (now (rows .exit))
+        × (drop 1120 (now (work .exit)) ≡ drop 1120 (now (work .entry))) ⌝ }
+{
+    let mut m = [0.0f64; 1024];
+    let mut y = [0.0f64; 32];
+    let mut z = [0.0f64; 32];
+    run(
+        w,
+        u_free,
+        lo,
+        hi,
+        scale,
+        states,
+        nu,
+        &mut m,
+        &mut y,
+        &mut z,
+        rows,
+        work,
+        most,
+    )
+}
+
+// A pass makes at most 8 steps for each row that acts, and 8. Its scratch has one of four sizes, so that a small
+// problem does not clear nine kilobytes.
+pub fn pass(
+    w: &[f64],
+    u_free: &[f64],
+    lo: &[f64],
+    hi: &[f64],
+    scale: &[f64],
+    states: &mut [u8],
+    nu: &mut [f64],
+    rows: &mut [usize],
+    work: &mut [f64],
+) -> Exact
+    requires { ⌜ lists.Sized (length (now nu)) (now w) (now lo) (now hi) (now scale)
+        × (length (now «u_free») ≡ length (now nu)) × (length (now states) ≡ length (now nu))
+        × (length (now nu) ≤ length (now rows)) × (1120 ≤ length (now work)) ⌝ }
+    ensures { λ q. ⌜ promise.Passed
+        (def.exactPass
+        (box.problem (now (w .entry)) (now («u_free» .entry)) (now (lo .entry)) (now (hi .entry))
+        (now (scale .entry)))
+        (now (states .entry)) (now (nu .entry)))
+        (now (rows .entry)) q (now (nu .exit)) (now (states .exit)) (now (rows .exit))
+        × (drop 1120 (now (work .exit)) ≡ drop 1120 (now (work .entry))) ⌝ }
+{
+    let n = nu.len();
+    let acting = start::start(lo, hi, scale, states, nu);
+    let most = 8 * acting + 8;
+    if n <= 2 {
+        return pass_2(w, u_free, lo, hi, scale, states, nu, rows, work, most);
+    }
+    if n > 16 {
+        return pass_32(w, u_free, lo, hi, scale, states, nu, rows, work, most);
+    }
+    if n > 8 {
+        return pass_16(w, u_free, lo, hi, scale, states, nu, rows, work, most);
+    }
+    pass_8(w, u_free, lo, hi, scale, states, nu, rows, work, most)
+}

@@ -1,0 +1,208 @@
+// The system of the free rows, W_ss diag(s) z = −(u_free_s + W_s,held ν_held), its solution of least norm, and what
+// that leaves of it.
+ghost use mathlib.Core.Path.{_≡_};
+ghost use mathlib.Core.Bool.{cond};
+ghost use Prim.Native.Nat.{_*_, _≤_};
+ghost use lib.Dec.{eqb};
+ghost use lib.ListN.{length, drop};
+ghost use Rattle.floats.specs.Ops.{_⊖_, _⊗_, at};
+ghost use Rattle.least_norm.specs.LeastNorm.{leastNorm};
+ghost use Rattle.box_rows.specs.Rows as box;
+ghost use Rattle.box_rows.specs.Private as lists;
+ghost use Rattle.exact_pass.specs.Pass as def;
+ghost use Rattle.exact_pass.specs.Private as private;
+use crate::read;
+
+fn right_hand_cell(state: u8, w: f64, v: f64, s: f64) -> f64
+    ensures { λ q. ⌜ q ≡ cond (eqb state box.inside) s (s ⊖ w ⊗ v) ⌝ }
+{
+    if state == box_rows::INSIDE {
+        return s;
+    }
+    s - w * v
+}
+
+fn right_hand_row(row: &[f64], states: &[u8], nu: &[f64], u: f64) -> f64
+    requires { ⌜ (length (now row) ≡ length (now nu)) × (length (now states) ≡ length (now nu)) ⌝ }
+    ensures { λ q. ⌜ q
+        ≡ def.rightHandRow (now (row .entry)) (now (states .entry)) (now (nu .entry)) u (length (now (nu .entry))) ⌝ }
+{
+    let n = nu.len();
+    let mut s = -u;
+    let mut j = 0;
+    while j < n {
+        s = right_hand_cell(read::state(states, j), read::at(row, j), read::at(nu, j), s);
+        j += 1;
+    }
+    s
+}
+
+pub fn right_hand_side(
+    w: &[f64],
+    u_free: &[f64],
+    states: &[u8],
+    nu: &[f64],
+    free: &[u8],
+    rhs: &mut [f64],
+)
+    requires { ⌜ lists.Square (now w) (length (now nu)) × (length (now «u_free») ≡ length (now nu))
+        × (length (now states) ≡ length (now nu))
+        × private.Below (length (now nu)) (now free) × (length (now rhs) ≡ length (now free)) ⌝ }
+    ensures { λ q. ⌜ now (rhs .exit)
+        ≡ def.rightHandSide (now (w .entry)) (now («u_free» .entry)) (now (states .entry)) (now (nu .entry))
+        (now (free .entry)) (length (now (free .entry))) ⌝ }
+{
+    let k = free.len();
+    let n = nu.len();
+    let mut i = 0;
+    while i < k {
+        let a = read::row_number(free, i);
+        let s = right_hand_row(read::row(w, n, a), states, nu, read::at(u_free, a));
+        read::put(rhs, i, s);
+        i += 1;
+    }
+}
+
+fn matrix_row(row: &[f64], scale: &[f64], free: &[u8], out: &mut [f64])
+    requires { ⌜ (length (now row) ≡ length (now scale)) × private.Below (length (now scale)) (now free)
+        × (length (now out) ≡ length (now free)) ⌝ }
+    ensures { λ q. ⌜ now (out .exit)
+        ≡ def.matrixRow (now (row .entry)) (now (scale .entry)) (now (free .entry)) (length (now (free .entry))) ⌝ }
+{
+    let k = free.len();
+    let mut j = 0;
+    while j < k {
+        let b = read::row_number(free, j);
+        read::put(out, j, read::at(row, b) * read::at(scale, b));
+        j += 1;
+    }
+}
+
+pub fn matrix(w: &[f64], scale: &[f64], free: &[u8], m: &mut [f64])
+    requires { ⌜ lists.Square (now w) (length (now scale)) × private.Below (length (now scale)) (now free)
+        × (length (now free) ≤ 32)
+        × (length (now m) ≡ length (now free) * length (now free)) ⌝ }
+    ensures { λ q. ⌜ now (m .exit)
+        ≡ def.matrix (now (w .entry)) (now (scale .entry)) (now (free .entry)) (length (now (free .entry))) ⌝ }
+{
+    let k = free.len();
+    let n = scale.len();
+    let mut i = 0;
+    while i < k {
+        let a = i * k;
+        let e = a + k;
+        matrix_row(
+            read::row(w, n, read::row_number(free, i)),
+            scale,
+            free,
+            &mut m[a..e],
+        );
+        i += 1;
+    }
+}
+
+fn residual_row(row: &[f64], scale: &[f64], free: &[u8], z: &[f64], b: f64) -> f64
+    requires { ⌜ (length (now row) ≡ length (now scale)) × private.Below (length (now scale)) (now free)
+        × (length (now z) ≡ length (now free)) ⌝ }
+    ensures { λ q. ⌜ q
+        ≡ def.residualRow (now (row .entry)) (now (scale .entry)) (now (free .entry)) (now (z .entry)) b
+        (length (now (free .entry))) ⌝ }
+{
+    let k = free.len();
+    let mut s = -b;
+    let mut j = 0;
+    while j < k {
+        let c = read::row_number(free, j);
+        s = s + read::at(row, c) * read::at(scale, c) * read::at(z, j);
+        j += 1;
+    }
+    s
+}
+
+// Whether r, what is left of a row of diagonal d and scale s, is too much.
+fn too_large(r: f64, d: f64, s: f64) -> bool
+    ensures { λ q. ⌜ q ≡ def.tooLarge r d s ⌝ }
+{
+    floats::abs(r / d) / s > crate::EXACT_RESIDUAL
+}
+
+// y is minus what z leaves of each row, whose right-hand side is in the workspace; whether some row's is too large.
+fn residual(w: &[f64], scale: &[f64], free: &[u8], work: &[f64], z: &[f64], y: &mut [f64]) -> bool
+    requires { ⌜ lists.Square (now w) (length (now scale)) × private.Below (length (now scale)) (now free)
+        × (length (now z) ≡ length (now free))
+        × (length (now y) ≡ length (now free)) × (length (now free) ≤ 32) × (1120 ≤ length (now work)) ⌝ }
+    ensures { λ q. ⌜ (now (y .exit)
+        ≡ def.downhill (now (w .entry)) (now (scale .entry)) (now (free .entry))
+        (private.part 1056 (length (now (free .entry))) (now (work .entry))) (now (z .entry))
+        (length (now (free .entry))))
+        ×
+        (q
+        ≡ def.inconsistent (now (w .entry)) (now (scale .entry)) (now (free .entry))
+        (private.part 1056 (length (now (free .entry))) (now (work .entry))) (now (z .entry))
+        (length (now (free .entry))))
+        ⌝ }
+{
+    let k = free.len();
+    let n = scale.len();
+    let mut inconsistent = false;
+    let mut i = 0;
+    while i < k {
+        let a = read::row_number(free, i);
+        let row = read::row(w, n, a);
+        let r = residual_row(
+            row,
+            scale,
+            free,
+            z,
+            read::at(work, crate::RIGHT_HAND_SIDE + i),
+        );
+        read::put(y, i, -r);
+        inconsistent = inconsistent | too_large(r, read::at(row, a), read::at(scale, a));
+        i += 1;
+    }
+    inconsistent
+}
+
+// A least-norm call that fits: k rows and columns.
+fn solve(m: &mut [f64], b: &mut [f64], z: &mut [f64], work: &mut [f64])
+    requires { ⌜
+        (length (now b) ≤ 32) × (length (now m) ≡ length (now b) * length (now b)) × (length (now z) ≡ length (now b))
+        × (1056 ≤ length (now work)) ⌝ }
+    ensures { λ q. ⌜ (now (z .exit)
+        ≡ leastNorm (length (now (b .entry))) (length (now (b .entry))) (now (m .entry)) (now (b .entry)) .x)
+        × (drop 1056 (now (work .exit)) ≡ drop 1056 (now (work .entry))) ⌝ }
+{
+    let k = b.len();
+    least_norm::LeastNorm::solve(m, k, k, b, z, work);
+}
+
+// The solution z of least norm, and in y minus what it leaves of the system; whether that is too large, so that no
+// multipliers make the free rows still.
+pub fn target(
+    w: &[f64],
+    u_free: &[f64],
+    scale: &[f64],
+    states: &[u8],
+    nu: &[f64],
+    free: &[u8],
+    m: &mut [f64],
+    y: &mut [f64],
+    z: &mut [f64],
+    work: &mut [f64],
+) -> bool
+    requires { ⌜ lists.Square (now w) (length (now nu)) × (length (now «u_free») ≡ length (now nu))
+        × (length (now scale) ≡ length (now nu)) × (length (now states) ≡ length (now nu))
+        × private.Below (length (now nu)) (now free) × (length (now free) ≤ 32)
+        × (length (now m) ≡ length (now free) * length (now free))
+        × (length (now y) ≡ length (now free)) × (length (now z) ≡ length (now free)) × (1120 ≤ length (now work)) ⌝ }
+    ensures { λ q. ⌜ (def.targeted (now (z .exit)) (now (y .exit)) q
+        ≡ def.target (now (w .entry)) (now («u_free» .entry)) (now (scale .entry)) (now (states .entry))
+        (now (nu .entry)) (now (free .entry)))
+        × (drop 1088 (now (work .exit)) ≡ drop 1088 (now (work .entry))) ⌝ }
+{
+    right_hand_side(w, u_free, states, nu, free, y);
+    read::copy(y, work, crate::RIGHT_HAND_SIDE);
+    matrix(w, scale, free, m);
+    solve(m, y, z, work);
+    residual(w, scale, free, work, z, y)
+}

@@ -1,3 +1,0 @@
-pub mod Rays
-pub mod Gathers
-pub mod Private
