@@ -64,7 +64,7 @@ class Commands(unittest.TestCase):
 
     def test_a_line_a_crate(self):
         self.with_python()
-        self.program("rt", "echo 'rt: loops proved (1 s)'\necho noise\necho 'rt: floats proved (unchanged since it was last proved)'\necho 'rt: cells proved (5 s)'\n")
+        self.program("rt", "echo 'rt: loops proved (1 s)'\necho noise\necho 'rt: floats proved (unchanged since it was last proved)'\necho 'rt: least_norm proved (5 s)'\n")
         said = self.run_with(EXAMPLE).stdout
         self.assertRegex(said, r"(?m)^loops proved \(1 s\), (\d+) left$")
         after = re.findall(r"(?m)^\w+ proved \(\d+ s\), (\d+) left$", said)
