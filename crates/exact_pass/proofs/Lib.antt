@@ -1,5 +1,6 @@
 pub mod Rows
 pub mod Systems
+pub mod OneWalk
 pub mod Collecting
 pub mod Releases
 pub mod Periods

@@ -1,4 +1,5 @@
 pub mod Ray
+pub mod Walk
 pub mod Pass
 pub mod Promise
 pub mod Private

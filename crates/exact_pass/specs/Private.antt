@@ -7,7 +7,7 @@ use lib.ListN.{getD, length, take, drop}
 use lib.Ieee.{Float}
 use Rattle.box_rows.specs.Rows as box
 use Rattle.exact_pass.specs.Pass as def
-use Rattle.exact_pass.specs.Ray as rays
+use Rattle.exact_pass.specs.Walk as walks
 use Rattle.exact_pass.specs.Promise.{Front}
 use Rattle.exact_pass.specs.declared.Exact.{Exact}
 use Rattle.exact_pass.specs.declared.Exact.the-variants.{Moved, Found, Failed, Infeasible}
@@ -42,10 +42,11 @@ part a k work = take k (drop a work)
 unfoldable pub verdict : Bool → Bool → ℕ
 verdict drop grow = cond drop 0 (cond grow 1 2)
 
--- the rows collected among the first n, at the front of a list that was l₀; none is 0 rows, whatever the list holds then
-pub data Collecting (c : rays.Collected) (l₀ : List ℕ) (n k : ℕ) (l : List ℕ) : Type 0 where
-  nothing : c ≡ rays.none → k ≡ 0 → Collecting c l₀ n k l
-  some : (f : List ℕ) → c ≡ rays.these f → Front f l₀ k l → k ≤ n → Below n f → Collecting c l₀ n k l
+-- the rows of a walk over the first n, at the front of a list that was l₀, and their farthest; none is 0 rows,
+-- whatever else is left then
+pub data Collecting (c : walks.Walked) (l₀ : List ℕ) (n k : ℕ) (far : Float) (l : List ℕ) : Type 0 where
+  nothing : c ≡ walks.none → k ≡ 0 → Collecting c l₀ n k far l
+  some : (f : List ℕ) → c ≡ walks.these f far → Front f l₀ k l → k ≤ n → Below n f → Collecting c l₀ n k far l
 
 -- The multipliers and states marked, from which the pass came to nu and st: after so many steps before, and after.
 abbrev pub Marked : List Float → List ℕ → List Float → List ℕ → ℕ → List Float → List ℕ → ℕ → Type 0

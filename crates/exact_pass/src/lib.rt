@@ -55,6 +55,12 @@ pub struct Worst {
     pub row: usize,
 }
 
+// How many rows a ray has, and the farthest of them over its scale.
+pub struct Collected {
+    pub count: usize,
+    pub farthest: f64,
+}
+
 // How many steps were made since multipliers and states were marked, and how many are made before they are marked anew.
 pub struct Mark {
     pub since: usize,

@@ -1,15 +1,18 @@
 // The ray test: whether the problem falls without end along a direction y, and the rows where y is not zero.
 ghost use mathlib.Core.Path.{_≡_};
-ghost use mathlib.Core.Bool.{not};
+ghost use mathlib.Core.Bool.{not, cond};
 ghost use Prim.Native.Nat.{_≤_, _<_};
 ghost use lib.Dec.{eqb};
 ghost use lib.ListN.{length};
 ghost use Rattle.loops.specs.Loops.{counted, noted, fronted};
+ghost use Rattle.floats.specs.Helpers.{larger};
 ghost use Rattle.box_rows.specs.Rows as box;
 ghost use Rattle.box_rows.specs.Private as lists;
 ghost use Rattle.exact_pass.specs.Ray as rays;
+ghost use Rattle.exact_pass.specs.Walk as walks;
 ghost use Rattle.exact_pass.specs.Promise as promise;
 ghost use Rattle.exact_pass.specs.Private as private;
+use crate::Collected;
 use crate::read;
 
 fn size(y: f64, s: f64) -> f64
@@ -19,8 +22,8 @@ fn size(y: f64, s: f64) -> f64
 }
 
 fn larger_row(scale: &[f64], states: &[u8], y: &[f64], a: usize, worst: f64) -> f64
-    requires { ⌜
-        (a < length (now y)) × (length (now scale) ≡ length (now y)) × (length (now states) ≡ length (now y)) ⌝ }
+    requires { ⌜ (a < length (now y)) × (length (now scale) ≡ length (now y))
+        × (length (now states) ≡ length (now y)) ⌝ }
     ensures { λ q. ⌜ q ≡ rays.largestRow (now (scale .entry)) (now (states .entry)) (now (y .entry)) a worst ⌝ }
 {
     if read::state(states, a) == box_rows::IDLE {
@@ -31,8 +34,8 @@ fn larger_row(scale: &[f64], states: &[u8], y: &[f64], a: usize, worst: f64) -> 
 
 fn largest(scale: &[f64], states: &[u8], y: &[f64]) -> f64
     requires { ⌜ (length (now scale) ≡ length (now y)) × (length (now states) ≡ length (now y)) ⌝ }
-    ensures { λ q. ⌜
-        q ≡ rays.largest (now (scale .entry)) (now (states .entry)) (now (y .entry)) (length (now (y .entry))) ⌝ }
+    ensures { λ q. ⌜ q ≡ rays.largest (now (scale .entry)) (now (states .entry)) (now (y .entry))
+        (length (now (y .entry))) ⌝ }
 {
     let n = y.len();
     let mut worst = 0.0;
@@ -72,8 +75,8 @@ fn verdict(lo: f64, hi: f64, state: u8, size: f64, y: f64, least: f64) -> u8
 
 fn taken(verdict: u8, a: usize, k: usize, list: &mut [usize]) -> usize
     requires { ⌜ (k < length (now list)) × (length (now list) ≤ 32) ⌝ }
-    ensures { λ q. ⌜
-        (q ≡ counted (eqb verdict 1) k) × (now (list .exit) ≡ noted (eqb verdict 1) (now (list .entry)) k a) ⌝ }
+    ensures { λ q. ⌜ (q ≡ counted (eqb verdict 1) k)
+        × (now (list .exit) ≡ noted (eqb verdict 1) (now (list .entry)) k a) ⌝ }
 {
     if verdict == 1 {
         read::put_number(list, k, a);
@@ -82,6 +85,17 @@ fn taken(verdict: u8, a: usize, k: usize, list: &mut [usize]) -> usize
     k
 }
 
+// A row that is dropped does not count for the farthest.
+fn farther(verdict: u8, size: f64, far: f64) -> f64
+    ensures { λ q. ⌜ q ≡ cond (eqb verdict 1) (larger far size) far ⌝ }
+{
+    if verdict == 1 {
+        return floats::larger(far, size);
+    }
+    far
+}
+
+// The rows that count and their farthest, in one walk: no row where one that counts may not grow.
 fn collect(
     lo: &[f64],
     hi: &[f64],
@@ -90,40 +104,49 @@ fn collect(
     y: &[f64],
     least: f64,
     list: &mut [usize],
-) -> usize
+) -> Collected
     requires { ⌜ (length (now y) ≤ length (now list)) × (length (now list) ≤ 32) × (length (now lo) ≡ length (now y))
         × (length (now hi) ≡ length (now y)) × (length (now scale) ≡ length (now y))
         × (length (now states) ≡ length (now y)) ⌝ }
     ensures { λ q. ⌜ private.Collecting
-        (rays.collected (now (lo .entry)) (now (hi .entry)) (now (scale .entry)) (now (states .entry))
-        (now (y .entry)) least (length (now (y .entry))))
-        (now (list .entry)) (length (now (y .entry))) q (now (list .exit)) ⌝ }
+        (walks.walked (now (lo .entry)) (now (hi .entry)) (now (scale .entry)) (now (states .entry)) (now (y .entry))
+        least (length (now (y .entry))))
+        (now (list .entry)) (length (now (y .entry))) (q .count) (q .farthest) (now (list .exit)) ⌝ }
 {
     let n = y.len();
     let mut k = 0;
+    let mut far = 0.0;
     let mut a = 0;
     while a < n {
+        let row_size = size(read::at(y, a), read::at(scale, a));
         let v = verdict(
             read::at(lo, a),
             read::at(hi, a),
             read::state(states, a),
-            size(read::at(y, a), read::at(scale, a)),
+            row_size,
             read::at(y, a),
             least,
         );
         if v == 2 {
-            return 0;
+            return Collected {
+                count: 0,
+                farthest: 0.0,
+            };
         }
+        far = farther(v, row_size, far);
         k = taken(v, a, k, list);
         a += 1;
     }
-    k
+    Collected {
+        count: k,
+        farthest: far,
+    }
 }
 
 fn linear(u_free: &[f64], y: &[f64], l: &[usize]) -> f64
     requires { ⌜ private.Below (length (now y)) (now l) × (length (now «u_free») ≡ length (now y)) ⌝ }
-    ensures { λ q. ⌜
-        q ≡ rays.linear (now («u_free» .entry)) (now (y .entry)) (now (l .entry)) (length (now (l .entry))) ⌝ }
+    ensures { λ q. ⌜ q ≡ rays.linear (now («u_free» .entry)) (now (y .entry)) (now (l .entry))
+        (length (now (l .entry))) ⌝ }
 {
     let k = l.len();
     let mut s = 0.0;
@@ -138,8 +161,8 @@ fn linear(u_free: &[f64], y: &[f64], l: &[usize]) -> f64
 
 fn quadratic_row(row: &[f64], v: f64, y: &[f64], l: &[usize], quad: f64) -> f64
     requires { ⌜ private.Below (length (now y)) (now l) × (length (now row) ≡ length (now y)) ⌝ }
-    ensures { λ q. ⌜ q
-        ≡ rays.quadraticRow (now (row .entry)) v (now (y .entry)) (now (l .entry)) quad (length (now (l .entry))) ⌝ }
+    ensures { λ q. ⌜ q ≡ rays.quadraticRow (now (row .entry)) v (now (y .entry)) (now (l .entry)) quad
+        (length (now (l .entry))) ⌝ }
 {
     let k = l.len();
     let mut q = quad;
@@ -154,8 +177,7 @@ fn quadratic_row(row: &[f64], v: f64, y: &[f64], l: &[usize], quad: f64) -> f64
 
 fn quadratic(w: &[f64], y: &[f64], l: &[usize]) -> f64
     requires { ⌜ private.Below (length (now y)) (now l) × lists.Square (now w) (length (now y)) ⌝ }
-    ensures { λ q. ⌜ q
-        ≡ rays.quadratic (now (w .entry)) (length (now (y .entry))) (now (y .entry)) (now (l .entry))
+    ensures { λ q. ⌜ q ≡ rays.quadratic (now (w .entry)) (length (now (y .entry))) (now (y .entry)) (now (l .entry))
         (length (now (l .entry))) ⌝ }
 {
     let k = l.len();
@@ -170,30 +192,16 @@ fn quadratic(w: &[f64], y: &[f64], l: &[usize]) -> f64
     q
 }
 
-fn farthest(scale: &[f64], y: &[f64], l: &[usize]) -> f64
-    requires { ⌜ private.Below (length (now y)) (now l) × (length (now scale) ≡ length (now y)) ⌝ }
-    ensures { λ q. ⌜
-        q ≡ rays.farthest (now (scale .entry)) (now (y .entry)) (now (l .entry)) (length (now (l .entry))) ⌝ }
-{
-    let k = l.len();
-    let mut worst = 0.0;
-    let mut i = 0;
-    while i < k {
-        let a = read::number(l, i);
-        worst = floats::larger(worst, size(read::at(y, a), read::at(scale, a)));
-        i += 1;
-    }
-    worst
-}
-
-// Along nu + t y the problem falls as t · lin + t² · quad / 2: without end if quad is zero, else to its least at t =
-// −lin / quad.
-fn falls(w: &[f64], u_free: &[f64], scale: &[f64], y: &[f64], l: &[usize]) -> bool
+// Along nu + t y the problem falls as t · lin + t² · quad / 2: without end if quad is zero, else to its least at
+// t = −lin / quad.
+fn falls(w: &[f64], u_free: &[f64], y: &[f64], l: &[usize], far: f64) -> bool
     requires { ⌜ private.Below (length (now y)) (now l) × lists.Square (now w) (length (now y))
-        × (length (now «u_free») ≡ length (now y)) × (length (now scale) ≡ length (now y)) ⌝ }
-    ensures { λ q. ⌜ q
-        ≡ rays.isFalling (now (w .entry)) (now («u_free» .entry)) (now (scale .entry)) (now (y .entry))
-        (now (l .entry)) ⌝ }
+        × (length (now «u_free») ≡ length (now y)) ⌝ }
+    ensures { λ q. ⌜ q ≡ rays.falls
+        (rays.linear (now («u_free» .entry)) (now (y .entry)) (now (l .entry)) (length (now (l .entry))))
+        (rays.quadratic (now (w .entry)) (length (now («u_free» .entry))) (now (y .entry)) (now (l .entry))
+        (length (now (l .entry))))
+        far ⌝ }
 {
     let lin = linear(u_free, y, l);
     if lin >= 0.0 {
@@ -203,7 +211,7 @@ fn falls(w: &[f64], u_free: &[f64], scale: &[f64], y: &[f64], l: &[usize]) -> bo
     if quad <= 0.0 {
         return true;
     }
-    -lin / quad * farthest(scale, y, l) > crate::DIVERGENCE
+    -lin / quad * far > crate::DIVERGENCE
 }
 
 fn front(l: &[usize], rows: &mut [usize])
@@ -233,8 +241,7 @@ pub fn ray(
         × (length (now y) ≡ length (now «u_free»)) × (length (now «u_free») ≤ length (now rows)) ⌝ }
     ensures { λ q. ⌜ promise.Front
         (rays.ray
-        (box.problem (now (w .entry)) (now («u_free» .entry)) (now (lo .entry)) (now (hi .entry))
-        (now (scale .entry)))
+        (box.problem (now (w .entry)) (now («u_free» .entry)) (now (lo .entry)) (now (hi .entry)) (now (scale .entry)))
         (now (states .entry)) (now (y .entry)))
         (now (rows .entry)) q (now (rows .exit)) ⌝ }
 {
@@ -243,7 +250,7 @@ pub fn ray(
         return 0;
     }
     let mut list = [0usize; 32];
-    let k = collect(
+    let c = collect(
         lo,
         hi,
         scale,
@@ -252,7 +259,8 @@ pub fn ray(
         crate::EXACT_RESIDUAL * s,
         &mut list,
     );
-    if falls(w, u_free, scale, y, &list[..k]) {
+    let k = c.count;
+    if falls(w, u_free, y, &list[..k], c.farthest) {
         front(&list[..k], rows);
         return k;
     }

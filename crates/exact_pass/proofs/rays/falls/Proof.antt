@@ -1,5 +1,4 @@
 use Rattle.exact_pass.specs.Ray as rays
-use native.Mathlib.Omega.{arith}
 use borrow.Author.Needs.{needs}
 use Rattle.exact_pass.proofs.rays.falls.Statement.{statement}
 use Rattle.exact_pass.proofs.rays.falls.Tie as tie
@@ -20,23 +19,17 @@ returns-2 c =
     let at-quadratic = c .before in
     let at-if1 = at-quadratic .before in
     let at-linear = at-if1 .before in
-    let at-pre = at-linear .before .before .before .before .before .before in
+    let at-pre = at-linear .before .before .before .before .before in
     rw (← at-linear .linear .ensures, at-if1 .if1 .left, at-pre .pre .2, ← at-quadratic .quadratic .ensures, c .if2 .taken)
-
-farthest-requires : tie.Need-farthest-requires
-farthest-requires c κs = search needs
 
 returns-3 : tie.Need-returns-3
 unfolding rays.falls
 returns-3 c =
-    let at-if2 = c .before in
-    let at-quadratic = at-if2 .before in
+    let at-quadratic = c .before in
     let at-if1 = at-quadratic .before in
     let at-linear = at-if1 .before in
-    let at-pre = at-linear .before .before .before .before .before .before in
-    rw (← at-linear .linear .ensures, at-if1 .if1 .left, at-pre .pre .2, ← at-quadratic .quadratic .ensures, at-if2 .if2 .left, ← c .farthest .ensures)
+    let at-pre = at-linear .before .before .before .before .before in
+    rw (← at-linear .linear .ensures, at-if1 .if1 .left, at-pre .pre .2, ← at-quadratic .quadratic .ensures, c .if2 .left)
 
 pub falls-spec : {M : Type 1} → statement M
-falls-spec =
-    tie.close
-    (tie.spec linear-requires returns quadratic-requires returns-2 farthest-requires returns-3)
+falls-spec = tie.close (tie.spec linear-requires returns quadratic-requires returns-2 returns-3)

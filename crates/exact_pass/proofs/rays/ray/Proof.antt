@@ -1,9 +1,6 @@
-use lib.Seq.{length-take-le, getD-take}
-use lib.ListN.{length}
-use Prim.Native.Nat.{_+_, _*_, _≤_, _<_, _-_}
-use mathlib.Core.Path.{_≡_, refl, sym, ap, _∙_}
-use Rattle.exact_pass.specs.Ray as rays
-use Rattle.exact_pass.proofs.Collecting.{Going, collect-start, collect-again, collect-stop, collect-done, collected-le, collected-below, ray-zero, ray-found, ray-not}
+use lib.Seq.{length-take-le}
+use mathlib.Core.Path.{sym, _∙_}
+use Rattle.exact_pass.proofs.Collecting.{collected-le, collected-below, ray-zero, ray-found, ray-not}
 use native.Mathlib.Omega.{arith}
 use borrow.Author.Needs.{needs}
 use Rattle.exact_pass.proofs.rays.ray.Statement.{statement}
@@ -40,7 +37,7 @@ falls-requires : tie.Need-falls-requires
 falls-requires c κs =
     let at-collect = c .before .before in
     let at-pre = at-collect .before .before .before .before .before .before .before .before .before .before .before .before in
-    (collected-below (at-collect .collect .ensures) (omega (arith, at-pre .pre)), rw (at-pre .pre .2) (at-pre .pre .0 .0, at-pre .pre .0 .1), sym (at-pre .pre .2), at-pre .pre .0 .4 ∙ sym (at-pre .pre .2))
+    (collected-below (at-collect .collect .ensures) (omega (arith, at-pre .pre)), rw (at-pre .pre .2) (at-pre .pre .0 .0, at-pre .pre .0 .1), sym (at-pre .pre .2))
 
 array-share-prefix-list-2 : tie.Need-array-share-prefix-list-2
 array-share-prefix-list-2 c =
@@ -58,7 +55,7 @@ front-requires : tie.Need-front-requires
 front-requires c κs =
     let at-collect = c .before .before .before .before .before .before in
     let at-pre = at-collect .before .before .before .before .before .before .before .before .before .before .before .before in
-    let e = length-take-le (at-collect .collect .result) (at-collect .collect .last .1 .1 .1 .1 .1 .1 .0) (omega (arith, collected-le (at-collect .collect .ensures), at-collect .collect .kept, at-pre .pre)) in omega (arith, e, collected-le (at-collect .collect .ensures), at-pre .pre)
+    let e = length-take-le (at-collect .collect .result .count) (at-collect .collect .last .1 .1 .1 .1 .1 .1 .0) (omega (arith, collected-le (at-collect .collect .ensures), at-collect .collect .kept, at-pre .pre)) in omega (arith, e, collected-le (at-collect .collect .ensures), at-pre .pre)
 
 same-length : tie.Need-same-length
 same-length c = search needs
@@ -72,7 +69,7 @@ returns-2 c =
     let at-if1 = at-collect .before .before in
     let at-largest = at-if1 .before in
     let at-pre = at-largest .before .before .before .before .before .before .before .before .before in
-    ray-found _ _ _ _ _ (at-largest .largest .ensures) (at-pre .pre .2) _ (at-if1 .if1 .left) _ _ _ (at-collect .collect .ensures) (omega (arith, at-pre .pre)) (omega (arith, at-collect .collect .kept)) _ (sym (at-falls .falls .ensures) ∙ at-if2 .if2 .taken) (at-front .front .ensures)
+    ray-found _ _ _ _ _ (at-largest .largest .ensures) (at-pre .pre .2) _ (at-if1 .if1 .left) _ _ _ _ (at-collect .collect .ensures) (omega (arith, at-pre .pre)) (omega (arith, at-collect .collect .kept)) _ (sym (at-falls .falls .ensures) ∙ at-if2 .if2 .taken) (at-front .front .ensures)
 
 returns-3 : tie.Need-returns-3
 returns-3 c =
@@ -81,7 +78,7 @@ returns-3 c =
     let at-if1 = at-collect .before .before in
     let at-largest = at-if1 .before in
     let at-pre = at-largest .before .before .before .before .before .before .before .before .before in
-    ray-not _ _ _ _ _ (at-largest .largest .ensures) (at-pre .pre .2) _ (at-if1 .if1 .left) _ _ _ (at-collect .collect .ensures) (omega (arith, at-pre .pre)) (omega (arith, at-collect .collect .kept)) (sym (at-falls .falls .ensures) ∙ c .if2 .left)
+    ray-not _ _ _ _ _ (at-largest .largest .ensures) (at-pre .pre .2) _ (at-if1 .if1 .left) _ _ _ _ (at-collect .collect .ensures) (omega (arith, at-pre .pre)) (omega (arith, at-collect .collect .kept)) (sym (at-falls .falls .ensures) ∙ c .if2 .left)
 
 pub ray-spec : {M : Type 1} → statement M
 ray-spec =
