@@ -3,3 +3,4 @@ pub mod Walk
 pub mod Pass
 pub mod Promise
 pub mod Private
+pub mod WalkExamples
