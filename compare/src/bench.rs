@@ -203,23 +203,33 @@ fn solves() -> Vec<Line> {
     let mut lines = Vec::new();
     for (what, slow) in [("solve, typical", false), ("solve, slow", true)] {
         for n in SIZES {
-            if let Some((port, original)) = solved::problems(call, n, slow) {
-                lines.push(Line {
-                    what,
-                    n,
-                    port,
-                    original,
-                });
+            let batch = solved::batch(n, slow);
+            if batch.is_empty() {
+                continue;
             }
+            let rounds = if slow { ROUNDS / 10 } else { ROUNDS };
+            let (port, original) = solved::problems(call, &batch, rounds);
+            lines.push(Line {
+                what,
+                n,
+                port,
+                original,
+            });
         }
     }
+    let (port, original) = solved::problems(call, &[solved::worst()], ROUNDS / 10);
+    lines.push(Line {
+        what: "solve, worst known",
+        n: 32,
+        port,
+        original,
+    });
     lines
 }
 
 #[cfg(original)]
 mod solved {
     use super::timed::median;
-    use super::ROUNDS;
     use crate::cases::problem::{boxes, gram, Owned};
     use crate::cases::random::Rng;
     use crate::original::boxed::{BoxOutcome, BoxProblem, BoxSolver};
@@ -272,7 +282,7 @@ mod solved {
 
     /// Problems of one size: those with at least four sweeps if slow ones are
     /// wanted, none where they cannot be found.
-    fn batch(n: usize, slow: bool) -> Vec<Owned> {
+    pub fn batch(n: usize, slow: bool) -> Vec<Owned> {
         let mut rng = Rng::of_case("bench/solve", n as u64, u64::from(slow));
         let count = if slow {
             8
@@ -284,6 +294,51 @@ mod solved {
             .filter(|p| !slow || sweeps(p) >= 4)
             .take(count)
             .collect()
+    }
+
+    /// Three rows with large entries off the diagonal.
+    fn knot(rng: &mut Rng) -> Owned {
+        let mut p = Owned::plain(3);
+        p.w.iter_mut().for_each(|w| *w = rng.lattice(-4, 4));
+        for i in 0..3 {
+            p.set(i, i, 1.0);
+            p.u_free[i] = rng.lattice(-2, 2);
+            if rng.chance(50) {
+                p.bounds(i, -1.0, 1.0);
+            }
+        }
+        p.tolerance = f64::NAN;
+        p
+    }
+
+    /// The worst kind known: a pass frees a row that is blocked at once, over
+    /// and over, while 29 other rows are free, and no sweep ends it. Of 1,000
+    /// such problems, the one that takes the original longest.
+    pub fn worst() -> Owned {
+        let mut rng = Rng::of_case("bench/solve", 32, 2);
+        let mut solver = BoxSolver::new();
+        let mut free = gram(&mut rng, 29, 58, Rng::signed);
+        for i in 0..29 {
+            free.bounds(i, f64::NEG_INFINITY, f64::INFINITY);
+            free.u_free[i] = rng.signed();
+        }
+        let mut longest = 0.0;
+        let mut found = None;
+        for _ in 0..1_000 {
+            let knot = knot(&mut rng);
+            if sweeps(&knot) < 200 {
+                continue;
+            }
+            let p = knot.beside(&free);
+            let t = time(std::slice::from_ref(&p), |p, nu| {
+                black_box(solver.solve(&borrowed(p), nu));
+            });
+            if t > longest && sweeps(&p) == 200 {
+                longest = t;
+                found = Some(p);
+            }
+        }
+        found.expect("one of them takes all sweeps")
     }
 
     /// Nanoseconds for each problem of a batch, from fresh multipliers.
@@ -299,19 +354,16 @@ mod solved {
     }
 
     /// The median times of port and original.
-    pub fn problems(call: Solve, n: usize, slow: bool) -> Option<(f64, f64)> {
-        let batch = batch(n, slow);
-        if batch.is_empty() {
-            return None;
-        }
+    pub fn problems(call: Solve, batch: &[Owned], rounds: usize) -> (f64, f64) {
         let mut workspace = vec![0.0; 2_304];
         let (mut states, mut rows) = ([0; 32], [0; 32]);
         let (mut counts, mut residual) = ([0; 7], [0.0]);
         let mut solver = BoxSolver::new();
         let (mut port, mut original) = (Vec::new(), Vec::new());
-        for _ in 0..if slow { ROUNDS / 10 } else { ROUNDS } {
-            port.push(time(&batch, |p, nu| {
-                black_box(call(Lent {
+        for _ in 0..rounds {
+            port.push(time(batch, |p, nu| {
+                // a refusal would be timed as a quick solve
+                let number = call(Lent {
                     w: &p.w,
                     u_free: &p.u_free,
                     lo: &p.lo,
@@ -325,13 +377,14 @@ mod solved {
                     workspace: &mut workspace,
                     counts: &mut counts,
                     residual: &mut residual,
-                }));
+                });
+                assert_eq!(black_box(number), 0);
             }));
-            original.push(time(&batch, |p, nu| {
+            original.push(time(batch, |p, nu| {
                 black_box(solver.solve(&borrowed(p), nu));
             }));
         }
-        Some((median(port), median(original)))
+        (median(port), median(original))
     }
 }
 

@@ -38,6 +38,25 @@ ratio-row-below n a v y lo hi r q e h g = rw e (go (lt 0ᶠ y) (lt y 0ᶠ))
     go false true = nearer-row n a 1 ((lo ⊖ v) ⊘ y) r h g
     go false false = g
 
+-- its state is one of three
+
+nearer-state : (a s : ℕ) (ratio : Float) (r : Blocking) → s < 256 → r .state < 256 → def.nearer a s ratio r .state < 256
+unfolding def.nearer
+nearer-state a s ratio r h g = go (lt ratio (r .alpha)) refl
+  where
+    go : (b : Bool) → lt ratio (r .alpha) ≡ b → def.nearer a s ratio r .state < 256
+    go true e = rw e h
+    go false e = rw e g
+
+pub ratio-row-state : (a : ℕ) (v y lo hi : Float) (r q : Blocking) → q ≡ def.ratioRow a v y lo hi r → r .state < 256 → q .state < 256
+unfolding def.ratioRow
+ratio-row-state a v y lo hi r q e g = rw e (go (lt 0ᶠ y) (lt y 0ᶠ))
+  where
+    go : (b c : Bool) → cond b (def.nearer a 2 ((hi ⊖ v) ⊘ y) r) (cond c (def.nearer a 1 ((lo ⊖ v) ⊘ y) r) r) .state < 256
+    go true c = nearer-state a 2 ((hi ⊖ v) ⊘ y) r (omega arith) g
+    go false true = nearer-state a 1 ((lo ⊖ v) ⊘ y) r (omega arith) g
+    go false false = g
+
 -- ---- no bound is met
 
 module _ (r rows : List ℕ) (c : ℕ) (rows′ : List ℕ) (f : Front r rows c rows′) (nu : List Float) (st : List ℕ) where

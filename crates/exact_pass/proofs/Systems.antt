@@ -2,16 +2,20 @@
 use Prim.Native.Nat.{ℕ, zero, suc, _+_, _-_, _*_, _≤_, _<_}
 use borrow.Rule.Slice.PartMut.{putMid}
 use mathlib.Core.Path.{_≡_, refl, sym, ap, _∙_}
-use mathlib.Core.Bool.{Bool}
-use mathlib.Core.List.{List, [], _++_, append-assoc, append-nil}
+use mathlib.Core.Bool.{Bool, true, false, cond}
+use mathlib.Core.List.{List, [], _∷_, _++_, append-assoc, append-nil}
 use native.Mathlib.Omega.{arith}
 use native.Mathlib.Numerals.{add-one}
-use native.Mathlib.Nat.{suc-mul}
-use lib.ListN.{length, getD, take, drop, length-append, length-drop, drop-of-length-le}
-use lib.Seq.{take-at, drop-at, drop-drop, length-take-le}
+use native.Mathlib.Nat.{suc-mul, not-suc-le-zero, le-of-suc-le-suc}
+use lib.ListN.{length, getD, take, drop, length-append, length-drop, drop-of-length-le, List·getD-append}
+use lib.Seq.{take-at, drop-at, drop-drop, length-take-le, ext-getD, getD-at}
+use lib.Dec.{eqb}
+use lib.Arith.{lt-of-le-ne}
 use Rattle.loops.proofs.Index.{row-end}
-use lib.Ieee.{Float}
-use borrow.Author.Tests.{le-leb, eq-eqb}
+use lib.Ieee.{Float, nan, neg}
+use Rattle.loops.proofs.Updates.{updated-here, updated-long}
+use Rattle.floats.specs.Ops.{at, _⊖_, _⊗_}
+use borrow.Author.Tests.{le-leb, eq-eqb, eqb-true, eqb-false}
 use Rattle.loops.specs.Loops.{turns, tab}
 use Rattle.loops.proofs.Fill.{tab-length}
 use Rattle.least_norm.specs.LeastNorm.{leastNorm}
@@ -19,7 +23,7 @@ use Rattle.least_norm.specs.Promise as least
 use Rattle.box_rows.specs.Rows as box
 use Rattle.box_rows.proofs.Matrix.{later}
 use Rattle.exact_pass.specs.Pass as def
-use Rattle.exact_pass.specs.Private.{Copied, part}
+use Rattle.exact_pass.specs.Private.{Copied, part, columnTaken}
 
 -- ---- a list filled by parts of k values, g 0, g 1, ..
 
@@ -53,6 +57,66 @@ module _ {A : Type 0} (g : ℕ → List A) (k : ℕ) (long : (i : ℕ) → lengt
 pub matrix-row-length : (r scale : List Float) (l : List ℕ) (k : ℕ) → length (def.matrixRow r scale l k) ≡ k
 unfolding def.matrixRow
 matrix-row-length r scale l k = tab-length (def.scaled r scale l) k
+
+-- ---- the right-hand side, column by column
+
+-- place j of a table is its value at j
+tab-at : {A : Type 0} (f : ℕ → A) (n j : ℕ) (d : A) → j < n → getD (tab f n) j d ≡ f j
+unfolding tab turns
+tab-at f zero j d h = absurd (not-suc-le-zero h)
+tab-at f (suc n) j d h = go (eqb j n) refl (λ c. tab-at f n j d c)
+  where
+    go : (b : Bool) → eqb j n ≡ b → (j < n → getD (tab f n) j d ≡ f j) → getD (tab f n ++ (f n ∷ [])) j d ≡ f j
+    go true e before = rw (eqb-true j n e) (getD-at (tab f n) (f n) [] d n (tab-length f n))
+    go false e before =
+        let c : j < n = lt-of-le-ne (le-of-suc-le-suc h) (eqb-false j n e) in
+        List·getD-append (tab f n) (f n ∷ []) d j (rw (tab-length f n) c) ∙ before c
+
+module _ (w uFree : List Float) (st : List ℕ) (nu : List Float) (l : List ℕ) (k : ℕ) where
+  -- row i after j columns
+  abbrev after : ℕ → ℕ → Float
+  after j i = def.rightHandRow (box.row w (length nu) (getD l i 0)) st nu (at uFree (getD l i 0)) j
+
+  -- the right-hand side after j columns
+  unfoldable pub columns : ℕ → List Float
+  columns j = tab (after j) k
+
+  pub columns-start : (rhs : List Float) → rhs ≡ tab (λ (i : ℕ). neg (at uFree (getD l i 0))) k → rhs ≡ columns 0
+  unfolding columns def.rightHandRow turns
+  columns-start rhs e = e
+
+  module _ (j : ℕ) (rhs rhs′ : List Float) (e : rhs ≡ columns j) where
+    free-kept : def.isFree st j ≡ true → rhs ≡ columns (j + 1)
+    unfolding columns def.rightHandRow turns
+    free-kept f =
+        ext-getD nan rhs (columns (j + 1)) (rw (e, tab-length (after j) k, tab-length (after (j + 1)) k)) λ i h.
+        let g : i < k = rw (e, tab-length (after j) k) at h in
+        rw (e, tab-at (after j) k i nan g, tab-at (after (j + 1)) k i nan g, add-one j, f)
+
+    held-taken : def.isFree st j ≡ false → columnTaken w (length nu) l j (at nu j) k rhs ≡ columns (j + 1)
+    unfolding columns def.rightHandRow turns
+    held-taken f =
+        let g : ℕ → Float → Float = λ (i : ℕ) (x : Float). x ⊖ at (box.row w (length nu) (getD l i 0)) j ⊗ at nu j in
+        let long : length rhs ≡ k = rw e (tab-length (after j) k) in
+        let longer : length (columnTaken w (length nu) l j (at nu j) k rhs) ≡ k = updated-long nan (λ (i : ℕ). i) g 0 rhs k (omega arith) ∙ long in
+        ext-getD nan (columnTaken w (length nu) l j (at nu j) k rhs) (columns (j + 1)) (longer ∙ sym (tab-length (after (j + 1)) k)) λ i h.
+        let m : i < k = omega (arith, longer) in
+        let here : getD rhs i nan ≡ after j i = rw e (tab-at (after j) k i nan m) in
+        updated-here nan (λ (i : ℕ). i) g 0 rhs (λ t u a b. omega arith) k i (omega arith) m (omega (arith, long))
+        ∙ rw (here, tab-at (after (j + 1)) k i nan m, add-one j, f)
+
+  pub columns-again : (j s : ℕ) (v : Float) (rhs rhs′ : List Float) → rhs ≡ columns j → s ≡ getD st j 0 → v ≡ at nu j
+      → rhs′ ≡ cond (eqb s 0) rhs (columnTaken w (length nu) l j v k rhs) → rhs′ ≡ columns (j + 1)
+  columns-again j s v rhs rhs′ e a b f = go (eqb (getD st j 0) 0) refl (rw (a, b) at f)
+    where
+      go : (c : Bool) → eqb (getD st j 0) 0 ≡ c
+          → rhs′ ≡ cond (eqb (getD st j 0) 0) rhs (columnTaken w (length nu) l j (at nu j) k rhs) → rhs′ ≡ columns (j + 1)
+      go true g h = rw g at h ∙ free-kept j rhs rhs′ e g
+      go false g h = rw g at h ∙ held-taken j rhs rhs′ e g
+
+  pub columns-done : (j : ℕ) (rhs : List Float) → j ≤ length nu → length nu ≤ j → rhs ≡ columns j → rhs ≡ def.rightHandSide w uFree st nu l k
+  unfolding columns def.rightHandSide
+  columns-done j rhs g h e = let q : j ≡ length nu = omega arith in rw q at e
 
 pub right-hand-length : (w uFree : List Float) (st : List ℕ) (nu : List Float) (l : List ℕ) (k : ℕ) → length (def.rightHandSide w uFree st nu l k) ≡ k
 unfolding def.rightHandSide

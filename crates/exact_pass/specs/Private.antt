@@ -4,7 +4,9 @@ use mathlib.Core.Path.{_≡_}
 use mathlib.Core.Bool.{Bool, true, false, cond}
 use mathlib.Core.List.{List}
 use lib.ListN.{getD, length, take, drop}
-use lib.Ieee.{Float}
+use lib.Ieee.{Float, nan}
+use Rattle.loops.specs.Updates.{updated}
+use Rattle.floats.specs.Ops.{at, _⊖_, _⊗_}
 use Rattle.box_rows.specs.Rows as box
 use Rattle.exact_pass.specs.Pass as def
 use Rattle.exact_pass.specs.Walk as walks
@@ -33,6 +35,11 @@ pub record Free (f : List ℕ) (n k : ℕ) (l : List ℕ) : Type 0 where
   pub few : k ≤ n
   pub front : take k l ≡ f
   pub below : Below n f
+
+-- column j of w times v, taken from the right-hand sides of the first k rows of l
+abbrev pub columnTaken : List Float → ℕ → List ℕ → ℕ → Float → ℕ → List Float → List Float
+columnTaken w n l j v k rhs =
+    updated nan (λ (i : ℕ). i) (λ (i : ℕ) (x : Float). x ⊖ at (box.row w n (getD l i 0)) j ⊗ v) 0 k rhs
 
 -- k values from place a on
 abbrev pub part : ℕ → ℕ → List Float → List Float

@@ -42,11 +42,12 @@ pub enum Exact {
     Infeasible(usize),
 }
 
-// How far the boxes let a step go, and the row that blocks it with its state there: INSIDE is no row.
+// How far the boxes let a step go, and the row that blocks it with its state there: INSIDE is no row. The state stands
+// in a whole word: a byte would have the compiler copy what fills up the struct, row by row.
 pub struct Blocking {
     pub alpha: f64,
     pub row: usize,
-    pub state: u8,
+    pub state: usize,
 }
 
 // The row on a bound pushed inside the hardest, and its natural residual: row n is none.

@@ -7,7 +7,7 @@ ghost use Rattle.exact_pass.specs.Private as private;
 use crate::Blocking;
 use crate::read;
 
-fn nearer(a: usize, state: u8, ratio: f64, r: Blocking) -> Blocking
+fn nearer(a: usize, state: usize, ratio: f64, r: Blocking) -> Blocking
     ensures { λ q. ⌜ q ≡ def.nearer a state ratio r ⌝ }
 {
     if ratio < r.alpha {
@@ -25,10 +25,10 @@ fn ratio_row(a: usize, v: f64, y: f64, lo: f64, hi: f64, r: Blocking) -> Blockin
     ensures { λ q. ⌜ q ≡ def.ratioRow a v y lo hi r ⌝ }
 {
     if y > 0.0 {
-        return nearer(a, box_rows::AT_HI, (hi - v) / y, r);
+        return nearer(a, box_rows::AT_HI as usize, (hi - v) / y, r);
     }
     if y < 0.0 {
-        return nearer(a, box_rows::AT_LO, (lo - v) / y, r);
+        return nearer(a, box_rows::AT_LO as usize, (lo - v) / y, r);
     }
     r
 }
@@ -48,13 +48,13 @@ pub fn ratio_test(
     ensures { λ q. ⌜ (q
         ≡ def.ratioTest (now (lo .entry)) (now (hi .entry)) (now (free .entry)) (now (nu .entry)) (now (y .entry))
         alpha (length (now (free .entry))))
-        × (q .row < length (now (nu .entry))) ⌝ }
+        × (q .row < length (now (nu .entry))) × (q .state < 256) ⌝ }
 {
     let k = free.len();
     let mut r = Blocking {
         alpha,
         row: 0,
-        state: box_rows::INSIDE,
+        state: box_rows::INSIDE as usize,
     };
     let mut i = 0;
     while i < k {

@@ -117,17 +117,18 @@ fn unbounded(
 // The row that blocks a step is held on its bound.
 fn hold(lo: &[f64], hi: &[f64], states: &mut [u8], nu: &mut [f64], r: Blocking)
     requires { ⌜ (r .row < length (now nu)) × (length (now lo) ≡ length (now nu)) × (length (now hi) ≡ length (now nu))
-        × (length (now states) ≡ length (now nu)) ⌝ }
+        × (length (now states) ≡ length (now nu)) × (r .state < 256) ⌝ }
     ensures { λ q. ⌜ def.trial (now (nu .exit)) (now (states .exit))
         ≡ def.hold (now (lo .entry)) (now (hi .entry)) (def.trial (now (nu .entry)) (now (states .entry))) r ⌝ }
 {
     let a = r.row;
+    let state = r.state as u8;
     read::put(
         nu,
         a,
-        start::placed(read::at(lo, a), read::at(hi, a), r.state, read::at(nu, a)),
+        start::placed(read::at(lo, a), read::at(hi, a), state, read::at(nu, a)),
     );
-    read::put_state(states, a, r.state);
+    read::put_state(states, a, state);
 }
 
 // A step of the free rows along y, as far as the boxes let it. At its end a row is freed.
@@ -161,7 +162,7 @@ fn take_step(
         return unbounded(w, u_free, lo, hi, scale, states, free, y, rows);
     }
     ratio::advance(free, y, alpha, nu);
-    if r.state == box_rows::INSIDE {
+    if r.state == box_rows::INSIDE as usize {
         return release::release(w, u_free, lo, hi, scale, states, nu);
     }
     hold(lo, hi, states, nu, r);

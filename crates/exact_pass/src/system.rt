@@ -2,10 +2,12 @@
 // that leaves of it.
 ghost use mathlib.Core.Path.{_≡_};
 ghost use mathlib.Core.Bool.{cond};
-ghost use Prim.Native.Nat.{_*_, _≤_};
+ghost use Prim.Native.Nat.{ℕ, _*_, _≤_, _<_};
 ghost use lib.Dec.{eqb};
-ghost use lib.ListN.{length, drop};
-ghost use Rattle.floats.specs.Ops.{_⊖_, _⊗_, at};
+ghost use lib.ListN.{length, getD, drop};
+ghost use lib.Ieee.{neg};
+ghost use Rattle.loops.specs.Loops.{tab};
+ghost use Rattle.floats.specs.Ops.{at};
 ghost use Rattle.least_norm.specs.LeastNorm.{leastNorm};
 ghost use Rattle.box_rows.specs.Rows as box;
 ghost use Rattle.box_rows.specs.Private as lists;
@@ -13,30 +15,53 @@ ghost use Rattle.exact_pass.specs.Pass as def;
 ghost use Rattle.exact_pass.specs.Private as private;
 use crate::read;
 
-fn right_hand_cell(state: u8, w: f64, v: f64, s: f64) -> f64
-    ensures { λ q. ⌜ q ≡ cond (eqb state box.inside) s (s ⊖ w ⊗ v) ⌝ }
+// The right-hand side before any column: minus the free motion of each free row.
+fn right_hand_start(u_free: &[f64], free: &[u8], rhs: &mut [f64])
+    requires { ⌜ private.Below (length (now «u_free»)) (now free) × (length (now rhs) ≡ length (now free)) ⌝ }
+    ensures { λ q. ⌜ now (rhs .exit)
+        ≡ tab (λ (i : ℕ). neg (at (now («u_free» .entry)) (getD (now (free .entry)) i 0))) (length (now (free .entry))) ⌝ }
+{
+    let k = free.len();
+    let mut i = 0;
+    while i < k {
+        read::put(rhs, i, -read::at(u_free, read::row_number(free, i)));
+        i += 1;
+    }
+}
+
+// Column j, whose row has the multiplier v, taken from the right-hand side of each free row.
+fn right_hand_column(w: &[f64], n: usize, free: &[u8], j: usize, v: f64, rhs: &mut [f64])
+    requires { ⌜ lists.Square (now w) n × (j < n) × private.Below n (now free)
+        × (length (now rhs) ≡ length (now free)) ⌝ }
+    ensures { λ q. ⌜ now (rhs .exit)
+        ≡ private.columnTaken (now (w .entry)) n (now (free .entry)) j v (length (now (free .entry)))
+        (now (rhs .entry)) ⌝ }
+{
+    let k = free.len();
+    let mut i = 0;
+    while i < k {
+        let row = read::row(w, n, read::row_number(free, i));
+        read::put(rhs, i, read::at(rhs, i) - read::at(row, j) * v);
+        i += 1;
+    }
+}
+
+// The same, where row j is held; the columns of free rows stand on the left.
+fn held_column(state: u8, w: &[f64], n: usize, free: &[u8], j: usize, v: f64, rhs: &mut [f64])
+    requires { ⌜ lists.Square (now w) n × (j < n) × private.Below n (now free)
+        × (length (now rhs) ≡ length (now free)) ⌝ }
+    ensures { λ q. ⌜ now (rhs .exit)
+        ≡ cond (eqb state box.inside) (now (rhs .entry))
+        (private.columnTaken (now (w .entry)) n (now (free .entry)) j v (length (now (free .entry)))
+        (now (rhs .entry))) ⌝ }
 {
     if state == box_rows::INSIDE {
-        return s;
+        return;
     }
-    s - w * v
+    right_hand_column(w, n, free, j, v, rhs);
 }
 
-fn right_hand_row(row: &[f64], states: &[u8], nu: &[f64], u: f64) -> f64
-    requires { ⌜ (length (now row) ≡ length (now nu)) × (length (now states) ≡ length (now nu)) ⌝ }
-    ensures { λ q. ⌜ q
-        ≡ def.rightHandRow (now (row .entry)) (now (states .entry)) (now (nu .entry)) u (length (now (nu .entry))) ⌝ }
-{
-    let n = nu.len();
-    let mut s = -u;
-    let mut j = 0;
-    while j < n {
-        s = right_hand_cell(read::state(states, j), read::at(row, j), read::at(nu, j), s);
-        j += 1;
-    }
-    s
-}
-
+// Column by column: the sums of different rows do not wait for each other, and a column is tested once.
 pub fn right_hand_side(
     w: &[f64],
     u_free: &[f64],
@@ -52,14 +77,12 @@ pub fn right_hand_side(
         ≡ def.rightHandSide (now (w .entry)) (now («u_free» .entry)) (now (states .entry)) (now (nu .entry))
         (now (free .entry)) (length (now (free .entry))) ⌝ }
 {
-    let k = free.len();
     let n = nu.len();
-    let mut i = 0;
-    while i < k {
-        let a = read::row_number(free, i);
-        let s = right_hand_row(read::row(w, n, a), states, nu, read::at(u_free, a));
-        read::put(rhs, i, s);
-        i += 1;
+    right_hand_start(u_free, free, rhs);
+    let mut j = 0;
+    while j < n {
+        held_column(read::state(states, j), w, n, free, j, read::at(nu, j), rhs);
+        j += 1;
     }
 }
 

@@ -4,12 +4,18 @@ use borrow.Author.Needs.{needs}
 use Rattle.exact_pass.proofs.ratio.ratio_row.Statement.{statement}
 use Rattle.exact_pass.proofs.ratio.ratio_row.Tie as tie
 
+cast-nearer : tie.Need-cast-nearer
+cast-nearer c = search needs
+
 nearer-requires : tie.Need-nearer-requires
 nearer-requires c κs = search needs
 
 returns : tie.Need-returns
 unfolding def.ratioRow
 returns c = rw (c .nearer .ensures, c .before .if1 .taken)
+
+cast-nearer-2 : tie.Need-cast-nearer-2
+cast-nearer-2 c = search needs
 
 nearer-requires-2 : tie.Need-nearer-requires-2
 nearer-requires-2 c κs = search needs
@@ -23,4 +29,4 @@ unfolding def.ratioRow
 returns-3 c = rw (c .before .if1 .left, c .if2 .left)
 
 pub ratio-row-spec : {M : Type 1} → statement M
-ratio-row-spec = tie.close (tie.spec nearer-requires returns nearer-requires-2 returns-2 returns-3)
+ratio-row-spec = tie.close (tie.spec cast-nearer nearer-requires returns cast-nearer-2 nearer-requires-2 returns-2 returns-3)

@@ -1,4 +1,4 @@
-use Rattle.exact_pass.proofs.Stepping.{ratio-row-below, unbounded-failed, unbounded-ray, taken-unbounded, taken-released, taken-to-bound, toward-run, step-released, step-toward}
+use Rattle.exact_pass.proofs.Stepping.{ratio-row-below, ratio-row-state}
 use Rattle.exact_pass.proofs.Rows.{free-row}
 use Prim.Native.Nat.{_+_, _*_, _≤_, _<_, _-_}
 use mathlib.Core.Path.{_≡_, refl, sym, ap, _∙_}
@@ -11,14 +11,17 @@ use Rattle.exact_pass.proofs.ratio.ratio_test.Statement.{statement}
 use Rattle.exact_pass.proofs.ratio.ratio_test.Tie as tie
 
 abbrev Inv-loop : tie.InvT-loop
-Inv-loop lo hi free nu y alpha k r₀ i₀ r i = (i ≤ k) × (k ≡ length free) × (r .row < length nu) × (r ≡ def.ratioTest lo hi free nu y alpha i)
+Inv-loop lo hi free nu y alpha k r₀ i₀ r i = (i ≤ k) × (k ≡ length free) × (r .row < length nu) × (r .state < 256) × (r ≡ def.ratioTest lo hi free nu y alpha i)
 
 abbrev μ-loop : tie.MeasureT-loop
 μ-loop lo hi free nu y alpha k r₀ i₀ r i = k - i
 
+cast-t11 : tie.Need-cast-t11 Inv-loop μ-loop
+cast-t11 c = search needs
+
 loop-holds : tie.Need-loop-holds Inv-loop μ-loop
 unfolding def.ratioTest
-loop-holds c = (search needs, search needs, search needs, turns-from _ _)
+loop-holds c = (search needs, search needs, search needs, omega arith, turns-from _ _)
 
 row-number-requires : tie.Need-row-number-requires Inv-loop μ-loop
 row-number-requires c κs = search needs
@@ -59,12 +62,13 @@ loop-again c =
       search needs,
       search needs,
       ratio-row-below _ _ _ _ _ _ _ _ (c .ratio-row .ensures) (free-row (at-args .args .free .now) _ _ _ _ _ (at-pre .pre .0) refl (at-loop .loop .inv .1) (at-loop-test .loop-test .taken) (at-row-number .row-number .ensures)) (at-loop .loop .inv .2),
-      turns-again _ _ _ _ _ (at-loop .loop .inv .3) (rw (c .ratio-row .ensures, at-at .at .ensures, at-at2 .at2 .ensures, at-at3 .at3 .ensures, at-at4 .at4 .ensures, at-row-number .row-number .ensures)),
+      ratio-row-state _ _ _ _ _ _ _ (c .ratio-row .ensures) (at-loop .loop .inv .3),
+      turns-again _ _ _ _ _ (at-loop .loop .inv .4) (rw (c .ratio-row .ensures, at-at .at .ensures, at-at2 .at2 .ensures, at-at3 .at3 .ensures, at-at4 .at4 .ensures, at-row-number .row-number .ensures)),
     )
 
 returns : tie.Need-returns Inv-loop μ-loop
 unfolding def.ratioTest
-returns c = (turns-done _ _ _ _ _ (omega arith) (omega arith) (c .before .loop .inv .3), c .before .loop .inv .2)
+returns c = (turns-done _ _ _ _ _ (omega arith) (omega arith) (c .before .loop .inv .4), c .before .loop .inv .2, c .before .loop .inv .3)
 
 pub ratio-test-spec : {M : Type 1} → statement M
 ratio-test-spec =
@@ -72,6 +76,7 @@ ratio-test-spec =
     (tie.spec
     Inv-loop
     μ-loop
+    cast-t11
     loop-holds
     row-number-requires
     at-requires

@@ -4,6 +4,9 @@ use borrow.Author.Needs.{needs}
 use Rattle.exact_pass.proofs.steps.hold.Statement.{statement}
 use Rattle.exact_pass.proofs.steps.hold.Tie as tie
 
+cast-state : tie.Need-cast-state
+cast-state c = search needs
+
 at-requires : tie.Need-at-requires
 at-requires c κs = search needs
 
@@ -43,6 +46,7 @@ pub hold-spec : {M : Type 1} → statement M
 hold-spec =
     tie.close
     (tie.spec
+    cast-state
     at-requires
     at-requires-2
     at-requires-3

@@ -39,6 +39,9 @@ returns c = search (taken-unbounded, not-true, needs)
 advance-requires : tie.Need-advance-requires
 advance-requires c κs = search needs
 
+cast-if2 : tie.Need-cast-if2
+cast-if2 c = search needs
+
 release-requires : tie.Need-release-requires
 release-requires c κs =
     let at-advance = c .before .before .before .before .before .before in
@@ -62,7 +65,7 @@ hold-requires c κs =
     let at-advance = c .before .before .before .before .before .before in
     let at-ratio-test = at-advance .before .before .before .before in
     let at-pre = at-ratio-test .before .before .before .before .before .before .before .before .before .before .before .before .before in
-    (omega (arith, at-ratio-test .ratio-test .ensures .1, at-advance .advance .kept), omega (arith, at-pre .pre .0 .2, at-advance .advance .kept), omega (arith, at-pre .pre .0 .3, at-advance .advance .kept), omega (arith, at-pre .pre .2, at-advance .advance .kept))
+    (omega (arith, at-ratio-test .ratio-test .ensures .1, at-advance .advance .kept), omega (arith, at-pre .pre .0 .2, at-advance .advance .kept), omega (arith, at-pre .pre .0 .3, at-advance .advance .kept), omega (arith, at-pre .pre .2, at-advance .advance .kept), at-ratio-test .ratio-test .ensures .2)
 
 same-length-6 : tie.Need-same-length-6
 same-length-6 c = search needs
@@ -86,6 +89,7 @@ take-step-spec =
     same-length-3
     returns
     advance-requires
+    cast-if2
     release-requires
     same-length-4
     same-length-5

@@ -1,78 +1,60 @@
-use Rattle.box_rows.proofs.Matrix.{tab-filled, row-length}
-use lib.ListN.{drop}
-use mathlib.Core.List.{_++_}
-use Rattle.loops.proofs.Fill.{tab-start, tab-again, tab-done}
-use Rattle.exact_pass.proofs.Rows.{free-row}
-use Prim.Native.Nat.{_+_, _*_, _≤_, _<_, _-_}
+use Prim.Native.Nat.{ℕ, _+_, _*_, _≤_, _<_, _-_}
 use mathlib.Core.Path.{_≡_, refl, sym, ap, _∙_}
 use lib.ListN.{length}
-use Rattle.exact_pass.specs.Pass as def
-use Rattle.loops.proofs.Turns.{turns-from, turns-again, turns-done}
+use Rattle.exact_pass.proofs.Systems.{columns, columns-start, columns-again, columns-done}
 use borrow.Author.Needs.{needs}
 use native.Mathlib.Omega.{arith}
 use Rattle.exact_pass.proofs.system.right_hand_side.Statement.{statement}
 use Rattle.exact_pass.proofs.system.right_hand_side.Tie as tie
 
 abbrev Inv-loop : tie.InvT-loop
-Inv-loop w u-free states nu free rhs₀ k n i₀ rhs i = (i ≤ k) × (k ≡ length free) × (n ≡ length nu) × (length rhs ≡ length rhs₀) × (rhs ≡ def.rightHandSide w u-free states nu free i ++ drop i rhs₀)
+Inv-loop w u-free states nu free rhs₀ n j₀ rhs j = (j ≤ n) × (n ≡ length nu) × (length rhs ≡ length rhs₀) × (rhs ≡ columns w u-free states nu free (length free) j)
 
 abbrev μ-loop : tie.MeasureT-loop
-μ-loop w u-free states nu free rhs₀ k n i₀ rhs i = k - i
+μ-loop w u-free states nu free rhs₀ n j₀ rhs j = n - j
+
+right-hand-start-requires : tie.Need-right-hand-start-requires Inv-loop μ-loop
+right-hand-start-requires c κs =
+    let at-pre = c .before .before .before .before .before .before .before in
+    (rw (at-pre .pre .1) (at-pre .pre .3), at-pre .pre .4)
 
 loop-holds : tie.Need-loop-holds Inv-loop μ-loop
-unfolding def.rightHandSide
-loop-holds c = (search needs, search needs, search needs, search needs, tab-start _ _)
+loop-holds c = (search needs, search needs, search needs, columns-start _ _ _ _ _ _ _ (c .before .before .right-hand-start .ensures))
 
-row-number-requires : tie.Need-row-number-requires Inv-loop μ-loop
-row-number-requires c κs = search needs
-
-row-requires : tie.Need-row-requires Inv-loop μ-loop
-row-requires c κs =
-    let at-loop-test = c .before in
-    let at-loop = at-loop-test .before in
-    let at-pre = at-loop .before .before .before .before .before .before .before in
-    let at-args = at-pre in
-    (at-pre .pre .0, free-row (at-args .args .free .now) _ _ _ _ _ (at-pre .pre .3) refl (at-loop .loop .inv .1) (at-loop-test .loop-test .taken) (c .row-number .ensures))
+state-requires : tie.Need-state-requires Inv-loop μ-loop
+state-requires c κs = search needs
 
 at-requires : tie.Need-at-requires Inv-loop μ-loop
-at-requires c κs = search (free-row, needs)
+at-requires c κs = search needs
 
-right-hand-row-requires : tie.Need-right-hand-row-requires Inv-loop μ-loop
-right-hand-row-requires c κs =
-    let at-row = c .before in
-    let at-pre = at-row .before .before .before .before .before .before .before .before .before .before in
-    (ap length (at-row .row .ensures) ∙ row-length _ _ _, at-pre .pre .2)
+held-column-requires : tie.Need-held-column-requires Inv-loop μ-loop
+held-column-requires c κs =
+    let at-loop-test = c .before .before .before in
+    let at-loop = at-loop-test .before in
+    let at-pre = at-loop .before .before .before .before .before .before .before .before .before .before .before in
+    (rw (at-loop .loop .inv .1) (at-pre .pre .0), at-loop-test .loop-test .taken, rw (at-loop .loop .inv .1) (at-pre .pre .3), omega (arith, at-loop .loop .inv .2, at-pre .pre .4))
 
-put-requires : tie.Need-put-requires Inv-loop μ-loop
-put-requires c κs = search needs
-
-add-i : tie.Need-add-i Inv-loop μ-loop
-add-i c = search needs
+add-j : tie.Need-add-j Inv-loop μ-loop
+add-j c = search needs
 
 loop-less : tie.Need-loop-less Inv-loop μ-loop
 loop-less c = search needs
 
 loop-again : tie.Need-loop-again Inv-loop μ-loop
-unfolding def.rightHandSide
 loop-again c =
-    let at-put = c .before .before in
-    let at-right-hand-row = at-put .before .before in
-    let at-at = at-right-hand-row .before in
-    let at-row = at-at .before in
-    let at-row-number = at-row .before in
-    let at-loop = at-row-number .before .before in
-    let at-pre = at-loop .before .before .before .before .before .before .before in
-    (search needs, search needs, search needs, search needs, rw (at-put .put .ensures, at-right-hand-row .right-hand-row .ensures, at-at .at .ensures, at-row .row .ensures, at-row-number .row-number .ensures) (tab-again _ _ _ _ (at-loop .loop .inv .4) (at-loop .loop .inv .3) (omega (arith, at-pre .pre .4, at-loop .loop .inv .3))))
+    let at-held = c .before .before in
+    let at-at = at-held .before .before in
+    let at-state = at-at .before in
+    let at-loop = at-state .before .before in
+    (search needs, search needs, search needs, columns-again _ _ _ _ _ _ _ _ _ _ _ (at-loop .loop .inv .3) (at-state .state .ensures) (at-at .at .ensures) (rw (at-loop .loop .inv .1) at (at-held .held-column .ensures)))
 
 same-length : tie.Need-same-length Inv-loop μ-loop
 same-length c = search needs
 
 returns : tie.Need-returns Inv-loop μ-loop
-unfolding def.rightHandSide
 returns c =
     let at-loop = c .before in
-    let at-pre = at-loop .before .before .before .before .before .before .before in
-    tab-filled _ _ _ _ _ (at-loop .loop .inv .4) (at-loop .loop .inv .3) (at-pre .pre .4) (omega arith) (omega arith)
+    columns-done _ _ _ _ _ _ _ _ (omega arith) (omega arith) (at-loop .loop .inv .3)
 
 pub right-hand-side-spec : {M : Type 1} → statement M
 right-hand-side-spec =
@@ -80,13 +62,12 @@ right-hand-side-spec =
     (tie.spec
     Inv-loop
     μ-loop
+    right-hand-start-requires
     loop-holds
-    row-number-requires
-    row-requires
+    state-requires
     at-requires
-    right-hand-row-requires
-    put-requires
-    add-i
+    held-column-requires
+    add-j
     loop-less
     loop-again
     same-length
