@@ -109,7 +109,7 @@ fn link_port(root: &Path) {
     println!("cargo::rerun-if-env-changed=PISKORLU_STATICLIB");
     let archive = match env::var("PISKORLU_STATICLIB") {
         Ok(named) => PathBuf::from(named),
-        Err(_) => root.join("target/staticlib/libcapi.a"),
+        Err(_) => root.join("target/staticlib/libpiskorlu.a"),
     };
     println!("cargo::rerun-if-changed={}", archive.display());
     let Ok(bytes) = fs::read(&archive) else {

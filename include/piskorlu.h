@@ -3,8 +3,8 @@
  * what every call answers.
  *
  * Link with libpiskorlu.a, which tools/install.sh installs for x86-64 (in the
- * repository it is target/staticlib/libcapi.a). It needs memcpy and memset of
- * the C library and nothing else. Nothing is allocated, no state is kept
+ * repository it is target/staticlib/libpiskorlu.a). It needs memcpy and memset
+ * of the C library and nothing else. Nothing is allocated, no state is kept
  * between calls, and no call fails to return: every function ends on any
  * lengths and any values, NaN and infinities included.
  *

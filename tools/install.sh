@@ -10,7 +10,7 @@
 #   PREFIX/share/doc/piskorlu/                the specification and the licence
 #
 # The installed tree may be moved. DESTDIR, where set, is put before PREFIX. PISKORLU_STATICLIB names another archive than
-# target/staticlib/libcapi.a, which `rt staticlib capi` makes. A file is replaced whole or not at all.
+# target/staticlib/libpiskorlu.a, which `tools/archive.sh` makes. A file is replaced whole or not at all.
 set -eu
 
 die() { echo "install.sh: $*" >&2; exit 1; }
@@ -24,14 +24,14 @@ esac
 root=$(cd "$(dirname "$0")/.." && pwd)
 to=${DESTDIR:-}$prefix
 header=$root/include/piskorlu.h
-archive=${PISKORLU_STATICLIB:-$root/target/staticlib/libcapi.a}
-[ -f "$archive" ] || die "$archive is not there; 'rt staticlib capi' makes it"
+archive=${PISKORLU_STATICLIB:-$root/target/staticlib/libpiskorlu.a}
+[ -f "$archive" ] || die "$archive is not there; 'tools/archive.sh' makes it"
 
 version=$(sed -n 's/^#define PISKORLU_VERSION "\(.*\)"$/\1/p' "$header")
 [ -n "$version" ] || die "$header has no PISKORLU_VERSION"
 # an archive from before a change of the header is not installed beside it
 for call in $(sed -n 's/^[a-z0-9_]* \(piskorlu_[a-z_]*\)(.*/\1/p' "$header"); do
-    grep -aq "$call" "$archive" || die "$archive has no $call; it is older than the header, and 'rt staticlib capi' makes it anew"
+    grep -aq "$call" "$archive" || die "$archive has no $call; it is older than the header, and 'tools/archive.sh' makes it anew"
 done
 
 # Standard input as the file of that name.

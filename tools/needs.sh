@@ -3,7 +3,7 @@
 #
 #   tools/needs.sh NEED..
 #
-# NEED is kit, python, rust, cc, c++, objdump or original. Exit status 1 where one is missing.
+# NEED is kit, python, rust, cc, c++, objdump, ar or original. Exit status 1 where one is missing.
 set -u
 root=$(cd "$(dirname "$0")/.." && pwd -P)
 
@@ -104,7 +104,7 @@ for need in "$@"; do
         kit | python | rust | original) "$need" ;;
         cc) program cc "C compiler" ;;
         c++) program c++ "C++ compiler" ;;
-        objdump) program objdump "binutils" ;;
+        objdump | ar) program "$need" "binutils" ;;
         *)
             echo "needs.sh: no such need: $need" >&2
             exit 2

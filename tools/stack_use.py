@@ -5,7 +5,8 @@
 
 For each function the code is followed along every jump with the depth of the stack, as push, pop, add and sub change it; a call adds what the
 callee takes. A jump through a table is followed to each of its entries. So the number holds for every input. What cannot be followed (another
-computed jump, a stack pointer set otherwise, a callee that is not in the archive) is an error and not a guess. Needs objdump (binutils).
+computed jump, a stack pointer set otherwise, a callee that is not in the same object) is an error and not a guess. Each object of the archive is
+read by itself, since two may have a function of the same name. Needs objdump (binutils).
 """
 
 import os
@@ -14,7 +15,7 @@ import subprocess
 import sys
 
 ROOT = os.path.dirname(os.path.dirname(os.path.abspath(__file__)))
-ARCHIVE = os.path.join(ROOT, "target", "staticlib", "libcapi.a")
+ARCHIVE = os.path.join(ROOT, "target", "staticlib", "libpiskorlu.a")
 
 # Functions that call themselves, and how many calls stand open at most: one for each digit of a 64-bit number in decimal, and in hexadecimal with a last one for none.
 DEPTHS = {"printer::write::decimal": 20, "printer::write::hex": 17}
@@ -29,11 +30,17 @@ _SECTION = re.compile(r"^RELOCATION RECORDS FOR \[(.+)\]:$")
 _ENTRY = re.compile(r"^([0-9a-f]+) R_X86_64_PC32\s+(\S+?)\+(0x[0-9a-f]+)$")
 _RESIZE = re.compile(r"^(add|sub)q?\s+\$(-?0x[0-9a-f]+),%rsp$")
 _TARGET = re.compile(r"^j\w+\s+([0-9a-f]+)\s")
+_OBJECT = re.compile(r"^\S+: +file format .*$", re.MULTILINE)
 
 
-def functions(archive):
+def objects(archive, *options):
+    """What objdump says of each object of the archive."""
+    text = subprocess.run(["objdump", *options, archive], check=True, capture_output=True, text=True).stdout
+    return _OBJECT.split(text)[1:]
+
+
+def functions(text):
     """Each function's instructions by address, what they are linked to, and where the tables begin whose address they take, both by address of the instruction."""
-    text = subprocess.run(["objdump", "-dr", "--no-show-raw-insn", archive], check=True, capture_output=True, text=True).stdout
     found, name, last = {}, None, None
     for line in text.splitlines():
         if match := _FUNCTION.match(line):
@@ -50,9 +57,8 @@ def functions(archive):
     return found
 
 
-def tables(archive):
+def tables(text):
     """For each function that jumps through tables its entries: at an offset of its read-only data, an offset of its code."""
-    text = subprocess.run(["objdump", "-r", archive], check=True, capture_output=True, text=True).stdout
     found, name = {}, None
     for line in text.splitlines():
         if match := _SECTION.match(line):
@@ -156,15 +162,15 @@ def walk(name, code, linked, begins, entries, use):
     return deepest
 
 
-def stack_use(archive):
-    """Bytes for each exported call, its return address counted."""
-    found, through, known, open_calls = functions(archive), tables(archive), dict(LIBRARY), []
+def object_use(found, through):
+    """Bytes for each exported call of one object, its return address counted."""
+    known, open_calls = dict(LIBRARY), []
 
     def use(name):
         if name in known:
             return known[name]
         if name not in found:
-            raise SystemExit(f"stack_use: {name} is called and is not in the archive")
+            raise SystemExit(f"stack_use: {name} is called and is not in its object")
         if name in open_calls:
             if name != open_calls[-1] or name not in DEPTHS:
                 raise SystemExit(f"stack_use: {name} calls itself, and how often is not known")
@@ -174,7 +180,15 @@ def stack_use(archive):
         open_calls.pop()
         return known[name]
 
-    return {name: use(name) + 8 for name in sorted(found) if name.startswith("piskorlu_")}
+    return {name: use(name) + 8 for name in found if name.startswith("piskorlu_")}
+
+
+def stack_use(archive):
+    """Bytes for each exported call of the archive."""
+    most = {}
+    for code, relocations in zip(objects(archive, "-dr", "--no-show-raw-insn"), objects(archive, "-r")):
+        most |= object_use(functions(code), tables(relocations))
+    return dict(sorted(most.items()))
 
 
 if __name__ == "__main__":

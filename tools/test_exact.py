@@ -16,7 +16,7 @@ from fixtures import BOUNDARY, EXAMPLE_ANSWER, EXAMPLE_BYTES, HERE, INF, NAN, RO
 from bendfile import exact, numbers  # noqa: E402
 from bendfile.problem import BadInput  # noqa: E402
 
-LIBRARY = os.path.join(ROOT, "target", "staticlib", "libcapi.a")
+LIBRARY = os.path.join(ROOT, "target", "staticlib", "libpiskorlu.a")
 HEADER = os.path.join(ROOT, "include", "piskorlu.h")
 
 ONE, HALF, LEAST, LARGEST = 0x3FF0000000000000, 0x3FE0000000000000, 1, 0x7FEFFFFFFFFFFFFF
@@ -180,7 +180,7 @@ class Library(unittest.TestCase):
     @classmethod
     def setUpClass(cls):
         if not os.path.exists(LIBRARY):
-            raise AssertionError(f"{LIBRARY} is missing; `rt staticlib capi` makes it")
+            raise AssertionError(f"{LIBRARY} is missing; `tools/archive.sh` makes it")
         with open(HEADER, encoding="utf-8") as header:
             text = header.read()
         for call in ("piskorlu_exact_row", "piskorlu_exact_nearest"):

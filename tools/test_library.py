@@ -3,7 +3,7 @@
 
     python3 -m unittest tools/test_library.py
 
-Needs cc, c++ and objdump, and the archive target/staticlib/libcapi.a, which `rt staticlib capi` makes; PISKORLU_STATICLIB names another.
+Needs cc, c++ and objdump, and the archive target/staticlib/libpiskorlu.a, which `tools/archive.sh` makes; PISKORLU_STATICLIB names another.
 A missing one is a failure that names it. Flags come from pkg-config where it is installed, and else from piskorlu.pc itself.
 """
 
@@ -16,7 +16,7 @@ import tempfile
 import unittest
 
 ROOT = os.path.dirname(os.path.dirname(os.path.abspath(__file__)))
-ARCHIVE = os.environ.get("PISKORLU_STATICLIB", os.path.join(ROOT, "target", "staticlib", "libcapi.a"))
+ARCHIVE = os.environ.get("PISKORLU_STATICLIB", os.path.join(ROOT, "target", "staticlib", "libpiskorlu.a"))
 HEADER = os.path.join(ROOT, "include", "piskorlu.h")
 INSTALL = os.path.join(ROOT, "tools", "install.sh")
 EXAMPLES = os.path.join(ROOT, "examples")
@@ -29,7 +29,7 @@ import stack_use  # noqa: E402
 def setUpModule():
     missing = [tool for tool in ("cc", "c++", "objdump", "nm") if not shutil.which(tool)]
     if not os.path.exists(ARCHIVE):
-        missing.append(f"{ARCHIVE} (rt staticlib capi makes it)")
+        missing.append(f"{ARCHIVE} (tools/archive.sh makes it)")
     if missing:
         raise AssertionError("not there: " + ", ".join(missing))
 

@@ -3,7 +3,7 @@
 
     python3 -m unittest bindings/python/test_piskorlu.py
 
-Needs cc and target/staticlib/libcapi.a (or the archive that PISKORLU_STATICLIB names): the shared object is linked anew, by build.sh, in a
+Needs cc and target/staticlib/libpiskorlu.a (or the archive that PISKORLU_STATICLIB names): the shared object is linked anew, by build.sh, in a
 temporary folder.
 """
 
@@ -20,7 +20,7 @@ import unittest
 
 HERE = os.path.dirname(os.path.abspath(__file__))
 ROOT = os.path.dirname(os.path.dirname(HERE))
-ARCHIVE = os.environ.get("PISKORLU_STATICLIB", os.path.join(ROOT, "target", "staticlib", "libcapi.a"))
+ARCHIVE = os.environ.get("PISKORLU_STATICLIB", os.path.join(ROOT, "target", "staticlib", "libpiskorlu.a"))
 
 sys.dont_write_bytecode = True
 sys.path.insert(0, HERE)

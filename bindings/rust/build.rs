@@ -1,6 +1,6 @@
 //! Finds the static library and links it: the archive that `PISKORLU_STATICLIB`
 //! names, else lib/libpiskorlu.a under the prefix that `PISKORLU_PREFIX` names
-//! (tools/install.sh put it there), else target/staticlib/libcapi.a of this
+//! (tools/install.sh put it there), else target/staticlib/libpiskorlu.a of this
 //! repository.
 
 use std::env;
@@ -17,7 +17,7 @@ fn main() {
     };
     assert!(
         archive.is_file(),
-        "{} is not there; `rt staticlib capi` makes target/staticlib/libcapi.a",
+        "{} is not there; `tools/archive.sh` makes target/staticlib/libpiskorlu.a",
         archive.display()
     );
     println!("cargo::rustc-link-search=native={}", folder.display());
@@ -35,5 +35,5 @@ fn archive() -> PathBuf {
         return PathBuf::from(prefix).join("lib/libpiskorlu.a");
     }
     let crate_folder = env::var("CARGO_MANIFEST_DIR").expect("cargo sets CARGO_MANIFEST_DIR");
-    PathBuf::from(crate_folder).join("../../target/staticlib/libcapi.a")
+    PathBuf::from(crate_folder).join("../../target/staticlib/libpiskorlu.a")
 }

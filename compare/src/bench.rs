@@ -102,7 +102,7 @@ fn page(tables: &str, plotted: bool) -> String {
     format!(
         "# Performance\n\n\
          The port beside the original Rust, on the same inputs in one process. Made by\n\n    \
-         rt staticlib capi\n    cargo run --release --offline -- bench --write\n\n\
+         tools/archive.sh\n    cargo run --release --offline -- bench --write\n\n\
          on {}, {}. The two take turns, and the medians of the rounds are given. Inputs are copied before each\n\
          round, outside the time. The original keeps its workspace from call to call; the port is lent one.\n\n\
          {tables}{plot}\

@@ -139,7 +139,7 @@ fn main() -> ExitCode {
         println!("  looked for in: {}", env!("COMPARE_LOOKED_IN"));
     }
     if port::SQRT.is_none() && port::LEAST_NORM.is_none() {
-        println!("compare: no static library (rt staticlib capi, or PISKORLU_STATICLIB): the port is not compared");
+        println!("compare: no static library (tools/archive.sh, or PISKORLU_STATICLIB): the port is not compared");
     }
     match words.as_slice() {
         ["short"] => short(true),

@@ -2,10 +2,10 @@
  * A pull of three load steps on two pads: written as one chained bend file,
  * then read back, newest step first, and solved.
  *
- * From the repository's root, after `rt staticlib capi`:
+ * From the repository's root, after `tools/archive.sh`:
  *
  *   cc -std=c99 -Wall -Wextra -I include examples/c/chain.c \
- *      target/staticlib/libcapi.a -o target/chain && target/chain
+ *      target/staticlib/libpiskorlu.a -o target/chain && target/chain
  */
 #include <math.h>
 #include <stdio.h>

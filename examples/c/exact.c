@@ -2,10 +2,10 @@
  * A row sum without rounding: a load for which the rounded sum says that
  * nothing moves, though something does; and a row whose large terms cancel.
  *
- * From the repository's root, after `rt staticlib capi`:
+ * From the repository's root, after `tools/archive.sh`:
  *
  *   cc -std=c99 -Wall -Wextra -I include examples/c/exact.c \
- *      target/staticlib/libcapi.a -o target/exact && target/exact
+ *      target/staticlib/libpiskorlu.a -o target/exact && target/exact
  */
 #include <math.h>
 #include <stdio.h>

@@ -3,10 +3,10 @@
  * and the two halves joined are the whole row. Beside them the sums that each
  * board would send as one double.
  *
- * From the repository's root, after `rt staticlib capi`:
+ * From the repository's root, after `tools/archive.sh`:
  *
  *   cc -std=c99 -Wall -Wextra -I include examples/c/join.c \
- *      target/staticlib/libcapi.a -o target/join && target/join
+ *      target/staticlib/libpiskorlu.a -o target/join && target/join
  */
 #include <stdio.h>
 #include <string.h>

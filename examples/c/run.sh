@@ -2,9 +2,9 @@
 # Compiles the C examples against the static library with plain cc, runs them, and compares what they print with what they must print.
 set -eu
 cd "$(dirname "$0")/../.."
-[ -f target/staticlib/libcapi.a ] || rt staticlib capi
+[ -f target/staticlib/libpiskorlu.a ] || tools/archive.sh
 for name in least_norm solve chain exact join; do
-    cc -std=c99 -Wall -Wextra -Werror -I include "examples/c/$name.c" target/staticlib/libcapi.a -o "target/$name"
+    cc -std=c99 -Wall -Wextra -Werror -I include "examples/c/$name.c" target/staticlib/libpiskorlu.a -o "target/$name"
     "target/$name" | tee "target/$name.txt"
     diff "examples/c/$name.txt" "target/$name.txt"
 done

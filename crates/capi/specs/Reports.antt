@@ -1,20 +1,14 @@
 -- A SolveReport as plain numbers: nine counts, the two flags among them as 0 or another number, and the residual beside them. Definitions only.
 use Prim.Native.Nat.{ℕ}
 use mathlib.Core.Path.{_≡_}
-use mathlib.Core.Bool.{Bool, true, false, not, _&&_}
+use mathlib.Core.Bool.{Bool, true, false, _&&_}
 use mathlib.Core.List.{List}
-use lib.Dec.{eqb, leb}
+use lib.Dec.{leb}
 use lib.ListN.{getD, set, length}
 use lib.Ieee.{Float}
+use Rattle.flags.specs.Flags.{flag, flagged}
 use Rattle.report.specs.declared.SolveReport.{SolveReport}
 use Rattle.report.specs.Joins.{Answer, refused, joined}
-
-abbrev pub flagged : ℕ → Bool
-flagged k = not (eqb k 0)
-
-abbrev pub flag : Bool → ℕ
-flag true = 1
-flag false = 0
 
 -- counts in the order increments, iterations, most_iterations, rejected, anchors, sweeps, exact_passes, converged, exact
 unfoldable pub read : List ℕ → Float → SolveReport

@@ -13,7 +13,7 @@ use Rattle.boxed.specs.declared.Cause.the-variants as cause
 use Rattle.boxed.specs.declared.BoxReport.{BoxReport}
 use Rattle.boxed.specs.declared.BoxAnswer.{BoxAnswer}
 use Rattle.boxed.specs.declared.BoxAnswer.the-variants.{Solved, Infeasible, Refused}
-use Rattle.capi.specs.Reports.{flag}
+use Rattle.flags.specs.Flags.{flag}
 
 -- the outcome of an infeasible solve, by its cause; 0 is a solved one's
 abbrev pub causeNumber : Cause → ℕ

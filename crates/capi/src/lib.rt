@@ -15,10 +15,6 @@ use least_norm::LeastNorm;
 use least_norm::Outcome;
 
 mod bend;
-mod chain;
-mod chain_writer;
-mod exact;
-mod exact_nearest;
 mod reports;
 mod solves;
 mod tallying;

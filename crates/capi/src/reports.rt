@@ -4,20 +4,10 @@ ghost use Prim.Native.Nat.{_≤_};
 ghost use lib.ListN.{length, set};
 ghost use Rattle.report.specs.Joins as join;
 ghost use Rattle.capi.specs.Reports as def;
+use flags::flag;
+use flags::flagged;
 use report::Joined;
 use report::SolveReport;
-
-pub fn flag(b: bool) -> u32
-    ensures { λ r. ⌜ r ≡ def.flag b ⌝ }
-{
-    if b { 1 } else { 0 }
-}
-
-pub fn flagged(k: u32) -> bool
-    ensures { λ r. ⌜ r ≡ def.flagged k ⌝ }
-{
-    k != 0
-}
 
 pub fn read(counts: &[u32], residual: f64) -> SolveReport
     requires { ⌜ 9 ≤ length (now counts) ⌝ }

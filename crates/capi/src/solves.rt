@@ -3,10 +3,10 @@ ghost use mathlib.Core.Path.{_≡_};
 ghost use Prim.Native.Nat.{_≤_};
 ghost use lib.ListN.{length, set};
 ghost use Rattle.capi.specs.Solves as def;
-use crate::reports;
 use boxed::BoxAnswer;
 use boxed::BoxReport;
 use boxed::Cause;
+use flags::flag;
 
 fn cause_number(c: Cause) -> usize
     ensures { λ r. ⌜ r ≡ def.causeNumber c ⌝ }
@@ -25,8 +25,8 @@ fn write(outcome: usize, r: BoxReport, listed: usize, counts: &mut [usize])
     counts[0] = outcome;
     counts[1] = r.sweeps as usize;
     counts[2] = r.exact_passes as usize;
-    counts[3] = reports::flag(r.converged) as usize;
-    counts[4] = reports::flag(r.exact) as usize;
+    counts[3] = flag(r.converged) as usize;
+    counts[4] = flag(r.exact) as usize;
     counts[5] = r.idle as usize;
     counts[6] = listed;
 }

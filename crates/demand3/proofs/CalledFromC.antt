@@ -14,6 +14,7 @@ use Rattle.report.specs.declared.SolveReport.{SolveReport}
 use Rattle.box_rows.specs.Rows.{size}
 use Rattle.boxed.specs.Solve.{Outcome, refused, solved, infeasible, answerOf, used, reply, SWEEP_CAP}
 use Rattle.boxed.proofs.Finishing.{solve-uses}
+use Rattle.flags.specs.Flags.{flag, flagged}
 use Rattle.tally.specs.Tally.{Call, Tallied, tallied, answerOn, numberOn, with}
 use Rattle.tallied.specs.Joining.{Entered}
 use Rattle.capi.specs.Reports as report
@@ -25,7 +26,7 @@ use Rattle.demand3.proofs.Called.{demand3-of-code}
 
 -- ---- a report that was written reads back
 
-flag-read : (b : Bool) → report.flagged (report.flag b) ≡ b
+flag-read : (b : Bool) → flagged (flag b) ≡ b
 flag-read true = refl
 flag-read false = refl
 

@@ -4,7 +4,6 @@ use Rattle.capi.proofs.reports.read.Statement.{statement}
 use Rattle.capi.proofs.reports.read.Tie as tie
 use Rattle.capi.proofs.reports.read.Reads as reads
 use Rattle.capi.proofs.reports.read.Lts as lts
-use Rattle.capi.proofs.reports.flagged.Reads as flagged-reads
 
 shared-slice-read-t4 : tie.Need-shared-slice-read-t4
 shared-slice-read-t4 c = search needs

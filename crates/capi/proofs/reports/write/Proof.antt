@@ -6,7 +6,6 @@ use Rattle.capi.proofs.reports.write.Statement.{statement}
 use Rattle.capi.proofs.reports.write.Tie as tie
 use Rattle.capi.proofs.reports.write.Reads as reads
 use Rattle.capi.proofs.reports.write.Lts as lts
-use Rattle.capi.proofs.reports.flag.Reads as flag-reads
 
 slice-write-counts : tie.Need-slice-write-counts
 slice-write-counts c = search needs

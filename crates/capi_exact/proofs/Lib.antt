@@ -1,0 +1,2 @@
+pub mod ExactNearest
+pub mod Sums
