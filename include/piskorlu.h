@@ -60,7 +60,7 @@
 extern "C" {
 #endif
 
-#define PISKORLU_VERSION "1.1.0"
+#define PISKORLU_VERSION "2.0.0"
 
 /* The most stack of a call that has no number of its own. */
 #define PISKORLU_CALL_STACK 4096
@@ -191,11 +191,17 @@ uint32_t piskorlu_least_norm(double *a, size_t a_len, size_t m, size_t n,
  * applies (10 at once where counts or residual is too short), and then nothing
  * is written.
  */
-#define PISKORLU_SOLVE_COUNTS 7
+#define PISKORLU_SOLVE_COUNTS 8
 #define PISKORLU_SOLVE_STACK 14336
 
 /* The places of the counts: converged and exact are 0 or 1, idle is the number
-   of Idle rows, listed the number of rows at the front of `rows`. */
+   of Idle rows, listed the number of rows at the front of `rows`, stopped the
+   number of row updates that the last sweep stopped at a bound (0 where no sweep
+   was made). It tells how hard the stops were working. It is not the number of
+   rows whose state is PISKORLU_AT_LO or PISKORLU_AT_HI: an update that comes to
+   rest on its bound by itself is not stopped (one row, w 1, u_free 0, lo 0: at lo,
+   stopped 0), and a row that was stopped may end elsewhere (rows w 2^-24 and 1,
+   u_free -1 and 4, lo 0: growth, both inside, stopped 1). */
 #define PISKORLU_COUNT_OUTCOME 0
 #define PISKORLU_COUNT_SWEEPS 1
 #define PISKORLU_COUNT_EXACT_PASSES 2
@@ -203,6 +209,7 @@ uint32_t piskorlu_least_norm(double *a, size_t a_len, size_t m, size_t n,
 #define PISKORLU_COUNT_EXACT 4
 #define PISKORLU_COUNT_IDLE 5
 #define PISKORLU_COUNT_LISTED 6
+#define PISKORLU_COUNT_STOPPED 7
 
 /* The outcome: solved, or infeasible, and how that was found. By growth: a
    multiplier passed a million times its scale, which a scale that is far too
@@ -371,12 +378,12 @@ static inline const char *piskorlu_state_in_words(uint8_t state)
 }
 
 /*
- * Reports of solves joined. A report is nine counts, at the places below, and a
+ * Reports of solves joined. A report is ten counts, at the places below, and a
  * residual. Of the flags converged and exact, 0 is no and any other value yes
  * (a joined report has 1 for yes). The report of no solve at all has the counts
  * PISKORLU_REPORT_OF_NO_SOLVE, an initializer, and residual 0.
  */
-#define PISKORLU_REPORT_COUNTS 9
+#define PISKORLU_REPORT_COUNTS 10
 #define PISKORLU_REPORT_INCREMENTS 0
 #define PISKORLU_REPORT_ITERATIONS 1
 #define PISKORLU_REPORT_MOST_ITERATIONS 2
@@ -386,8 +393,9 @@ static inline const char *piskorlu_state_in_words(uint8_t state)
 #define PISKORLU_REPORT_EXACT_PASSES 6
 #define PISKORLU_REPORT_CONVERGED 7
 #define PISKORLU_REPORT_EXACT 8
+#define PISKORLU_REPORT_STOPPED 9
 
-#define PISKORLU_REPORT_OF_NO_SOLVE {0u, 0u, 0u, 0u, 0u, 0u, 0u, 1u, 1u}
+#define PISKORLU_REPORT_OF_NO_SOLVE {0u, 0u, 0u, 0u, 0u, 0u, 0u, 1u, 1u, 0u}
 
 #define PISKORLU_JOIN_STACK 256
 

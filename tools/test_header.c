@@ -197,7 +197,7 @@ static void places(void)
 {
     static Problem p;
     uint32_t tally[] = PISKORLU_REPORT_OF_NO_SOLVE, counts[PISKORLU_REPORT_COUNTS], k;
-    uint32_t a[PISKORLU_REPORT_COUNTS] = {1, 2, 3, 4, 5, 6, 7, 9, 0}, b[] = PISKORLU_REPORT_OF_NO_SOLVE;
+    uint32_t a[PISKORLU_REPORT_COUNTS] = {1, 2, 3, 4, 5, 6, 7, 9, 0, 8}, b[] = PISKORLU_REPORT_OF_NO_SOLVE;
     double residual[1] = {0.0};
 
     /* a ray after sweep 2, beside an Idle row */
@@ -231,7 +231,7 @@ static void places(void)
     check(piskorlu_and(a, 9, 0.5, b, 9, 0.0, counts, 9, residual, 1) == PISKORLU_ACCEPTED, "joined");
     check(counts[PISKORLU_REPORT_INCREMENTS] == 1 && counts[PISKORLU_REPORT_ITERATIONS] == 2 && counts[PISKORLU_REPORT_MOST_ITERATIONS] == 3
               && counts[PISKORLU_REPORT_REJECTED] == 4 && counts[PISKORLU_REPORT_ANCHORS] == 5 && counts[PISKORLU_REPORT_SWEEPS] == 6
-              && counts[PISKORLU_REPORT_EXACT_PASSES] == 7 && counts[PISKORLU_REPORT_CONVERGED] == 1 && counts[PISKORLU_REPORT_EXACT] == 0
+              && counts[PISKORLU_REPORT_EXACT_PASSES] == 7 && counts[PISKORLU_REPORT_CONVERGED] == 1 && counts[PISKORLU_REPORT_EXACT] == 0 && counts[PISKORLU_REPORT_STOPPED] == 8
               && residual[0] == 0.5, "the places of a report, and a flag other than 0 is yes");
     check(piskorlu_continued(a, 9, 0.5, b, 9, 0.0, counts, 9, residual, 1) == PISKORLU_ACCEPTED
               && counts[PISKORLU_REPORT_MOST_ITERATIONS] == 2 && residual[0] == 0.0, "continued: the iterations' sum, and b's residual");

@@ -37,12 +37,12 @@ __all__ = [
     "VERSION",
 ]
 
-VERSION = "1.1.0"
+VERSION = "2.0.0"
 
 MOST = 32
 SOLVE_WORKSPACE = 2304
 LEAST_NORM_WORKSPACE = 1056
-SOLVE_COUNTS = 7
+SOLVE_COUNTS = 8
 BEND_ROOM = 2048
 EXACT_WORDS = 67
 
@@ -105,6 +105,7 @@ class Report:
     exact_passes: int = 0
     converged: bool = True
     exact: bool = True
+    stopped: int = 0
     residual: float = 0.0
 
     def both(self, other):
@@ -129,6 +130,7 @@ class Answer:
     converged: bool
     exact: bool
     idle: int
+    stopped: int
     residual: float
 
     @property
@@ -264,7 +266,7 @@ def _solve(call, before, w, u_free, lo, hi, scale, nu, motion, tolerance):
     number = call(*before, *_lent(*given), tolerance, *_lent(multipliers, states, rows, workspace, counts, residual))
     if number:
         raise Refused(number)
-    outcome, sweeps, passes, converged, exact, idle, listed = counts
+    outcome, sweeps, passes, converged, exact, idle, listed, stopped = counts
     return Answer(
         cause=Cause(outcome) if outcome else None,
         rows=list(rows[:listed]),
@@ -275,6 +277,7 @@ def _solve(call, before, w, u_free, lo, hi, scale, nu, motion, tolerance):
         converged=bool(converged),
         exact=bool(exact),
         idle=idle,
+        stopped=stopped,
         residual=residual[0],
     )
 
@@ -301,7 +304,7 @@ def bend(file):
 
 # ---- reports
 
-_FIELDS = ("increments", "iterations", "most_iterations", "rejected", "anchors", "sweeps", "exact_passes", "converged", "exact")
+_FIELDS = ("increments", "iterations", "most_iterations", "rejected", "anchors", "sweeps", "exact_passes", "converged", "exact", "stopped")
 
 
 def _report(report):

@@ -13,7 +13,7 @@ pub type Sqrt = fn(f64) -> f64;
 pub type LeastNorm =
     fn(&mut [f64], usize, usize, &mut [f64], &mut [f64], &mut [f64], &mut [u32]) -> u32;
 
-/// A join of two reports into nine counts and a residual; 0, or the number of
+/// A join of two reports into ten counts and a residual; 0, or the number of
 /// the refusal.
 pub type Join = fn(Report, Report, &mut [u32], &mut [f64]) -> u32;
 

@@ -39,6 +39,7 @@ static int show(const char *name, const double *w, const double *u_free)
         for (size_t i = 0; i < 2; i++)
             printf("; pad %zu: %.17g, %s", i, nu[i],
                    piskorlu_state_in_words(states[i]));
+        printf("; stopped %zu", counts[PISKORLU_COUNT_STOPPED]);
     } else {
         printf("; no loads");
         for (size_t k = 0; k < counts[PISKORLU_COUNT_LISTED]; k++)

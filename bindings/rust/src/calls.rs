@@ -26,11 +26,11 @@ pub struct Lent<'a> {
     pub residual: &'a mut [f64],
 }
 
-/// A report's nine counts, the flags converged and exact last among them, and
+/// A report's ten counts, the flags converged and exact last among them, and
 /// its residual.
 pub type Report<'a> = (&'a [u32], f64);
 
-/// A tally: nine counts and the residual, in and out.
+/// A tally: ten counts and the residual, in and out.
 pub type Tally<'a> = (&'a mut [u32], &'a mut [f64]);
 
 /// piskorlu_sqrt.
@@ -74,7 +74,7 @@ pub fn least_norm(
 /// The two joins have one signature.
 macro_rules! join {
     ($name:ident, $call:ident) => {
-        #[doc = concat!(stringify!($call), ": two reports into nine counts and a residual.")]
+        #[doc = concat!(stringify!($call), ": two reports into ten counts and a residual.")]
         pub fn $name(a: Report, b: Report, counts: &mut [u32], residual: &mut [f64]) -> u32 {
             // SAFETY: see the head of the module.
             unsafe {

@@ -167,7 +167,7 @@ fn answered<'a>(
     workspace: &mut [f64],
     call: impl FnOnce(calls::Lent) -> u32,
 ) -> Answer<'a> {
-    let (mut counts, mut residual) = ([0; 7], [0.0]);
+    let (mut counts, mut residual) = ([0; 8], [0.0]);
     let number = call(calls::Lent {
         w: problem.w,
         u_free: problem.u_free,
@@ -186,7 +186,7 @@ fn answered<'a>(
     if number != 0 {
         return Answer::Refused(Refusal::of(number));
     }
-    let [outcome, sweeps, exact_passes, converged, exact, idle, listed] = counts;
+    let [outcome, sweeps, exact_passes, converged, exact, idle, listed, stopped] = counts;
     let report = BoxReport {
         sweeps: sweeps as u32,
         exact_passes: exact_passes as u32,
@@ -194,6 +194,7 @@ fn answered<'a>(
         exact: exact != 0,
         residual: residual[0],
         idle: idle as u32,
+        stopped: stopped as u32,
     };
     let cause = match outcome {
         0 => return Answer::Solved(report),

@@ -18,6 +18,10 @@ pub struct BoxReport {
     pub residual: f64,
     /// How many rows are Idle.
     pub idle: u32,
+    /// How many row updates the last sweep stopped at a bound. Not the rows whose
+    /// state is AtLo or AtHi: a row may stand on its bound without being stopped, and
+    /// a row that was stopped may end elsewhere.
+    pub stopped: u32,
 }
 
 /// What one or many solves report, joined.
@@ -30,6 +34,7 @@ pub struct SolveReport {
     pub anchors: u32,
     pub sweeps: u32,
     pub exact_passes: u32,
+    pub stopped: u32,
     pub converged: bool,
     pub exact: bool,
     pub residual: f64,
@@ -42,7 +47,7 @@ impl Default for SolveReport {
 }
 
 /// How many counts a report has.
-pub(crate) const COUNTS: usize = 9;
+pub(crate) const COUNTS: usize = 10;
 
 impl SolveReport {
     /// The report of no solve.
@@ -54,6 +59,7 @@ impl SolveReport {
         anchors: 0,
         sweeps: 0,
         exact_passes: 0,
+        stopped: 0,
         converged: true,
         exact: true,
         residual: 0.0,
@@ -99,11 +105,12 @@ impl SolveReport {
             self.exact_passes,
             self.converged.into(),
             self.exact.into(),
+            self.stopped,
         ]
     }
 
     pub(crate) fn of(counts: &[u32; COUNTS], residual: f64) -> Self {
-        let [increments, iterations, most_iterations, rejected, anchors, sweeps, exact_passes, converged, exact] =
+        let [increments, iterations, most_iterations, rejected, anchors, sweeps, exact_passes, converged, exact, stopped] =
             *counts;
         SolveReport {
             increments,
@@ -113,6 +120,7 @@ impl SolveReport {
             anchors,
             sweeps,
             exact_passes,
+            stopped,
             converged: converged != 0,
             exact: exact != 0,
             residual,

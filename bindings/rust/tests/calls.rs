@@ -70,6 +70,7 @@ fn report(sweeps: u32, exact_passes: u32, exact: bool, residual: f64) -> BoxRepo
         exact,
         residual,
         idle: 0,
+        stopped: 0,
     }
 }
 
@@ -327,6 +328,7 @@ fn both_layers_agree() {
                 report.exact.into(),
                 report.idle as usize,
                 left.listed.len(),
+                report.stopped as usize,
             ];
             assert_eq!((told, report.residual), (counts, residual[0]));
             assert_eq!(left.listed, rows[..counts[6]]);

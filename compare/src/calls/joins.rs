@@ -28,6 +28,7 @@ pub fn same_report(a: &SolveReport, b: &SolveReport, zeros: Zeros) -> bool {
             r.anchors,
             r.sweeps,
             r.exact_passes,
+            r.stopped,
         ]
     };
     counts(a) == counts(b)
@@ -65,7 +66,8 @@ pub mod theirs {
         }
     }
 
-    pub fn back(r: &Theirs) -> SolveReport {
+    /// The original has no rows stopped: their sum is put in.
+    pub fn back(r: &Theirs, stopped: u32) -> SolveReport {
         SolveReport {
             increments: r.increments,
             iterations: r.iterations,
@@ -74,6 +76,7 @@ pub mod theirs {
             anchors: r.anchors,
             sweeps: r.sweeps,
             exact_passes: r.exact_passes,
+            stopped,
             converged: r.converged,
             exact: r.exact,
             residual: r.residual,
@@ -89,7 +92,7 @@ pub mod ours {
     /// What the slices hold before a join and past its answer.
     const GUARD: u32 = 0xA5A5_5A5A;
 
-    pub fn counts(r: &SolveReport) -> [u32; 9] {
+    pub fn counts(r: &SolveReport) -> [u32; 10] {
         [
             r.increments,
             r.iterations,
@@ -100,6 +103,7 @@ pub mod ours {
             r.exact_passes,
             r.converged as u32,
             r.exact as u32,
+            r.stopped,
         ]
     }
 
@@ -114,34 +118,35 @@ pub mod ours {
             exact_passes: counts[6],
             converged: counts[7] == 1,
             exact: counts[8] == 1,
+            stopped: counts[9],
             residual,
         }
     }
 
-    /// One join. Lengths of 8 and 0 must get 13, and a refusal or a longer
+    /// One join. Lengths of 9 and 0 must get 13, and a refusal or a longer
     /// slice must keep what it held; otherwise the answer is a number that no
     /// party gives.
     pub fn join(join: Join, a: &SolveReport, b: &SolveReport) -> Result<SolveReport, u32> {
         const CHANGED: u32 = u32::MAX;
         let (first, second) = (counts(a), counts(b));
         let (a, b) = ((&first[..], a.residual), (&second[..], b.residual));
-        let mut left = [GUARD; 11];
+        let mut left = [GUARD; 12];
         let mut residual = [-7.0; 2];
-        let kept = |left: &[u32; 11], residual: &[f64; 2], from: usize| {
+        let kept = |left: &[u32; 12], residual: &[f64; 2], from: usize| {
             left[from..].iter().all(|&c| c == GUARD)
-                && residual[from / 9..].iter().all(|&r| r == -7.0)
+                && residual[from / 10..].iter().all(|&r| r == -7.0)
         };
         let short = [
-            join((&first[..8], a.1), b, &mut left, &mut residual),
-            join(a, (&second[..8], b.1), &mut left, &mut residual),
-            join(a, b, &mut left[..8], &mut residual),
+            join((&first[..9], a.1), b, &mut left, &mut residual),
+            join(a, (&second[..9], b.1), &mut left, &mut residual),
+            join(a, b, &mut left[..9], &mut residual),
             join(a, b, &mut left, &mut residual[..0]),
         ];
         if short != [13; 4] || !kept(&left, &residual, 0) {
             return Err(CHANGED);
         }
         let number = join(a, b, &mut left, &mut residual);
-        let from = if number == 0 { 9 } else { 0 };
+        let from = if number == 0 { 10 } else { 0 };
         if !kept(&left, &residual, from) {
             return Err(CHANGED);
         }
@@ -206,6 +211,7 @@ impl Call for Joins {
     fn original(case: &Case, reference: &Answer) -> Option<Answer> {
         use crate::original::report::SolveReport as Theirs;
         let (first, second) = (theirs::of(&case.first), theirs::of(&case.second));
+        let stopped = || case.first.stopped + case.second.stopped;
         let list = || {
             case.list
                 .iter()
@@ -214,9 +220,14 @@ impl Call for Joins {
         Some(Answer {
             continued: reference
                 .continued
-                .map(|_| theirs::back(&first.continued(second))),
-            and: reference.and.map(|_| theirs::back(&first.and(second))),
-            list: reference.list.map(|_| theirs::back(&list())),
+                .map(|_| theirs::back(&first.continued(second), stopped())),
+            and: reference
+                .and
+                .map(|_| theirs::back(&first.and(second), stopped())),
+            list: reference.list.map(|_| {
+                let stopped = case.list.iter().map(|r| r.stopped).sum();
+                theirs::back(&list(), stopped)
+            }),
         })
     }
 

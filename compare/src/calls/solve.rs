@@ -9,6 +9,8 @@ use crate::coverage::{Class, Coverage, NUMBERS, ROWS};
 use crate::port;
 use crate::reference::problem::{Lent, WORKSPACE};
 use crate::reference::rule::{Place, Rule};
+#[cfg(original)]
+use crate::reference::solve::stopped_again;
 use crate::reference::solve::{solve, BoxReport, Cause, Outcome};
 
 pub struct Solve;
@@ -120,7 +122,7 @@ pub fn ported(case: &Case, call: impl FnOnce(port::Lent) -> u32) -> Answer {
     let mut states = Guarded::filled(u8::GUARD, case.states_len);
     let mut rows = Guarded::filled(usize::GUARD, case.rows_len);
     let mut workspace = Guarded::of(&lent_workspace(case));
-    let mut counts = Guarded::filled(usize::GUARD, 7);
+    let mut counts = Guarded::filled(usize::GUARD, 8);
     let mut residual = Guarded::filled(f64::GUARD, 1);
     let number = call(port::Lent {
         w: &p.w,
@@ -172,7 +174,7 @@ fn port_ending(
     counts: &[usize],
     residual: &[f64],
 ) -> Option<Option<(Outcome, BoxReport)>> {
-    let &[outcome, sweeps, exact_passes, converged, exact, idle, listed] = counts else {
+    let &[outcome, sweeps, exact_passes, converged, exact, idle, listed, stopped] = counts else {
         return None;
     };
     let &[residual] = residual else {
@@ -200,6 +202,7 @@ fn port_ending(
             exact: exact == 1,
             residual,
             idle: idle.try_into().ok()?,
+            stopped: stopped.try_into().ok()?,
         },
     )))
 }
@@ -245,6 +248,8 @@ fn ending(
         exact: report.exact,
         residual: report.residual,
         idle: report.idle,
+        // the original has no such count: the reference's second way of counting stands in for it
+        stopped: stopped_again(&case.problem.lend(), &case.problem.nu, report.sweeps),
     };
     let Some(rows) = rows else {
         return (Outcome::Solved, report);
@@ -273,6 +278,8 @@ fn report_difference(a: &BoxReport, b: &BoxReport) -> Option<&'static str> {
         Some("residual")
     } else if a.idle != b.idle {
         Some("idle")
+    } else if a.stopped != b.stopped {
+        Some("rows stopped")
     } else {
         None
     }

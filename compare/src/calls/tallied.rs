@@ -52,12 +52,12 @@ fn run(
 /// The refusal of slices too short.
 const SHORT: u32 = 10;
 
-/// Whether the port refuses a tally of eight counts and one of no residual,
+/// Whether the port refuses a tally of nine counts and one of no residual,
 /// and writes nothing.
 fn refuses_short(case: &cases::Case, tally: &SolveReport, call: port::Tallied) -> bool {
     let counts = ours::counts(tally);
     let residual = [tally.residual];
-    [(8, 1), (9, 0)].into_iter().all(|(n, m)| {
+    [(9, 1), (10, 0)].into_iter().all(|(n, m)| {
         let mut lent_counts = Guarded::of(&counts[..n]);
         let mut lent_residual = Guarded::of(&residual[..m]);
         let answer = solve::ported(case, |lent| {
@@ -80,7 +80,7 @@ fn ported(case: &cases::Case, tally: &mut SolveReport, call: port::Tallied) -> S
     let mut residual = Guarded::of(&[tally.residual]);
     let mut answer = solve::ported(case, |lent| call((counts.lend(), residual.lend()), lent));
     let left = counts.kept().zip(residual.kept());
-    let (counts, residual) = left.unwrap_or((vec![0; 9], vec![f64::NAN]));
+    let (counts, residual) = left.unwrap_or((vec![0; 10], vec![f64::NAN]));
     if !refuses_short(case, tally, call) {
         answer.number = solve::MARGINS_CHANGED;
     } else if answer.number == 0 {
@@ -100,12 +100,14 @@ fn full_tally(rng: &mut Rng) -> SolveReport {
         increments: 7,
         sweeps: 30,
         exact_passes: 9,
+        stopped: 40,
         ..NOTHING
     };
-    match rng.below(4) {
+    match rng.below(5) {
         0 => tally.increments = at(u32::MAX),
         1 => tally.sweeps = at(4_294_967_095),
         2 => tally.exact_passes = at(4_294_967_286),
+        3 => tally.stopped = at(4_294_967_263),
         _ => tally.iterations = u32::MAX,
     }
     tally
@@ -205,12 +207,14 @@ impl Call for Tallied {
                     increments: 1,
                     sweeps: report.sweeps,
                     exact_passes: report.exact_passes,
+                    stopped: report.stopped,
                     converged: report.converged,
                     exact: report.exact,
                     residual: report.residual,
                     ..NOTHING
                 };
-                *tally = theirs::back(&theirs::of(tally).and(theirs::of(&joined)));
+                let stopped = tally.stopped + report.stopped;
+                *tally = theirs::back(&theirs::of(tally).and(theirs::of(&joined)), stopped);
             }
             answer
         }))

@@ -32,6 +32,7 @@ fn report(rng: &mut Rng, count: impl Fn(&mut Rng) -> u32) -> SolveReport {
         anchors: count(rng),
         sweeps: count(rng),
         exact_passes: count(rng),
+        stopped: count(rng),
         converged: rng.chance(50),
         exact: rng.chance(50),
         residual: rng.unit(),
@@ -61,7 +62,7 @@ fn limit(rng: &mut Rng) -> Case {
             rng.pick(&[0, 1, u32::MAX, u32::MAX - 1, 1 << 31, (1 << 31) - 1])
         });
     }
-    let field = rng.below(7);
+    let field = rng.below(8);
     let total = u64::from(u32::MAX) + rng.pick(&[0, 0, 1, 2]) - rng.pick(&[0, 1]);
     let second = rng.next() >> rng.between(32, 63) as u32;
     set(
@@ -91,7 +92,8 @@ fn set(report: &mut SolveReport, field: usize, value: u32) {
         3 => &mut report.rejected,
         4 => &mut report.anchors,
         5 => &mut report.sweeps,
-        _ => &mut report.exact_passes,
+        6 => &mut report.exact_passes,
+        _ => &mut report.stopped,
     } = value;
 }
 

@@ -10,6 +10,30 @@ pub const DIVERGENCE: f64 = 1e6;
 
 /// lo if v < lo, else hi if v > hi, else v.
 pub fn clamp(v: f64, lo: f64, hi: f64, rule: Rule) -> f64 {
+    clamp_sided(v, lo, hi, rule).0
+}
+
+/// At which bound a clamp stops a value.
+#[derive(Clone, Copy, PartialEq, Eq, Debug)]
+pub enum Side {
+    None,
+    Low,
+    High,
+}
+
+/// The clamp and its side: a value that equals a bound is not stopped.
+pub fn clamp_sided(v: f64, lo: f64, hi: f64, rule: Rule) -> (f64, Side) {
+    let side = if v < lo || (rule.is(Rule::StoppedAtEqualBound) && v == lo) {
+        Side::Low
+    } else if v > hi || (rule.is(Rule::StoppedAtEqualBound) && v == hi) {
+        Side::High
+    } else {
+        Side::None
+    };
+    (clamped(v, lo, hi, rule), side)
+}
+
+fn clamped(v: f64, lo: f64, hi: f64, rule: Rule) -> f64 {
     if rule.is(Rule::ClampHiFirst) {
         if v > hi {
             return hi;

@@ -21,6 +21,7 @@ pub struct SolveReport {
     pub anchors: u32,
     pub sweeps: u32,
     pub exact_passes: u32,
+    pub stopped: u32,
     pub converged: bool,
     pub exact: bool,
     pub residual: f64,
@@ -35,6 +36,7 @@ pub const NOTHING: SolveReport = SolveReport {
     anchors: 0,
     sweeps: 0,
     exact_passes: 0,
+    stopped: 0,
     converged: true,
     exact: true,
     residual: 0.0,
@@ -48,6 +50,14 @@ fn count(a: u32, b: u32, rule: Rule) -> Result<u32, u32> {
         Rule::SumLimitRefused => a.checked_add(b).filter(|&s| s < u32::MAX).ok_or(TOO_LARGE),
         _ => a.checked_add(b).ok_or(TOO_LARGE),
     }
+}
+
+/// The sum of the rows stopped.
+fn stopped_sum(a: u32, b: u32, rule: Rule) -> Result<u32, u32> {
+    if rule.is(Rule::StoppedSumFits) {
+        return Ok(a.saturating_add(b));
+    }
+    count(a, b, rule)
 }
 
 impl SolveReport {
@@ -72,6 +82,11 @@ impl SolveReport {
             anchors: count(self.anchors, then.anchors, rule)?,
             sweeps: count(self.sweeps, then.sweeps, rule)?,
             exact_passes: count(self.exact_passes, then.exact_passes, rule)?,
+            stopped: if rule.is(Rule::ContinuedStoppedLast) {
+                then.stopped
+            } else {
+                stopped_sum(self.stopped, then.stopped, rule)?
+            },
             converged: then.converged && (self.converged || !rule.is(Rule::ContinuedConvergedBoth)),
             exact: then.exact && (self.exact || rule.is(Rule::ContinuedExactLast)),
             residual: match rule {
@@ -100,6 +115,11 @@ impl SolveReport {
             anchors: count(self.anchors, other.anchors, rule)?,
             sweeps: count(self.sweeps, sweeps, rule)?,
             exact_passes: count(self.exact_passes, passes, rule)?,
+            stopped: if rule.is(Rule::AndStoppedLast) {
+                other.stopped
+            } else {
+                stopped_sum(self.stopped, other.stopped, rule)?
+            },
             converged: if rule.is(Rule::AndConvergedLast) {
                 other.converged
             } else {
@@ -154,7 +174,13 @@ fn tally_full(tally: &SolveReport, rule: Rule) -> bool {
         _ => (u32::MAX, 4_294_967_095, 4_294_967_286),
     };
     let counted = tally.increments >= increments && !rule.is(Rule::TallyIncrementsHigh);
-    counted || tally.sweeps > sweeps || tally.exact_passes > passes
+    let stopped = match rule {
+        Rule::TallyStoppedHigh => 4_294_967_264,
+        Rule::TallyStoppedLow => 4_294_967_262,
+        Rule::TallyStoppedByAdded => u32::MAX,
+        _ => 4_294_967_263,
+    };
+    counted || tally.sweeps > sweeps || tally.exact_passes > passes || tally.stopped > stopped
 }
 
 /// The report of one solve as the tally takes it.
@@ -168,6 +194,11 @@ fn as_solve_report(report: &BoxReport, rule: Rule) -> SolveReport {
         },
         sweeps: report.sweeps,
         exact_passes: report.exact_passes,
+        stopped: if rule.is(Rule::TallyStoppedLost) {
+            0
+        } else {
+            report.stopped
+        },
         converged: report.converged,
         exact: report.exact,
         residual: report.residual,

@@ -102,6 +102,15 @@ rules! {
     RowSumFreeLast, Solve, "row sum: u_free added last";
     RowSumWithoutIdle, Solve, "row sum: Idle columns left out";
     SweepFromBefore, Solve, "sweep: from the multipliers before it";
+    StoppedAtEqualBound, Solve, "stopped: a value that equals a bound is";
+    StoppedLowOnly, Solve, "stopped: at the lower bound only";
+    StoppedByBoundsReached, Solve, "stopped: every multiplier that the sweep leaves on a bound";
+    StoppedByOldSums, Solve, "stopped: by the row sums of the sweep's start";
+    StoppedOfAllSweeps, Solve, "stopped: the rows of every sweep";
+    StartStopped, Solve, "stopped: the start's clamp too";
+    IdleStopped, Solve, "stopped: the clamp of an Idle row too";
+    StoppedByStates, Solve, "stopped: the rows whose state is AtLo or AtHi";
+    StoppedNoneWhenExact, Solve, "stopped: 0 where a pass found the answer";
     SweepByProduct, Solve, "sweep: times 1 / W_ii";
     OneSweepRepeated, Solve, "one true sweep, and its report for any number";
     CapLower, Solve, "at most 199 sweeps";
@@ -215,6 +224,9 @@ rules! {
     ContinuedExactLast, Joins, "continued: the last exact";
     ContinuedResidualFirst, Joins, "continued: the first residual";
     ContinuedResidualLarger, Joins, "continued: the larger residual";
+    AndStoppedLast, Joins, "and: the rows stopped of the second alone";
+    ContinuedStoppedLast, Joins, "continued: the rows stopped of the second alone";
+    StoppedSumFits, Joins, "13: not for the rows stopped, whose sum stays at the limit";
     SumWraps, Joins, "13: a sum too large wraps";
     SumStopsAtLimit, Joins, "13: a sum too large stays at 4,294,967,295";
     SumLimitRefused, Joins, "13: a sum of 4,294,967,295 refused";
@@ -230,6 +242,10 @@ rules! {
     TallySweepsLow, Tally, "11: sweeps 4,294,967,095 refused";
     TallyPassesHigh, Tally, "11: passes 4,294,967,287 taken";
     TallyPassesLow, Tally, "11: passes 4,294,967,286 refused";
+    TallyStoppedHigh, Tally, "11: rows stopped one higher";
+    TallyStoppedLow, Tally, "11: rows stopped one lower";
+    TallyStoppedByAdded, Tally, "11: only where this solve's rows stopped do not fit";
+    TallyStoppedLost, Tally, "the tally: without the rows stopped";
     TallyIterationsOfSweeps, Tally, "iterations taken from sweeps";
     TallyWithoutInfeasible, Tally, "an infeasible solve joins nothing";
 

@@ -1,7 +1,7 @@
 //! The solve: start, sweeps with growth, exact passes, motion test, residual
 //! test and ray, and what is left in the lent buffers.
 
-use super::float::{clamp, larger, larger_or_nan, DIVERGENCE, EXACT_RESIDUAL};
+use super::float::{clamp, clamp_sided, larger, larger_or_nan, Side, DIVERGENCE, EXACT_RESIDUAL};
 use super::pass::{Pass, PassEnd};
 use super::problem::{Lent, Problem, MOST_ROWS, WORKSPACE};
 use super::ray::{ray, RowList};
@@ -20,6 +20,8 @@ pub struct BoxReport {
     pub exact: bool,
     pub residual: f64,
     pub idle: u32,
+    /// Rows whose update the last sweep stopped at a bound.
+    pub stopped: u32,
 }
 
 /// What found that no motion meets every row.
@@ -97,7 +99,10 @@ impl<'a> Run<'a> {
             } else {
                 nu[i]
             };
-            run.nu[i] = clamp(from, p.lo[i], p.hi[i], rule);
+            let (at, side) = clamp_sided(from, p.lo[i], p.hi[i], rule);
+            run.nu[i] = at;
+            let counted = rule.is(Rule::StartStopped) || (idle && rule.is(Rule::IdleStopped));
+            run.report.stopped += u32::from(counted && side != Side::None);
             if rule.is(Rule::StartNotClamped) && !idle {
                 run.nu[i] = nu[i];
             }
@@ -160,6 +165,13 @@ impl<'a> Run<'a> {
         let p = self.p;
         let n = p.n();
         self.before = self.nu;
+        let kept = matches!(
+            self.rule,
+            Rule::StoppedOfAllSweeps | Rule::StartStopped | Rule::IdleStopped
+        );
+        if !(kept && self.report.sweeps == 0 || self.rule.is(Rule::StoppedOfAllSweeps)) {
+            self.report.stopped = 0;
+        }
         for i in 0..n {
             if self.states[i] == State::Idle {
                 continue;
@@ -175,7 +187,20 @@ impl<'a> Run<'a> {
             } else {
                 u / p.w(i, i)
             };
-            self.nu[i] = clamp(self.nu[i] - step, p.lo[i], p.hi[i], self.rule);
+            let from_row = self.nu[i] - step;
+            let (to, side) = clamp_sided(from_row, p.lo[i], p.hi[i], self.rule);
+            self.nu[i] = to;
+            let stopped = match self.rule {
+                Rule::StoppedLowOnly => side == Side::Low,
+                Rule::StoppedByBoundsReached => to == p.lo[i] || to == p.hi[i],
+                Rule::StoppedByOldSums => {
+                    let u = p.row_sum(i, &self.before[..n], self.rule);
+                    let v = self.before[i] - u / p.w(i, i);
+                    clamp_sided(v, p.lo[i], p.hi[i], self.rule).1 != Side::None
+                }
+                _ => side != Side::None,
+            };
+            self.report.stopped += u32::from(stopped);
         }
     }
 
@@ -323,6 +348,13 @@ impl<'a> Run<'a> {
         if shown {
             self.show_states();
         }
+        if self.rule.is(Rule::StoppedByStates) {
+            let on = |s: &&State| matches!(s, State::AtLo | State::AtHi);
+            self.report.stopped = self.states[..self.p.n()].iter().filter(on).count() as u32;
+        }
+        if self.rule.is(Rule::StoppedNoneWhenExact) && self.report.exact {
+            self.report.stopped = 0;
+        }
         self.report.sweeps += u32::from(self.rule.is(Rule::SweepsInvented));
         self.report.exact_passes += u32::from(self.rule.is(Rule::PassesInvented));
         self.leave(lent, &rows);
@@ -371,4 +403,30 @@ fn checkpoint(sweep: u32, rule: Rule) -> bool {
         Rule::PassAtThree if sweep == 3 => true,
         _ => sweep.is_power_of_two() || sweep == SWEEP_CAP,
     }
+}
+
+/// The rows stopped, counted a second way: the same solve by sweeps alone up to
+/// the one before its last, then each row of the last one held against its
+/// bounds. `nu` are the multipliers as lent and `sweeps` those reported.
+pub fn stopped_again(p: &Problem, nu: &[f64], sweeps: u32) -> u32 {
+    if sweeps == 0 {
+        return 0;
+    }
+    let n = p.n();
+    let mut run = Run::start(p, nu, Rule::None);
+    for _ in 1..sweeps {
+        run.sweep();
+    }
+    let before = run.nu;
+    run.sweep();
+    let mut stopped = 0;
+    for i in 0..n {
+        // the new multipliers of the rows before it, the old ones from it on
+        let mut midway = before;
+        midway[..i].copy_from_slice(&run.nu[..i]);
+        let v = before[i] - p.row_sum(i, &midway[..n], Rule::None) / p.w(i, i);
+        let past = v < p.lo[i] || p.hi[i] < v;
+        stopped += u32::from(run.states[i] != State::Idle && past);
+    }
+    stopped
 }

@@ -73,7 +73,7 @@ unfolding
     answers
     loops.turns loops.between loops.downward loops.swap loops.tab loops.those loops.every loops.noted loops.counted
     updates.updated
-    helpers.clamp helpers.larger helpers.abs helpers.isNaN helpers.isFinite
+    helpers.clamp helpers.side helpers.larger helpers.abs helpers.isNaN helpers.isFinite
     root.wholeRoot root.nearestRoot root.sqrt
     sums.gathered
     reflector.beta reflector.less reflector.factor reflector.reflect
@@ -82,7 +82,7 @@ unfolding
     least.leading least.rowNorm2 least.keptRow least.reflectRow least.reflectRows least.clear least.cleared
     least.lastCleared least.known least.substituted least.turn least.turned least.firstTurned least.unpermuted
     least.solved least.ranked least.leastNorm
-    box.row box.isIdle box.onBound box.stateOf box.rowSum box.update box.naturalResidual box.residualAt
+    box.row box.isIdle box.onBound box.stateOf box.rowSum box.update box.updateSide box.naturalResidual box.residualAt
     rays.sizeOf rays.largestRow rays.largest rays.dropped rays.grows rays.collect rays.collectRow rays.collected
     rays.linear rays.quadraticRow rays.quadratic rays.farthest rays.falls rays.fallingRows rays.ray
     pass.startRow pass.start pass.rightHandRow pass.rightHandSide pass.matrixRow pass.matrix pass.residualRow
@@ -90,7 +90,7 @@ unfolding
     pass.longest pass.nearer pass.ratioRow pass.ratioTest pass.advance pass.hold pass.pushed pass.worse pass.releaseRow
     pass.worstRow pass.release pass.scattered pass.unmet pass.unbounded pass.stepped pass.takeStep pass.toward pass.stepOf
     pass.step pass.steps pass.closed pass.exactPass
-    sweep.startRow sweep.start sweep.sweepRow sweep.sweep sweep.isGrown sweep.residualRow sweep.residual
+    sweep.startRow sweep.start sweep.sweepRow sweep.sweep sweep.stops sweep.stopped sweep.isGrown sweep.residualRow sweep.residual
     sweep.coordinate sweep.moved sweep.change sweep.classifyRow sweep.classified
     solve.member solve.unless solve.passed solve.checked solve.tested solve.turn solve.run solve.reportOf solve.unfound
     solve.result solve.solve solve.goodScale solve.refusal solve.reply solve.solveReply

@@ -7,7 +7,7 @@ use lib.ListN.{getD, length}
 use lib.Ieee.{Float, le}
 use Rattle.loops.specs.Loops.{tab}
 use Rattle.floats.specs.Ops.{_⊕_, _⊖_, _⊗_, _⊘_, at, 0ᶠ, 1e-9}
-use Rattle.floats.specs.Helpers.{clamp, abs, isNaN, isFinite}
+use Rattle.floats.specs.Helpers.{clamp, none, side, abs, isNaN, isFinite}
 
 -- ---- the problem
 
@@ -78,6 +78,13 @@ rowSum (a ∷ r) u (v ∷ nu) = rowSum r (u ⊕ a ⊗ v) nu
 
 unfoldable pub update : Float → Float → Float → Float → Float → Float
 update v u d lo hi = clamp (v ⊖ u ⊘ d) lo hi
+
+-- the side at which it is stopped, and whether it is
+unfoldable pub updateSide : Float → Float → Float → Float → Float → ℕ
+updateSide v u d lo hi = side (v ⊖ u ⊘ d) lo hi
+
+abbrev pub isStopped : ℕ → Bool
+isStopped s = not (eqb s none)
 
 unfoldable pub naturalResidual : Float → Float → Float → Float → Float → Float → Float
 naturalResidual v u d lo hi s = abs (v ⊖ update v u d lo hi) ⊘ s

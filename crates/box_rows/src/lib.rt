@@ -4,6 +4,7 @@
 ghost use mathlib.Core.Path.{_≡_};
 ghost use Rattle.box_rows.specs.Rows as box;
 ghost use Rattle.box_rows.specs.Private as private;
+use floats::Clamped;
 
 // How near a bound, over the row's scale, a multiplier must be for its row to count as on the bound.
 pub const ON_A_BOUND: f64 = 1e-9;
@@ -17,9 +18,9 @@ pub const AT_HI: u8 = 2;
 
 pub const IDLE: u8 = 3;
 
-// Where a row's update puts its multiplier v: u is the row sum and d the diagonal.
-pub fn update(v: f64, u: f64, d: f64, lo: f64, hi: f64) -> f64
-    ensures { λ r. ⌜ r ≡ box.update v u d lo hi ⌝ }
+// Where a row's update puts its multiplier v, and the side at which it is stopped: u is the row sum and d the diagonal.
+pub fn update(v: f64, u: f64, d: f64, lo: f64, hi: f64) -> Clamped
+    ensures { λ r. ⌜ (r .value ≡ box.update v u d lo hi) × (r .side ≡ box.updateSide v u d lo hi) ⌝ }
 {
     floats::clamp(v - u / d, lo, hi)
 }
@@ -28,7 +29,8 @@ pub fn update(v: f64, u: f64, d: f64, lo: f64, hi: f64) -> f64
 pub fn natural_residual(v: f64, u: f64, d: f64, lo: f64, hi: f64, s: f64) -> f64
     ensures { λ r. ⌜ r ≡ box.naturalResidual v u d lo hi s ⌝ }
 {
-    floats::abs(v - update(v, u, d, lo, hi)) / s
+    let to = update(v, u, d, lo, hi);
+    floats::abs(v - to.value) / s
 }
 
 // Whether a finite bound is at most so near.

@@ -123,6 +123,9 @@ module _ (p : box.Problem) (st : List ℕ) (nu : List Float) (rows : List ℕ) (
 
 -- ---- a check
 
+pub one-tried : (n : Counts) → def.counts (n .sweeps) (n .passes + 1) (n .stopped) ≡ def.tried n
+one-tried n = ap (λ (k : ℕ). def.counts (n .sweeps) k (n .stopped)) (add-one (n .passes))
+
 module _ (cap : ℕ) (p : box.Problem) (nu : List Float) (st : List ℕ) (n : Counts) (rows : List ℕ) (b : Bool) (due : b ≡ def.checkpoint cap (n .sweeps)) where
   pub check-tried : (g : Sweeping) (nu′ : List Float) (st′ : List ℕ) (n′ : Counts) (rows′ : List ℕ) → b ≡ true → n′ ≡ def.tried n → ((c : Counts) → Ran (def.passed (def.iterate nu st c) (exactPass p st nu)) rows g nu′ st′ (def.tried c) rows′) → Ran (def.checked cap p (def.going (def.iterate nu st n))) rows g nu′ st′ n′ rows′
   unfolding def.checked

@@ -56,7 +56,7 @@ finished p idle g nu st c a st′ e f (ended (infeasible b r) s) l₀ l h =
 -- one law for each return: x is the residual, and q the report
 module _ (p : box.Problem) (idle : ℕ) (g : Sweeping) (nu : List Float) (st : List ℕ) (c : Counts) (x : Float) (e : x ≡ sweep.residual p st nu (box.size p)) (q : BoxReport) where
   abbrev reported : Bool → Bool → BoxReport
-  reported a b = record { sweeps = c .sweeps; «exact_passes» = c .passes; converged = a; exact = b; residual = x; idle = idle }
+  reported a b = record { sweeps = c .sweeps; «exact_passes» = c .passes; converged = a; exact = b; residual = x; idle = idle; stopped = c .stopped }
 
   pub end-exact : g ≡ sweeping.Exact → q ≡ reported true true → (r : Run) (l₀ l : List ℕ) → Ran r l₀ g nu st c l → Finished (def.result p idle l₀ r) (Solved q) nu st l
   unfolding def.reportOf

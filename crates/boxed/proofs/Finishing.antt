@@ -21,6 +21,6 @@ unfolding solve
 solve-uses cap p m nu st l = go (start (p .w) (size p) (p .lo) (p .hi) nu st (size p)) (eqb (start (p .w) (size p) (p .lo) (p .hi) nu st (size p) .idle) (size p))
   where
     go : (b : Start) (c : Bool)
-        → used (cond c (left (solved (nothing (b .idle))) (b .nu) (b .states) l) (result p (b .idle) l (run cap p m (iterate (b .nu) (b .states) (counts 0 0)) cap)) .outcome) ≡ 2304
+        → used (cond c (left (solved (nothing (b .idle))) (b .nu) (b .states) l) (result p (b .idle) l (run cap p m (iterate (b .nu) (b .states) (counts 0 0 0)) cap)) .outcome) ≡ 2304
     go b true = refl
-    go b false = result-uses p (b .idle) l (run cap p m (iterate (b .nu) (b .states) (counts 0 0)) cap)
+    go b false = result-uses p (b .idle) l (run cap p m (iterate (b .nu) (b .states) (counts 0 0 0)) cap)

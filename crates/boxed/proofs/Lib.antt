@@ -1,5 +1,6 @@
 pub mod Rows
 pub mod Later
+pub mod Stopping
 pub mod Testing
 pub mod Ends
 pub mod Checks

@@ -28,7 +28,7 @@ module _ (cap : ℕ) (p : box.Problem) (m : Watch) (nu : List Float) (st l : Lis
   unfolding def.solve
   all-idle h r e = rw (begun, eq-eqb idle (box.size p) (h ∙ long)) (record { answer = ap Solved e; multipliers = refl; states = refl; listed = refl })
 
-  pub some-act : (idle ≡ length nu → ⊥) → (r : BoxAnswer) (nu′ : List Float) (st′ l′ : List ℕ) → Finished (def.result p idle l (def.run cap p m (iterate nu₁ st₁ (def.counts 0 0)) cap)) r nu′ st′ l′ → Finished (def.solve cap p m nu st l) r nu′ st′ l′
+  pub some-act : (idle ≡ length nu → ⊥) → (r : BoxAnswer) (nu′ : List Float) (st′ l′ : List ℕ) → Finished (def.result p idle l (def.run cap p m (iterate nu₁ st₁ (def.counts 0 0 0)) cap)) r nu′ st′ l′ → Finished (def.solve cap p m nu st l) r nu′ st′ l′
   unfolding def.solve
   some-act h r nu′ st′ l′ f = rw (begun, ne-eqb idle (box.size p) (λ e. h (e ∙ sym long))) f
 

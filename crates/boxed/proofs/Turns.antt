@@ -47,13 +47,14 @@ module _ (l₀ : List ℕ) (g : Sweeping) (nu : List Float) (st : List ℕ) (c :
   ended-stays cap p m (going s) h f i = absurd (true≢false (rw (h .answer) at f))
   ended-stays cap p m (ended e s) h f i = refl
 
-pub one-more : (n : Counts) → def.counts (n .sweeps + 1) (n .passes) ≡ def.counts (suc (n .sweeps)) (n .passes)
-one-more n = ap (λ (k : ℕ). def.counts k (n .passes)) (add-one (n .sweeps))
+pub one-more : (n : Counts) (s t : ℕ) → s ≡ t → def.counts (n .sweeps + 1) (n .passes) s ≡ def.counts (suc (n .sweeps)) (n .passes) t
+one-more n s t e = rw (add-one (n .sweeps), e)
 
 -- ---- one sweep: nu₁ are the multipliers after it, and k rows of them are grown
 
 module _ (cap : ℕ) (p : box.Problem) (m : Watch) (nu : List Float) (st : List ℕ) (n : Counts) (i : ℕ) (rows : List ℕ) (nu₁ : List Float) (c : Counts) (k : ℕ) (rows₁ : List ℕ)
-    (swept : nu₁ ≡ sweeps.sweep (p .w) (p .uFree) (p .lo) (p .hi) st nu (box.size p)) (counted : c ≡ def.counts (suc (n .sweeps)) (n .passes)) (long : length nu₁ ≡ box.size p)
+    (swept : nu₁ ≡ sweeps.sweep (p .w) (p .uFree) (p .lo) (p .hi) st nu (box.size p))
+    (counted : c ≡ def.counts (suc (n .sweeps)) (n .passes) (sweeps.stopped (p .w) (p .uFree) (p .lo) (p .hi) st nu (box.size p))) (long : length nu₁ ≡ box.size p)
     (grew : Gathering (sweeps.grownAt nu₁ (p .scale)) rows (length nu₁) k rows₁) where
   abbrev after : Run
   after = def.unless cause.Growth (iterate nu₁ st c) (sweeps.grown nu₁ (p .scale) (length nu₁))

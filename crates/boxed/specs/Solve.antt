@@ -34,8 +34,9 @@ checkpoint cap k = member k (table ++ (cap ∷ []))
 
 -- ---- a solve between two sweeps, or how it ended
 
-abbrev pub counts : ℕ → ℕ → Counts
-counts sweeps passes = record { sweeps = sweeps; passes = passes }
+-- sweeps run, passes tried, and the rows that the last sweep stopped
+abbrev pub counts : ℕ → ℕ → ℕ → Counts
+counts sweeps passes stopped = record { sweeps = sweeps; passes = passes; stopped = stopped }
 
 pub record Iterate : Type 0 where
   pub nu : List Float
@@ -61,7 +62,7 @@ unless c s (a ∷ l) = ended (infeasible c (a ∷ l)) s
 
 -- one pass more
 abbrev pub tried : Counts → Counts
-tried c = counts (c .sweeps) (suc (c .passes))
+tried c = counts (c .sweeps) (suc (c .passes)) (c .stopped)
 
 unfoldable pub passed : Iterate → pass.Pass → Run
 passed s (pass.moved t) = going (iterate (s .nu) (t .states) (tried (s .counts)))
@@ -94,7 +95,8 @@ unfoldable pub turn : ℕ → box.Problem → Watch → ℕ → Run → Run
 turn cap p m i (ended e s) = ended e s
 turn cap p m i (going s) =
     let nu = sweep.sweep (p .w) (p .uFree) (p .lo) (p .hi) (s .states) (s .nu) (box.size p) in
-    let t = iterate nu (s .states) (counts (suc (s .counts .sweeps)) (s .counts .passes)) in
+    let stopped = sweep.stopped (p .w) (p .uFree) (p .lo) (p .hi) (s .states) (s .nu) (box.size p) in
+    let t = iterate nu (s .states) (counts (suc (s .counts .sweeps)) (s .counts .passes) stopped) in
     tested p m (s .nu) (checked cap p (unless cause.Growth t (sweep.grown nu (p .scale) (box.size p))))
 
 -- after k more sweeps at most
@@ -127,6 +129,7 @@ reportOf p idle c e s =
       exact = e;
       residual = sweep.residual p (s .states) (s .nu) (box.size p);
       idle = idle;
+      stopped = s .counts .stopped;
     }
 
 -- where no pass found the solution, the states are those that the multipliers show
@@ -142,14 +145,14 @@ result p idle l (ended (infeasible c r) s) = left (infeasible c r (reportOf p id
 
 -- all rows Idle: nothing to solve
 abbrev pub nothing : ℕ → BoxReport
-nothing idle = record { sweeps = 0; «exact_passes» = 0; converged = true; exact = true; residual = 0ᶠ; idle = idle }
+nothing idle = record { sweeps = 0; «exact_passes» = 0; converged = true; exact = true; residual = 0ᶠ; idle = idle; stopped = 0 }
 
 -- st are n states
 unfoldable pub solve : ℕ → box.Problem → Watch → List Float → List ℕ → List ℕ → Result
 solve cap p m nu st l =
     let b = sweep.start (p .w) (box.size p) (p .lo) (p .hi) nu st (box.size p) in
     cond (eqb (b .idle) (box.size p)) (left (solved (nothing (b .idle))) (b .nu) (b .states) l)
-    (result p (b .idle) l (run cap p m (iterate (b .nu) (b .states) (counts 0 0)) cap))
+    (result p (b .idle) l (run cap p m (iterate (b .nu) (b .states) (counts 0 0 0)) cap))
 
 -- ---- refusals, in the order of document 01: 0 is none. `room` is the workspace's length.
 

@@ -1,10 +1,10 @@
 -- The start of a solve, one sweep, growth, and the tests after a sweep, by document 01 and boxed.rs. Definitions only. A loop's last argument is how far it has come.
 use Prim.Native.Nat.{ℕ, suc, _/_}
-use mathlib.Core.Bool.{Bool, cond}
+use mathlib.Core.Bool.{Bool, cond, _&&_}
 use mathlib.Core.List.{List}
 use lib.ListN.{set, length}
 use lib.Ieee.{Float, lt, le}
-use Rattle.loops.specs.Loops.{turns, those, tab}
+use Rattle.loops.specs.Loops.{turns, those, counted, tab}
 use Rattle.floats.specs.Ops.{_⊕_, _⊖_, _⊗_, at, 0ᶠ, 1e6, 1e-9}
 use Rattle.floats.specs.Helpers.{clamp, larger, abs}
 use Rattle.box_rows.specs.Rows as box
@@ -40,6 +40,21 @@ sweepRow w uFree lo hi st i nu =
 
 unfoldable pub sweep : List Float → List Float → List Float → List Float → List ℕ → List Float → ℕ → List Float
 sweep w uFree lo hi st nu i = turns i nu (sweepRow w uFree lo hi st)
+
+-- ---- the rows that a sweep stops at a bound: those that act and whose update, when the sweep comes to the row, is stopped
+
+unfoldable pub stops : List Float → List Float → List Float → List Float → List ℕ → ℕ → List Float → Bool
+stops w uFree lo hi st i nu =
+    let r = box.row w (length uFree) i in
+    box.acts st i && box.isStopped (box.updateSide (at nu i) (box.rowSum r (at uFree i) nu) (at r i) (at lo i) (at hi i))
+
+-- row i updates what the sweep has made of nu by then
+abbrev pub stoppedRow : List Float → List Float → List Float → List Float → List ℕ → List Float → ℕ → ℕ → ℕ
+stoppedRow w uFree lo hi st nu i k = counted (stops w uFree lo hi st i (sweep w uFree lo hi st nu i)) k
+
+-- how many of the first i rows
+unfoldable pub stopped : List Float → List Float → List Float → List Float → List ℕ → List Float → ℕ → ℕ
+stopped w uFree lo hi st nu i = turns i 0 (stoppedRow w uFree lo hi st nu)
 
 -- ---- growth: the rows whose multiplier is above a million scales (DIVERGENCE), Idle rows included
 

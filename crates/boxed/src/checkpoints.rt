@@ -117,6 +117,7 @@ pub fn check(
             counts: Counts {
                 sweeps: counts.sweeps,
                 passes: counts.passes + 1,
+                stopped: counts.stopped,
             },
         };
     }

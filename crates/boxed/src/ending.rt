@@ -27,6 +27,7 @@ pub fn nothing(idle: u32) -> BoxReport
         exact: true,
         residual: 0.0,
         idle,
+        stopped: 0,
     }
 }
 
@@ -75,6 +76,7 @@ fn report(counts: Counts, converged: bool, exact: bool, residual: f64, idle: u32
       exact = exact;
       residual = residual;
       idle = idle;
+      stopped = counts .stopped;
     } ⌝ }
 {
     BoxReport {
@@ -84,6 +86,7 @@ fn report(counts: Counts, converged: bool, exact: bool, residual: f64, idle: u32
         exact,
         residual,
         idle,
+        stopped: counts.stopped,
     }
 }
 

@@ -53,6 +53,8 @@ pub struct BoxReport {
     pub residual: f64,
     // Rows skipped because they cannot act.
     pub idle: u32,
+    // Rows whose update the last sweep stopped at a bound.
+    pub stopped: u32,
 }
 
 // How a solve ended: the multipliers are in the caller's slice; or no motion meets every row, and so many rows at the
@@ -72,10 +74,11 @@ pub enum Sweeping {
     Infeasible(Cause, usize),
 }
 
-// What a solve has counted so far.
+// What a solve has counted so far; of the rows stopped those of the last sweep alone.
 pub struct Counts {
     pub sweeps: u32,
     pub passes: u32,
+    pub stopped: u32,
 }
 
 pub struct Progress {

@@ -58,10 +58,11 @@ fn turn(
 {
     let n = u_free.len();
     let mut before = [0.0f64; 32];
-    sweep::sweep(w, u_free, lo, hi, states, nu, &mut before[..n]);
+    let stopped = sweep::sweep(w, u_free, lo, hi, states, nu, &mut before[..n]);
     let c = Counts {
         sweeps: counts.sweeps + 1,
         passes: counts.passes,
+        stopped,
     };
     let k = growth::grown(nu, scale, rows);
     if k != 0 {
@@ -117,13 +118,14 @@ pub fn run(
         (def.run (limits .cap)
         (box.problem (now (w .entry)) (now («u_free» .entry)) (now (lo .entry)) (now (hi .entry)) (now (scale .entry)))
         (def.watch (now (motion .entry)) (limits .tolerance))
-        (def.iterate (now (nu .entry)) (now (states .entry)) (def.counts 0 0)) (limits .cap))
+        (def.iterate (now (nu .entry)) (now (states .entry)) (def.counts 0 0 0)) (limits .cap))
         (now (rows .entry)) (q .sweeping) (now (nu .exit)) (now (states .exit)) (q .counts) (now (rows .exit))
         × (private.beyond (now (work .exit)) ≡ private.beyond (now (work .entry))) ⌝ }
 {
     let mut counts = Counts {
         sweeps: 0,
         passes: 0,
+        stopped: 0,
     };
     while counts.sweeps < limits.cap {
         let p = turn(

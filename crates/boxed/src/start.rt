@@ -25,11 +25,13 @@ fn start_row(
 {
     if box_rows::is_idle(d) {
         read::put_state(states, i, box_rows::IDLE);
-        read::put(nu, i, floats::clamp(0.0, lo, hi));
+        let c = floats::clamp(0.0, lo, hi);
+        read::put(nu, i, c.value);
         return idle + 1;
     }
     read::put_state(states, i, box_rows::INSIDE);
-    read::put(nu, i, floats::clamp(read::at(nu, i), lo, hi));
+    let c = floats::clamp(read::at(nu, i), lo, hi);
+    read::put(nu, i, c.value);
     idle
 }
 

@@ -1,11 +1,25 @@
-// One sweep: each row that acts updates its multiplier, in order.
+// One sweep: each row that acts updates its multiplier, in order, and the rows that are stopped at a bound are counted.
 ghost use mathlib.Core.Path.{_≡_};
-ghost use Prim.Native.Nat.{_<_};
+ghost use Prim.Native.Nat.{_+_, _≤_, _<_};
 ghost use lib.ListN.{length};
+ghost use Rattle.loops.specs.Loops.{counted};
+ghost use Rattle.box_rows.specs.Rows as box;
 ghost use Rattle.box_rows.specs.Private as lists;
 ghost use Rattle.boxed.specs.Sweep as def;
 use crate::read;
 
+// k, and one more where an update is stopped at this side.
+fn count(side: u8, k: u32) -> u32
+    requires { ⌜ k < 0xffff_ffff ⌝ }
+    ensures { λ q. ⌜ q ≡ counted (box.isStopped side) k ⌝ }
+{
+    if side == floats::NONE {
+        return k;
+    }
+    k + 1
+}
+
+// Row i; how many rows up to it are stopped, k being those before it.
 fn sweep_row(
     w: &[f64],
     u_free: &[f64],
@@ -14,16 +28,20 @@ fn sweep_row(
     states: &[u8],
     nu: &mut [f64],
     i: usize,
-)
+    k: u32,
+) -> u32
     requires { ⌜ lists.Square (now w) (length (now «u_free»)) × (length (now lo) ≡ length (now «u_free»))
         × (length (now hi) ≡ length (now «u_free»)) × (length (now states) ≡ length (now «u_free»))
-        × (length (now nu) ≡ length (now «u_free»)) × (i < length (now «u_free»)) ⌝ }
+        × (length (now nu) ≡ length (now «u_free»)) × (i < length (now «u_free»)) × (k ≤ i) ⌝ }
     ensures { λ q. ⌜
-        now (nu .exit) ≡ def.sweepRow (now (w .entry)) (now («u_free» .entry)) (now (lo .entry)) (now (hi .entry))
-        (now (states .entry)) i (now (nu .entry)) ⌝ }
+        (now (nu .exit) ≡ def.sweepRow (now (w .entry)) (now («u_free» .entry)) (now (lo .entry)) (now (hi .entry))
+        (now (states .entry)) i (now (nu .entry)))
+        × (q ≡ counted (def.stops (now (w .entry)) (now («u_free» .entry)) (now (lo .entry)) (now (hi .entry))
+        (now (states .entry)) i (now (nu .entry))) k)
+        × (q ≤ i + 1) ⌝ }
 {
     if read::state(states, i) == box_rows::IDLE {
-        return;
+        return k;
     }
     let row = read::row(w, u_free.len(), i);
     let u = box_rows::row_sum(row, read::at(u_free, i), nu);
@@ -34,11 +52,12 @@ fn sweep_row(
         read::at(lo, i),
         read::at(hi, i),
     );
-    read::put(nu, i, v);
+    read::put(nu, i, v.value);
+    count(v.side, k)
 }
 
-// `before` gets the multipliers as they were: each is noted just before its row updates it, which spares a walk of its
-// own.
+// How many rows are stopped. `before` gets the multipliers as they were: each is noted just before its row updates it,
+// which spares a walk of its own.
 pub fn sweep(
     w: &[f64],
     u_free: &[f64],
@@ -47,20 +66,24 @@ pub fn sweep(
     states: &[u8],
     nu: &mut [f64],
     before: &mut [f64],
-)
+) -> u32
     requires { ⌜ lists.Square (now w) (length (now «u_free»)) × (length (now lo) ≡ length (now «u_free»))
         × (length (now hi) ≡ length (now «u_free»)) × (length (now states) ≡ length (now «u_free»))
         × (length (now nu) ≡ length (now «u_free»)) × (length (now before) ≡ length (now «u_free»)) ⌝ }
     ensures { λ q. ⌜
         (now (nu .exit) ≡ def.sweep (now (w .entry)) (now («u_free» .entry)) (now (lo .entry)) (now (hi .entry))
         (now (states .entry)) (now (nu .entry)) (length (now («u_free» .entry))))
-        × (now (before .exit) ≡ now (nu .entry)) ⌝ }
+        × (now (before .exit) ≡ now (nu .entry))
+        × (q ≡ def.stopped (now (w .entry)) (now («u_free» .entry)) (now (lo .entry)) (now (hi .entry))
+        (now (states .entry)) (now (nu .entry)) (length (now («u_free» .entry)))) ⌝ }
 {
     let n = u_free.len();
+    let mut k = 0;
     let mut i = 0;
     while i < n {
         read::put(before, i, read::at(nu, i));
-        sweep_row(w, u_free, lo, hi, states, nu, i);
+        k = sweep_row(w, u_free, lo, hi, states, nu, i, k);
         i += 1;
     }
+    k
 }

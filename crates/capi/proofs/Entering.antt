@@ -18,18 +18,18 @@ use Rattle.capi.specs.Tallies as def
 use Rattle.capi.proofs.Solving as solving
 
 module _ (tally : List ℕ) (kept : List Float) (counts : List ℕ) (residual : List Float) (h : def.taken tally kept counts residual ≡ true) where
-  pub nine : 9 ≤ length tally
+  pub ten : 10 ≤ length tally
   unfolding def.taken
-  nine = leb-true 9 (length tally) (both-true (leb 9 (length tally)) (leb 1 (length kept) && plain.taken counts residual) h .0)
+  ten = leb-true 10 (length tally) (both-true (leb 10 (length tally)) (leb 1 (length kept) && plain.taken counts residual) h .0)
 
   one-and : leb 1 (length kept) && plain.taken counts residual ≡ true
   unfolding def.taken
-  one-and = both-true (leb 9 (length tally)) (leb 1 (length kept) && plain.taken counts residual) h .1
+  one-and = both-true (leb 10 (length tally)) (leb 1 (length kept) && plain.taken counts residual) h .1
 
   pub one : 1 ≤ length kept
   one = leb-true 1 (length kept) (both-true (leb 1 (length kept)) (plain.taken counts residual) one-and .0)
 
-  pub room : (7 ≤ length counts) × (1 ≤ length residual)
+  pub room : (8 ≤ length counts) × (1 ≤ length residual)
   room = solving.room counts residual (both-true (leb 1 (length kept)) (plain.taken counts residual) one-and .1)
 
 module _ (t : SolveReport) (c : Call) (tally : List ℕ) (kept : List Float) (counts : List ℕ) (residual : List Float) where

@@ -11,15 +11,15 @@ use Rattle.loops.proofs.Every.{both-true}
 use Rattle.capi.specs.Reports.{taken}
 
 pub record Room (a b counts : List ℕ) (residual : List Float) : Type 0 where
-  pub first : 9 ≤ length a
-  pub second : 9 ≤ length b
-  pub joined : 9 ≤ length counts
+  pub first : 10 ≤ length a
+  pub second : 10 ≤ length b
+  pub joined : 10 ≤ length counts
   pub one : 1 ≤ length residual
 
 pub room : (a b counts : List ℕ) (residual : List Float) → taken a b counts residual ≡ true → Room a b counts residual
 unfolding taken
 room a b counts residual h =
-    let x = both-true (leb 9 (length a) && leb 9 (length b) && leb 9 (length counts)) (leb 1 (length residual)) h in
-    let y = both-true (leb 9 (length a) && leb 9 (length b)) (leb 9 (length counts)) (x .0) in
-    let z = both-true (leb 9 (length a)) (leb 9 (length b)) (y .0) in
-    record { first = leb-true 9 (length a) (z .0); second = leb-true 9 (length b) (z .1); joined = leb-true 9 (length counts) (y .1); one = leb-true 1 (length residual) (x .1) }
+    let x = both-true (leb 10 (length a) && leb 10 (length b) && leb 10 (length counts)) (leb 1 (length residual)) h in
+    let y = both-true (leb 10 (length a) && leb 10 (length b)) (leb 10 (length counts)) (x .0) in
+    let z = both-true (leb 10 (length a)) (leb 10 (length b)) (y .0) in
+    record { first = leb-true 10 (length a) (z .0); second = leb-true 10 (length b) (z .1); joined = leb-true 10 (length counts) (y .1); one = leb-true 1 (length residual) (x .1) }

@@ -14,11 +14,11 @@ use Rattle.boxed.specs.Solve.{Left}
 use Rattle.boxed.specs.declared.BoxAnswer.{BoxAnswer}
 use Rattle.capi.specs.Solves as def
 
-pub room : (counts : List ℕ) (residual : List Float) → def.taken counts residual ≡ true → (7 ≤ length counts) × (1 ≤ length residual)
+pub room : (counts : List ℕ) (residual : List Float) → def.taken counts residual ≡ true → (8 ≤ length counts) × (1 ≤ length residual)
 unfolding def.taken
 room counts residual h =
-    let x = both-true (leb 7 (length counts)) (leb 1 (length residual)) h in
-    (leb-true 7 (length counts) (x .0), leb-true 1 (length residual) (x .1))
+    let x = both-true (leb 8 (length counts)) (leb 1 (length residual)) h in
+    (leb-true 8 (length counts) (x .0), leb-true 1 (length residual) (x .1))
 
 module _ (p : Problem) (m : solve.Watch) (nu : List Float) (st q : List ℕ) (room : ℕ) (counts : List ℕ) (residual : List Float) where
   pub no-room : (w : List Float) → def.taken counts residual ≡ false → def.Answered (def.reply (def.taken counts residual) p m nu st q room) 10 nu st q counts counts residual residual w w

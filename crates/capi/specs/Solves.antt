@@ -1,4 +1,4 @@
--- A solve by plain numbers: seven counts (outcome, sweeps, exact passes, converged, exact, Idle rows, rows listed) and the residual beside them. Definitions only.
+-- A solve by plain numbers: eight counts (outcome, sweeps, exact passes, converged, exact, Idle rows, rows listed, rows stopped) and the residual beside them. Definitions only.
 use Prim.Native.Nat.{ℕ}
 use mathlib.Core.Path.{_≡_}
 use mathlib.Core.Bool.{Bool, true, false, cond, _&&_}
@@ -21,10 +21,10 @@ causeNumber cause.Growth = 1
 causeNumber cause.Pass = 2
 causeNumber cause.Sweep = 3
 
--- the list with the seven counts in its first places
+-- the list with the eight counts in its first places
 unfoldable pub written : ℕ → BoxReport → ℕ → List ℕ → List ℕ
 written outcome r listed l =
-    set (set (set (set (set (set (set l 0 outcome) 1 (r .sweeps)) 2 (r .«exact_passes»)) 3 (flag (r .converged))) 4 (flag (r .exact))) 5 (r .idle)) 6 listed
+    set (set (set (set (set (set (set (set l 0 outcome) 1 (r .sweeps)) 2 (r .«exact_passes»)) 3 (flag (r .converged))) 4 (flag (r .exact))) 5 (r .idle)) 6 listed) 7 (r .stopped)
 
 abbrev pub number : BoxAnswer → ℕ
 number (Solved r) = 0
@@ -41,10 +41,10 @@ residualLeft (Solved r) l = set l 0 (r .residual)
 residualLeft (Infeasible c k r) l = set l 0 (r .residual)
 residualLeft (Refused k) l = l
 
--- ---- the call: 10 too where there is no room for seven counts or the residual
+-- ---- the call: 10 too where there is no room for eight counts or the residual
 
 unfoldable pub taken : List ℕ → List Float → Bool
-taken counts residual = leb 7 (length counts) && leb 1 (length residual)
+taken counts residual = leb 8 (length counts) && leb 1 (length residual)
 
 unfoldable pub reply : Bool → Problem → solve.Watch → List Float → List ℕ → List ℕ → ℕ → solve.Result
 reply true p m nu st q room = solve.solveReply p m nu st q room

@@ -1,4 +1,4 @@
--- A tallied solve by plain numbers: the tally as a SolveReport of nine counts and a residual, the answer as a solve's seven counts and residual. Definitions only.
+-- A tallied solve by plain numbers: the tally as a SolveReport of ten counts and a residual, the answer as a solve's eight counts and residual. Definitions only.
 use Prim.Native.Nat.{ℕ}
 use mathlib.Core.Path.{_≡_}
 use mathlib.Core.Bool.{Bool, true, false, cond, _&&_}
@@ -19,10 +19,10 @@ countsKept k t l = cond (eqb k 0) (report.written t l) l
 unfoldable pub residualKept : ℕ → SolveReport → List Float → List Float
 residualKept k t l = cond (eqb k 0) (set l 0 (t .residual)) l
 
--- ---- the call: 10 too where there is no room for nine counts and the residual of the tally, or for those of the answer
+-- ---- the call: 10 too where there is no room for ten counts and the residual of the tally, or for those of the answer
 
 unfoldable pub taken : List ℕ → List Float → List ℕ → List Float → Bool
-taken tally kept counts residual = leb 9 (length tally) && (leb 1 (length kept) && plain.taken counts residual)
+taken tally kept counts residual = leb 10 (length tally) && (leb 1 (length kept) && plain.taken counts residual)
 
 unfoldable pub reply : Bool → SolveReport → Call → Tallied
 reply true t c = tallied t c

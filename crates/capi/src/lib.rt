@@ -58,7 +58,7 @@ pub extern "C" fn piskorlu_least_norm(
     }
 }
 
-// Two reports joined by `and`, each nine counts and a residual: 0 and the joined report in counts and residual, or 13.
+// Two reports joined by `and`, each ten counts and a residual: 0 and the joined report in counts and residual, or 13.
 #[no_mangle]
 pub extern "C" fn piskorlu_and(
     a: &[u32],
@@ -107,7 +107,7 @@ pub extern "C" fn piskorlu_continued(
     13
 }
 
-// BoxSolver::solve: 0, with seven counts and the residual of the answer; or document 01's number, and nothing is
+// BoxSolver::solve: 0, with eight counts and the residual of the answer; or document 01's number, and nothing is
 // written.
 #[no_mangle]
 pub extern "C" fn piskorlu_solve(

@@ -10,7 +10,7 @@ use report::Joined;
 use report::SolveReport;
 
 pub fn read(counts: &[u32], residual: f64) -> SolveReport
-    requires { ⌜ 9 ≤ length (now counts) ⌝ }
+    requires { ⌜ 10 ≤ length (now counts) ⌝ }
     ensures { λ r. ⌜ r ≡ def.read (now (counts .entry)) residual ⌝ }
 {
     SolveReport {
@@ -23,12 +23,13 @@ pub fn read(counts: &[u32], residual: f64) -> SolveReport
         exact_passes: counts[6],
         converged: flagged(counts[7]),
         exact: flagged(counts[8]),
+        stopped: counts[9],
         residual,
     }
 }
 
 pub fn write(r: SolveReport, counts: &mut [u32])
-    requires { ⌜ 9 ≤ length (now counts) ⌝ }
+    requires { ⌜ 10 ≤ length (now counts) ⌝ }
     ensures { λ _. ⌜ now (counts .exit) ≡ def.written r (now (counts .entry)) ⌝ }
 {
     counts[0] = r.increments;
@@ -40,11 +41,12 @@ pub fn write(r: SolveReport, counts: &mut [u32])
     counts[6] = r.exact_passes;
     counts[7] = flag(r.converged);
     counts[8] = flag(r.exact);
+    counts[9] = r.stopped;
 }
 
 // What a join came to, left in the lent slices: 0, or the number of a refusal and nothing written.
 pub fn leave(joined: Joined, counts: &mut [u32], residual: &mut [f64]) -> u32
-    requires { ⌜ (9 ≤ length (now counts)) × (1 ≤ length (now residual)) ⌝ }
+    requires { ⌜ (10 ≤ length (now counts)) × (1 ≤ length (now residual)) ⌝ }
     ensures { λ r. ⌜ def.Left (join.answer joined) r (now (counts .entry)) (now (counts .exit))
         (now (residual .entry)) (now (residual .exit)) ⌝ }
 {
@@ -58,17 +60,17 @@ pub fn leave(joined: Joined, counts: &mut [u32], residual: &mut [f64]) -> u32
     }
 }
 
-// Whether the slices hold nine counts each, and one residual.
+// Whether the slices hold ten counts each, and one residual.
 pub fn taken(a: &[u32], b: &[u32], counts: &[u32], residual: &[f64]) -> bool
     ensures { λ r. ⌜ r ≡ def.taken (now (a .entry)) (now (b .entry)) (now (counts .entry)) (now (residual .entry)) ⌝ }
 {
-    if a.len() < 9 {
+    if a.len() < 10 {
         return false;
     }
-    if b.len() < 9 {
+    if b.len() < 10 {
         return false;
     }
-    if counts.len() < 9 {
+    if counts.len() < 10 {
         return false;
     }
     1 <= residual.len()

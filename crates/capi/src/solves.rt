@@ -19,7 +19,7 @@ fn cause_number(c: Cause) -> usize
 }
 
 fn write(outcome: usize, r: BoxReport, listed: usize, counts: &mut [usize])
-    requires { ⌜ 7 ≤ length (now counts) ⌝ }
+    requires { ⌜ 8 ≤ length (now counts) ⌝ }
     ensures { λ _. ⌜ now (counts .exit) ≡ def.written outcome r listed (now (counts .entry)) ⌝ }
 {
     counts[0] = outcome;
@@ -29,11 +29,12 @@ fn write(outcome: usize, r: BoxReport, listed: usize, counts: &mut [usize])
     counts[4] = flag(r.exact) as usize;
     counts[5] = r.idle as usize;
     counts[6] = listed;
+    counts[7] = r.stopped as usize;
 }
 
 // An answer left in the lent slices: 0, or the number of a refusal and nothing written.
 pub fn leave(answer: BoxAnswer, counts: &mut [usize], residual: &mut [f64]) -> u32
-    requires { ⌜ (7 ≤ length (now counts)) × (1 ≤ length (now residual)) ⌝ }
+    requires { ⌜ (8 ≤ length (now counts)) × (1 ≤ length (now residual)) ⌝ }
     ensures { λ r. ⌜ (r ≡ def.number answer) × (now (counts .exit) ≡ def.countsLeft answer (now (counts .entry)))
         × (now (residual .exit) ≡ def.residualLeft answer (now (residual .entry))) ⌝ }
 {
@@ -52,11 +53,11 @@ pub fn leave(answer: BoxAnswer, counts: &mut [usize], residual: &mut [f64]) -> u
     }
 }
 
-// Whether the slices hold seven counts and one residual.
+// Whether the slices hold eight counts and one residual.
 pub fn taken(counts: &[usize], residual: &[f64]) -> bool
     ensures { λ r. ⌜ r ≡ def.taken (now (counts .entry)) (now (residual .entry)) ⌝ }
 {
-    if counts.len() < 7 {
+    if counts.len() < 8 {
         return false;
     }
     1 <= residual.len()

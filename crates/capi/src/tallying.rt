@@ -12,12 +12,12 @@ use crate::reports;
 use crate::solves;
 use report::SolveReport;
 
-// Whether the slices hold nine counts and a residual of the tally, seven counts and a residual of the answer.
+// Whether the slices hold ten counts and a residual of the tally, eight counts and a residual of the answer.
 fn taken(tally: &[u32], tally_residual: &[f64], counts: &[usize], residual: &[f64]) -> bool
     ensures { λ r. ⌜ r ≡ def.taken (now (tally .entry)) (now («tally_residual» .entry))
         (now (counts .entry)) (now (residual .entry)) ⌝ }
 {
-    if tally.len() < 9 {
+    if tally.len() < 10 {
         return false;
     }
     if tally_residual.len() < 1 {
@@ -28,7 +28,7 @@ fn taken(tally: &[u32], tally_residual: &[f64], counts: &[usize], residual: &[f6
 
 // The tally that a solve left, in the lent slices, unless a number refused it.
 fn keep(number: u32, t: SolveReport, tally: &mut [u32], tally_residual: &mut [f64]) -> u32
-    requires { ⌜ (9 ≤ length (now tally)) × (1 ≤ length (now «tally_residual»)) ⌝ }
+    requires { ⌜ (10 ≤ length (now tally)) × (1 ≤ length (now «tally_residual»)) ⌝ }
     ensures { λ r. ⌜ (r ≡ number) × (now (tally .exit) ≡ def.countsKept number t (now (tally .entry)))
         × (now («tally_residual» .exit) ≡ def.residualKept number t (now («tally_residual» .entry))) ⌝ }
 {
@@ -40,7 +40,7 @@ fn keep(number: u32, t: SolveReport, tally: &mut [u32], tally_residual: &mut [f6
     number
 }
 
-// A tallied solve: 0, the answer in seven counts and a residual, and the tally, nine counts and a residual, joined
+// A tallied solve: 0, the answer in eight counts and a residual, and the tally, ten counts and a residual, joined
 // with it; or 5 to 11 and nothing written, 10 also where a slice of these has no room.
 #[no_mangle]
 pub extern "C" fn piskorlu_tallied(

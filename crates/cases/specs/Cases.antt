@@ -89,6 +89,8 @@ problem w u lo hi s m t =
 pub data Case : Type 0 where
   -- the multipliers lent, the outcome, and the states, multipliers and row list left (of 9s and 7s)
   solving : Input → List ℕ → Wanted → List ℕ → List ℕ → List ℕ → Case
+  -- the multipliers lent, and how many rows the last sweep stopped
+  stopping : Input → List ℕ → ℕ → Case
   -- so many states, rows of the list and places of the workspace lent, and the number
   refusing : Input → List ℕ → ℕ → ℕ → ℕ → ℕ → Case
   -- document 01's least-norm cases: rank, a, b and x
@@ -105,11 +107,16 @@ sameReply (promise.answered r) rank a b x = eqb (r .rank) rank && same (bits (r 
 abbrev pub answered : Input → List ℕ → ℕ → ℕ → ℕ → solve.Result
 answered i nu s l room = solve.solveReply (i .problem) (i .watch) (floats nu) (replicate s 9) (replicate l 7) room
 
+abbrev pub stoppedIn : solve.Outcome → ℕ → Bool
+stoppedIn (solve.refused i) k = false
+stoppedIn (solve.solved r) k = eqb (r .stopped) k
+stoppedIn (solve.infeasible c l r) k = eqb (r .stopped) k
+
 unfoldable pub passes : Case → Bool
 unfolding
     loops.turns loops.between loops.downward loops.swap loops.tab loops.those loops.every loops.noted loops.counted
     updates.updated
-    helpers.clamp helpers.larger helpers.abs helpers.isNaN helpers.isFinite
+    helpers.clamp helpers.side helpers.larger helpers.abs helpers.isNaN helpers.isFinite
     root.wholeRoot root.nearestRoot root.sqrt
     sums.gathered
     reflector.beta reflector.less reflector.factor reflector.reflect
@@ -119,7 +126,7 @@ unfolding
     least.lastCleared least.known least.substituted least.turn least.turned least.firstTurned least.unpermuted
     least.solved least.ranked least.leastNorm
     promise.reply
-    box.row box.isIdle box.onBound box.stateOf box.rowSum box.update box.naturalResidual box.residualAt
+    box.row box.isIdle box.onBound box.stateOf box.rowSum box.update box.updateSide box.naturalResidual box.residualAt
     rays.sizeOf rays.largestRow rays.largest rays.dropped rays.grows rays.collect rays.collectRow rays.collected
     rays.linear rays.quadraticRow rays.quadratic rays.farthest rays.falls rays.fallingRows rays.ray
     pass.startRow pass.start pass.rightHandRow pass.rightHandSide pass.matrixRow pass.matrix pass.residualRow
@@ -127,12 +134,13 @@ unfolding
     pass.longest pass.nearer pass.ratioRow pass.ratioTest pass.advance pass.hold pass.pushed pass.worse pass.releaseRow
     pass.worstRow pass.release pass.scattered pass.unmet pass.unbounded pass.stepped pass.takeStep pass.toward pass.stepOf
     pass.step pass.steps pass.closed pass.exactPass
-    sweep.startRow sweep.start sweep.sweepRow sweep.sweep sweep.isGrown sweep.residualRow sweep.residual
+    sweep.startRow sweep.start sweep.sweepRow sweep.sweep sweep.stops sweep.stopped sweep.isGrown sweep.residualRow sweep.residual
     sweep.coordinate sweep.moved sweep.change sweep.classifyRow sweep.classified
     solve.member solve.unless solve.passed solve.checked solve.tested solve.turn solve.run solve.reportOf solve.unfound
     solve.result solve.solve solve.goodScale solve.refusal solve.reply solve.solveReply
     add sub mul div ofBits toBits lt le eq ne neg
 passes (solving i nu out st nu′ l) = sameResult (answered i nu (length nu) (length nu) 2304) out st nu′ l
+passes (stopping i nu k) = stoppedIn (answered i nu (length nu) (length nu) 2304 .outcome) k
 passes (refusing i nu s l room k) = sameResult (answered i nu s l room) (refuses k) (replicate s 9) nu (replicate l 7)
 passes (least-norm m n a b rank a′ b′ x) = sameReply (promise.reply m n (floats a) (floats b) (replicate n nan) 1056) rank a′ b′ x
 passes (square-root v r) = eqb (toBits binary64 (root.sqrt (ofBits binary64 v))) r

@@ -4,3 +4,4 @@ pub mod Marked
 pub mod Further
 pub mod Refusals
 pub mod Errors
+pub mod Stopped

@@ -30,9 +30,9 @@ flag-read : (b : Bool) → flagged (flag b) ≡ b
 flag-read true = refl
 flag-read false = refl
 
-read-written : (t : SolveReport) (l : List ℕ) (v : Float) → 9 ≤ length l → v ≡ t .residual → report.read (report.written t l) v ≡ t
+read-written : (t : SolveReport) (l : List ℕ) (v : Float) → 10 ≤ length l → v ≡ t .residual → report.read (report.written t l) v ≡ t
 unfolding report.read report.written
-read-written t (a ∷ b ∷ c ∷ d ∷ e ∷ f ∷ g ∷ h ∷ i ∷ l) v n q = rw (flag-read (t .converged), flag-read (t .exact), q)
+read-written t (a ∷ b ∷ c ∷ d ∷ e ∷ f ∷ g ∷ h ∷ i ∷ j ∷ l) v n q = rw (flag-read (t .converged), flag-read (t .exact), q)
 read-written t [] v n q = absurd (not-suc-le-zero n)
 read-written t (a ∷ []) v n q = absurd (omega (arith, n))
 read-written t (a ∷ b ∷ []) v n q = absurd (omega (arith, n))
@@ -42,6 +42,7 @@ read-written t (a ∷ b ∷ c ∷ d ∷ e ∷ []) v n q = absurd (omega (arith, 
 read-written t (a ∷ b ∷ c ∷ d ∷ e ∷ f ∷ []) v n q = absurd (omega (arith, n))
 read-written t (a ∷ b ∷ c ∷ d ∷ e ∷ f ∷ g ∷ []) v n q = absurd (omega (arith, n))
 read-written t (a ∷ b ∷ c ∷ d ∷ e ∷ f ∷ g ∷ h ∷ []) v n q = absurd (omega (arith, n))
+read-written t (a ∷ b ∷ c ∷ d ∷ e ∷ f ∷ g ∷ h ∷ i ∷ []) v n q = absurd (omega (arith, n))
 
 first-set : (l : List Float) (v : Float) → 1 ≤ length l → at (set l 0 v) 0 ≡ v
 first-set [] v n = absurd (not-suc-le-zero n)
@@ -85,13 +86,13 @@ module _ (t : Buffers) (long : Long t) (c : Call) where
   next-long : (k : ℕ) (s : SolveReport) → Long (next k s)
   next-long k s =
       record {
-        nine = rw (counts-length k s (t .counts)) (long .nine);
+        ten = rw (counts-length k s (t .counts)) (long .ten);
         one = rw (residual-length k s (t .residual)) (long .one);
       }
 
   joined : (s : SolveReport) → held (next 0 s) ≡ s
   unfolding tally.countsKept tally.residualKept
-  joined s = read-written s (t .counts) (at (set (t .residual) 0 (s .residual)) 0) (long .nine) (first-set (t .residual) (s .residual) (long .one))
+  joined s = read-written s (t .counts) (at (set (t .residual) 0 (s .residual)) 0) (long .ten) (first-set (t .residual) (s .residual) (long .one))
 
   kept : (k : ℕ) (s : SolveReport) → held (next (suc k) s) ≡ held t
   unfolding tally.countsKept tally.residualKept
@@ -112,7 +113,7 @@ module _ (t : Buffers) (long : Long t) (c : Call) where
 -- the tally's buffers being long, the lengths of the answer's decide
 taken-is : (t : Buffers) (c : Lent) → Long t → tally.taken (t .counts) (t .residual) (c .counts) (c .residual) ≡ taken c
 unfolding tally.taken
-taken-is t c long = rw (le-leb 9 (length (t .counts)) (long .nine), le-leb 1 (length (t .residual)) (long .one))
+taken-is t c long = rw (le-leb 10 (length (t .counts)) (long .ten), le-leb 1 (length (t .residual)) (long .one))
 
 abbrev Called : Bool → Buffers → Buffers → Lent → Answer → Type 0
 Called b t s c a =

@@ -5,6 +5,7 @@ pub mod Rays
 pub mod Due
 pub mod Advance
 pub mod Trials
+pub mod Stops
 pub mod Runs
 pub mod Made
 pub mod Solves

@@ -19,6 +19,7 @@ use Rattle.boxed.specs.Sweep as sweep
 use Rattle.boxed.specs.Solve.{converged, Iterate, iterate, counts, tried, Run, going, ended, unless, checkpoint, passed, checked, Watch, tested, turn, run, SWEEP_CAP}
 use Rattle.boxed.specs.declared.Cause.the-variants as cause
 use Rattle.boxed.specs.declared.Counts.{Counts}
+use Rattle.demand3.proofs.Stops.{stoppedTo}
 use Rattle.demand3.specs.Claims.{goesOn, oneSweep, none, makesPass, passesMade}
 
 -- ---- what a sweep leaves counted
@@ -35,13 +36,13 @@ passed-counts s (pass.found t) = refl
 passed-counts s (pass.infeasible l t) = refl
 
 checked-counts : (p : Problem) (s : Iterate)
-    → countsOf (checked SWEEP_CAP p (going s)) ≡ counts (s .counts .sweeps) (s .counts .passes + cond (checkpoint SWEEP_CAP (s .counts .sweeps) && true) 1 0)
+    → countsOf (checked SWEEP_CAP p (going s)) ≡ counts (s .counts .sweeps) (s .counts .passes + cond (checkpoint SWEEP_CAP (s .counts .sweeps) && true) 1 0) (s .counts .stopped)
 unfolding checked
 checked-counts p s = go (checkpoint SWEEP_CAP (s .counts .sweeps))
   where
-    go : (b : Bool) → countsOf (cond b (passed s (exactPass p (s .states) (s .nu))) (going s)) ≡ counts (s .counts .sweeps) (s .counts .passes + cond (b && true) 1 0)
-    go true = passed-counts s (exactPass p (s .states) (s .nu)) ∙ ap (counts (s .counts .sweeps)) (omega arith)
-    go false = ap (counts (s .counts .sweeps)) (omega arith)
+    go : (b : Bool) → countsOf (cond b (passed s (exactPass p (s .states) (s .nu))) (going s)) ≡ counts (s .counts .sweeps) (s .counts .passes + cond (b && true) 1 0) (s .counts .stopped)
+    go true = passed-counts s (exactPass p (s .states) (s .nu)) ∙ ap (λ (k : ℕ). counts (s .counts .sweeps) k (s .counts .stopped)) (omega arith)
+    go false = ap (λ (k : ℕ). counts (s .counts .sweeps) k (s .counts .stopped)) (omega arith)
 
 tested-counts : (p : Problem) (m : Watch) (before : List Float) (x : Run) → countsOf (tested p m before x) ≡ countsOf x
 unfolding tested unless
@@ -63,26 +64,29 @@ module _ (p : Problem) (m : Watch) (s : Iterate) where
   after k = run SWEEP_CAP p m s k
 
   turn-counts : (k : ℕ) (t : Iterate) → t .counts .sweeps ≡ k
-      → countsOf (turn SWEEP_CAP p m k (going t)) ≡ counts (suc k) (t .counts .passes + cond (makesPass p k (going t)) 1 0)
+      → countsOf (turn SWEEP_CAP p m k (going t)) ≡ counts (suc k) (t .counts .passes + cond (makesPass p k (going t)) 1 0) (stoppedTo p (t .states) (t .nu) (size p))
   unfolding turn unless
   turn-counts k t q = go (sweep.grown (oneSweep p (t .states) (t .nu)) (p .scale) (size p))
     where
       u : Iterate
-      u = iterate (oneSweep p (t .states) (t .nu)) (t .states) (counts (suc (t .counts .sweeps)) (t .counts .passes))
+      u = iterate (oneSweep p (t .states) (t .nu)) (t .states) (counts (suc (t .counts .sweeps)) (t .counts .passes) k′)
+
+      k′ : ℕ
+      k′ = stoppedTo p (t .states) (t .nu) (size p)
 
       none-more : (b : Bool) → t .counts .passes ≡ t .counts .passes + cond (b && false) 1 0
       none-more b = rw (and-false b) (omega arith)
 
-      go : (l : List ℕ) → countsOf (tested p m (t .nu) (checked SWEEP_CAP p (unless cause.Growth u l))) ≡ counts (suc k) (t .counts .passes + cond (checkpoint SWEEP_CAP (suc k) && none l) 1 0)
+      go : (l : List ℕ) → countsOf (tested p m (t .nu) (checked SWEEP_CAP p (unless cause.Growth u l))) ≡ counts (suc k) (t .counts .passes + cond (checkpoint SWEEP_CAP (suc k) && none l) 1 0) k′
       go [] =
           tested-counts p m (t .nu) (checked SWEEP_CAP p (going u)) ∙ checked-counts p u
-          ∙ ap (λ (n : ℕ). counts (suc n) (t .counts .passes + cond (checkpoint SWEEP_CAP (suc n) && true) 1 0)) q
+          ∙ ap (λ (n : ℕ). counts (suc n) (t .counts .passes + cond (checkpoint SWEEP_CAP (suc n) && true) 1 0) k′) q
       go (a ∷ l) =
           unfold tested checked in
-          ap (λ (n : ℕ). counts (suc n) (t .counts .passes)) q ∙ ap (counts (suc k)) (none-more (checkpoint SWEEP_CAP (suc k)))
+          ap (λ (n : ℕ). counts (suc n) (t .counts .passes) k′) q ∙ ap (λ (n : ℕ). counts (suc k) n k′) (none-more (checkpoint SWEEP_CAP (suc k)))
 
   abbrev pub Made : ℕ → Run → Type 0
-  Made k (going t) = ((i : ℕ) → i ≤ k → goesOn (run SWEEP_CAP p m s i) ≡ true) × (t .counts ≡ counts k (passesMade p m s k))
+  Made k (going t) = ((i : ℕ) → i ≤ k → goesOn (run SWEEP_CAP p m s i) ≡ true) × (t .counts .sweeps ≡ k) × (t .counts .passes ≡ passesMade p m s k)
   Made k (ended e t) = ((i : ℕ) → i < t .counts .sweeps → goesOn (run SWEEP_CAP p m s i) ≡ true)
       × (goesOn (run SWEEP_CAP p m s (t .counts .sweeps)) ≡ false) × (t .counts .passes ≡ passesMade p m s (t .counts .sweeps))
 
@@ -93,24 +97,23 @@ module _ (p : Problem) (m : Watch) (s : Iterate) where
   step : (k : ℕ) (x : Run) → after k ≡ x → Made k x → Made (suc k) (turn SWEEP_CAP p m k x)
   step k (ended e t) q h = unfold turn in h
   step k (going t) q h =
-      let c = h .1 in
+      let e = turn-counts k t (h .1) in
       go (turn SWEEP_CAP p m k (going t)) (unfold run turns in ap (turn SWEEP_CAP p m k) q)
-      (turn-counts k t (ap (λ (c : Counts). c .sweeps) c) ∙ ap (counts (suc k)) (one-more k t q (ap (λ (c : Counts). c .passes) c)))
+      (ap (λ (c : Counts). c .sweeps) e) (ap (λ (c : Counts). c .passes) e ∙ one-more k t q (h .2))
     where
-      go : (y : Run) → after (suc k) ≡ y → countsOf y ≡ counts (suc k) (passesMade p m s (suc k)) → Made (suc k) y
-      go (going u) r e = ((λ i b. pick i b (eqb i (suc k)) refl), e)
+      go : (y : Run) → after (suc k) ≡ y → countsOf y .sweeps ≡ suc k → countsOf y .passes ≡ passesMade p m s (suc k) → Made (suc k) y
+      go (going u) r e f = ((λ i b. pick i b (eqb i (suc k)) refl), e, f)
         where
           pick : (i : ℕ) → i ≤ suc k → (c : Bool) → eqb i (suc k) ≡ c → goesOn (after i) ≡ true
           pick i b true z = ap (λ (n : ℕ). goesOn (after n)) (eqb-true i (suc k) z) ∙ ap goesOn r
           pick i b false z = h .0 i (le-of-suc-le-suc (lt-of-le-ne b (eqb-false i (suc k) z)))
-      go (ended f u) r e =
-          let here : u .counts .sweeps ≡ suc k = ap (λ (c : Counts). c .sweeps) e in (
-            (λ i b. h .0 i (omega arith)),
-            ap (λ (n : ℕ). goesOn (after n)) here ∙ ap goesOn r,
-            ap (λ (c : Counts). c .passes) e ∙ sym (ap (passesMade p m s) here),
-          )
+      go (ended g u) r e f = (
+        (λ i b. h .0 i (omega arith)),
+        ap (λ (n : ℕ). goesOn (after n)) e ∙ ap goesOn r,
+        f ∙ sym (ap (passesMade p m s) e),
+      )
 
-  pub made : s .counts ≡ counts 0 0 → (k : ℕ) → Made k (run SWEEP_CAP p m s k)
+  pub made : s .counts ≡ counts 0 0 0 → (k : ℕ) → Made k (run SWEEP_CAP p m s k)
   unfolding run turns passesMade
-  made e zero = ((λ i b. let z : i ≡ 0 = omega arith in ap (λ (n : ℕ). goesOn (run SWEEP_CAP p m s n)) z), e)
+  made e zero = ((λ i b. let z : i ≡ 0 = omega arith in ap (λ (n : ℕ). goesOn (run SWEEP_CAP p m s n)) z), ap (λ (c : Counts). c .sweeps) e, ap (λ (c : Counts). c .passes) e)
   made e (suc k) = step k (run SWEEP_CAP p m s k) refl (made e k)

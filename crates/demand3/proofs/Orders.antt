@@ -86,18 +86,19 @@ pub record Within (k : ℕ) (t : SolveReport) : Type 0 where
   pub increments : t .increments ≤ k
   pub sweeps : t .sweeps ≤ 200 * k
   pub passes : t .«exact_passes» ≤ 9 * k
+  pub stopped : t .stopped ≤ 32 * k
   pub iterations : t .iterations ≡ 0
   pub rejected : t .rejected ≡ 0
   pub anchors : t .anchors ≡ 0
 
 pub within-nothing : Within 0 NOTHING
-within-nothing = record { increments = zero-le; sweeps = zero-le; passes = zero-le; iterations = refl; rejected = refl; anchors = refl }
+within-nothing = record { increments = zero-le; sweeps = zero-le; passes = zero-le; stopped = zero-le; iterations = refl; rejected = refl; anchors = refl }
 
 not-full : (k : ℕ) (t : SolveReport) → k < enough → Within k t → full t ≡ false
 unfolding full
 not-full k t b w =
     let i = w .increments in
-    rw (ne-eqb (t .increments) 4294967295 (λ e. omega arith), le-ltb 4294967095 (t .sweeps) (omega arith), le-ltb 4294967286 (t .«exact_passes») (omega arith))
+    rw (ne-eqb (t .increments) 4294967295 (λ e. omega arith), le-ltb 4294967095 (t .sweeps) (omega arith), le-ltb 4294967286 (t .«exact_passes») (omega arith), le-ltb 4294967263 (t .stopped) (omega arith))
 
 module _ (k : ℕ) (t : SolveReport) (b : k < enough) (w : Within k t) (r : BoxReport) (m : Modest r) where
   summable : AllSummable t (turned r)
@@ -105,7 +106,7 @@ module _ (k : ℕ) (t : SolveReport) (b : k < enough) (w : Within k t) (r : BoxR
   summable =
       record {
         increments = omega arith;
-        others = record { iterations = omega arith; rejected = omega arith; anchors = omega arith; sweeps = omega arith; «exact_passes» = omega arith };
+        others = record { iterations = omega arith; rejected = omega arith; anchors = omega arith; sweeps = omega arith; «exact_passes» = omega arith; stopped = omega arith };
       }
 
   joined-one : kept t (and t (turned r)) ≡ both t (turned r)
@@ -113,11 +114,11 @@ module _ (k : ℕ) (t : SolveReport) (b : k < enough) (w : Within k t) (r : BoxR
 
   within-one : Within (suc k) (both t (turned r))
   unfolding turned
-  within-one = record { increments = omega arith; sweeps = omega arith; passes = omega arith; iterations = omega arith; rejected = omega arith; anchors = omega arith }
+  within-one = record { increments = omega arith; sweeps = omega arith; passes = omega arith; stopped = omega arith; iterations = omega arith; rejected = omega arith; anchors = omega arith }
 
 within-more : (k : ℕ) (t : SolveReport) → Within k t → Within (suc k) t
 within-more k t w =
-    record { increments = omega arith; sweeps = omega arith; passes = omega arith; iterations = w .iterations; rejected = w .rejected; anchors = w .anchors }
+    record { increments = omega arith; sweeps = omega arith; passes = omega arith; stopped = omega arith; iterations = w .iterations; rejected = w .rejected; anchors = w .anchors }
 
 joined-is : (k : ℕ) (t : SolveReport) (o : Outcome) → k < enough → Within k t → Reported Modest o → (joinedTo t o ≡ plus t o) × Within (suc k) (plus t o)
 joined-is k t (refused j) b w m = (refl, within-more k t w)
@@ -178,13 +179,14 @@ pub record Counts (t : SolveReport) : Type 0 where
 pub never-refused : (t : SolveReport) (r : BoxReport) → Counts t → full t ≡ false → Modest r → and t (turned r) ≡ joined (both t (turned r))
 unfolding full
 never-refused t r u h m =
-    let a = or-false (eqb (t .increments) 4294967295 || ltb 4294967095 (t .sweeps)) (ltb 4294967286 (t .«exact_passes»)) h in
+    let z = or-false (eqb (t .increments) 4294967295 || ltb 4294967095 (t .sweeps) || ltb 4294967286 (t .«exact_passes»)) (ltb 4294967263 (t .stopped)) h in
+    let a = or-false (eqb (t .increments) 4294967295 || ltb 4294967095 (t .sweeps)) (ltb 4294967286 (t .«exact_passes»)) (z .0) in
     let b = or-false (eqb (t .increments) 4294967295) (ltb 4294967095 (t .sweeps)) (a .0) in
     and-joins t (turned r)
-    (room-for (lt-of-le-ne (u .increments) (eqb-false (t .increments) 4294967295 (b .0))) (ltb-false 4294967095 (t .sweeps) (b .1)) (ltb-false 4294967286 (t .«exact_passes») (a .1)))
+    (room-for (lt-of-le-ne (u .increments) (eqb-false (t .increments) 4294967295 (b .0))) (ltb-false 4294967095 (t .sweeps) (b .1)) (ltb-false 4294967286 (t .«exact_passes») (a .1)) (ltb-false 4294967263 (t .stopped) (z .1)))
   where
-    room-for : t .increments < 4294967295 → t .sweeps ≤ 4294967095 → t .«exact_passes» ≤ 4294967286 → AllSummable t (turned r)
-    room-for i s p =
+    room-for : t .increments < 4294967295 → t .sweeps ≤ 4294967095 → t .«exact_passes» ≤ 4294967286 → t .stopped ≤ 4294967263 → AllSummable t (turned r)
+    room-for i s p k =
         unfold turned in
         record {
           increments = omega arith;
@@ -194,5 +196,6 @@ never-refused t r u h m =
             anchors = omega (arith, u .anchors);
             sweeps = omega (arith, m .few);
             «exact_passes» = omega (arith, m .fewer);
+            stopped = omega (arith, m .fewStopped);
           };
         }

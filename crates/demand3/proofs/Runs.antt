@@ -4,6 +4,7 @@ use mathlib.Core.Path.{_≡_, refl, sym, _∙_, ap, subst}
 use mathlib.Core.Bool.{Bool, true, false, not, cond}
 use mathlib.Core.List.{List, [], _∷_}
 use native.Mathlib.Omega.{arith}
+use native.Mathlib.Nat.{le-refl}
 use lib.Dec.{eqb}
 use lib.ListN.{length}
 use lib.Ieee.{Float, le}
@@ -16,7 +17,8 @@ use Rattle.exact_pass.specs.Ray.{ray}
 use Rattle.exact_pass.specs.Pass as pass
 use Rattle.exact_pass.specs.Pass.{trial, Pass, found, exactPass}
 use Rattle.boxed.specs.Sweep as sweep
-use Rattle.boxed.specs.Solve.{Ending, exact, converged, infeasible, Iterate, iterate, counts, Run, going, ended, unless, checkpoint, passed, checked, Watch, tested, turn, run, SWEEP_CAP}
+use Rattle.demand3.proofs.Stops.{stoppedTo, stopped-same, stoppedLast}
+use Rattle.boxed.specs.Solve.{Ending, exact, converged, infeasible, Iterate, iterate, counts, tried, Run, going, ended, unless, checkpoint, passed, checked, Watch, tested, turn, run, SWEEP_CAP}
 use Rattle.boxed.specs.declared.Cause.the-variants as cause
 use Rattle.demand3.specs.Claims.{notAbove, oneSweep, sweepsAlone, firstTried, LastStep}
 use Rattle.demand3.proofs.Rays.{grown-gathered, ray-gathered, ActsUnlimited}
@@ -65,6 +67,7 @@ pub record Stands (p : Problem) (st₀ : List ℕ) (nu₀ : List Float) (c : ℕ
   pub boxed : Boxed p (s .nu)
   pub passes : s .counts .passes ≡ notAbove c
   pub alone : s .nu ≡ sweepsAlone p st₀ nu₀ (s .counts .sweeps)
+  pub stopped : s .counts .stopped ≡ stoppedLast p st₀ nu₀ (s .counts .sweeps)
 
 pub record Converged (p : Problem) (st₀ : List ℕ) (nu₀ : List Float) (s : Iterate) : Type 0 where
   pub standing : Stands p st₀ nu₀ (s .counts .sweeps) s
@@ -74,6 +77,7 @@ pub record Converged (p : Problem) (st₀ : List ℕ) (nu₀ : List Float) (s : 
 pub record Exact (p : Problem) (st₀ : List ℕ) (nu₀ : List Float) (s : Iterate) : Type 0 where
   pub passes : s .counts .passes ≡ notAbove (s .counts .sweeps)
   pub boxed : Boxed p (sweepsAlone p st₀ nu₀ (s .counts .sweeps))
+  pub stopped : s .counts .stopped ≡ stoppedLast p st₀ nu₀ (s .counts .sweeps)
   pub tries : Tries p (sweepsAlone p st₀ nu₀ (s .counts .sweeps)) (trial (s .nu) (s .states))
   pub gentle : (i : ℕ) → i < size p → hard p (s .states) (s .nu) i ≡ false
   pub given : List ℕ
@@ -120,8 +124,8 @@ module _ (p : Problem) (m : Watch) (st₀ : List ℕ) (nu₀ : List Float) (firs
   module _ (s : Iterate) (q : s .counts .sweeps ≡ suc k) (h : Stands p st₀ nu₀ k s) where
     -- the states that a pass left, and one pass more
     after-pass : (st : List ℕ) → Stated p st → checkpoint SWEEP_CAP (s .counts .sweeps) ≡ true
-        → Stands p st₀ nu₀ (s .counts .sweeps) (iterate (s .nu) st (counts (s .counts .sweeps) (suc (s .counts .passes))))
-    after-pass st g e = record { stated = g; boxed = h .boxed; passes = ap suc (h .passes) ∙ sym (due (s .counts .sweeps) true q e); alone = h .alone }
+        → Stands p st₀ nu₀ (s .counts .sweeps) (iterate (s .nu) st (tried (s .counts)))
+    after-pass st g e = record { stated = g; boxed = h .boxed; passes = ap suc (h .passes) ∙ sym (due (s .counts .sweeps) true q e); alone = h .alone; stopped = h .stopped }
 
     passed-runs : (x : Pass) → exactPass p (s .states) (s .nu) ≡ x → checkpoint SWEEP_CAP (s .counts .sweeps) ≡ true
         → Passing p (s .nu) (firstTried p (s .states) (s .nu)) x → Runs p st₀ nu₀ (suc k) (suc k) (passed s x)
@@ -134,6 +138,7 @@ module _ (p : Problem) (m : Watch) (st₀ : List ℕ) (nu₀ : List Float) (firs
       record {
         passes = ap suc (h .passes) ∙ sym (due (s .counts .sweeps) true q e);
         boxed = subst (Boxed p) (h .alone) (h .boxed);
+        stopped = h .stopped;
         tries = subst (λ (v : List Float). Tries p v t) (h .alone) (g .0);
         gentle = g .1;
         given = s .states;
@@ -152,7 +157,7 @@ module _ (p : Problem) (m : Watch) (st₀ : List ℕ) (nu₀ : List Float) (firs
       go true e = passed-runs s (h .0) (h .1) (exactPass p (s .states) (s .nu)) refl e (exact-passing p (s .states) (s .nu) (h .1 .stated) (h .1 .boxed .long))
       go false e = (
         h .0,
-        record { stated = h .1 .stated; boxed = h .1 .boxed; passes = h .1 .passes ∙ sym (due (s .counts .sweeps) false (h .0) e) ∙ ap notAbove (h .0); alone = h .1 .alone },
+        record { stated = h .1 .stated; boxed = h .1 .boxed; passes = h .1 .passes ∙ sym (due (s .counts .sweeps) false (h .0) e) ∙ ap notAbove (h .0); alone = h .1 .alone; stopped = h .1 .stopped },
       )
 
   unmet-runs : (s : Iterate) (l : List ℕ) → s .counts .sweeps ≡ suc k → Stands p st₀ nu₀ (suc k) s → Gathered (ActsUnlimited p (s .states)) (size p) l
@@ -183,7 +188,7 @@ module _ (p : Problem) (m : Watch) (st₀ : List ℕ) (nu₀ : List Float) (firs
   turn-runs (ended e s) h = (h .0, omega (arith, h .1), h .2)
   turn-runs (going s) h =
       let nu = oneSweep p (s .states) (s .nu) in
-      let t = iterate nu (s .states) (counts (suc (s .counts .sweeps)) (s .counts .passes)) in
+      let t = iterate nu (s .states) (counts (suc (s .counts .sweeps)) (s .counts .passes) (stoppedTo p (s .states) (s .nu) (size p))) in
       let l = sweep.grown nu (p .scale) (size p) in
       let g = h .1 in
       tested-runs (s .nu) (checked SWEEP_CAP p (unless cause.Growth t l))
@@ -194,6 +199,9 @@ module _ (p : Problem) (m : Watch) (st₀ : List ℕ) (nu₀ : List Float) (firs
         boxed = sweep-boxed p (s .states) (s .nu) (g .boxed);
         passes = g .passes;
         alone = sweep-same p (s .states) st₀ (s .nu) (g .stated) first ∙ ap (oneSweep p st₀) (g .alone);
+        stopped = unfold stoppedLast in
+            stopped-same p (s .states) st₀ (s .nu) (λ i b. ap not (g .stated .idle i b ∙ sym (first .idle i b))) (size p) (le-refl (size p))
+            ∙ ap (λ (v : List Float). stoppedTo p st₀ v (size p)) (g .alone);
       })
       (grown-gathered nu (p .scale) (size p))))
 

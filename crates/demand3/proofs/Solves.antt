@@ -33,12 +33,13 @@ use Rattle.boxed.specs.declared.Counts.{Counts}
 use Rattle.boxed.specs.declared.Cause.{Cause}
 use Rattle.boxed.specs.declared.Cause.the-variants as cause
 use Rattle.tally.specs.Tally.{Call, number, alone}
-use Rattle.demand3.specs.Claims.{sweepsAlone, BoundsInOrder, NaNOrInBox, acting, notAbove, below, startOf, started, firstIterate, afterSweeps, goesOn, passesMade, passesIn, bySweeps, rowStates, ownResidual, OnBound, Sound, Reason, Listed, Claims}
+use Rattle.demand3.specs.Claims.{sweepsAlone, BoundsInOrder, NaNOrInBox, acting, notAbove, below, startOf, started, firstIterate, afterSweeps, goesOn, passesMade, passesIn, bySweeps, stoppedInLast, rowStates, ownResidual, OnBound, Sound, Reason, Listed, Claims}
 use Rattle.demand3.proofs.Words.{lt-abs, acts-above, above-acts, idle-not-above, diagonal, own-is, rising-at, gathered-few}
 use Rattle.demand3.proofs.Boxes.{Boxed, Inside, idleRow, StartedTo, start-started}
 use Rattle.demand3.proofs.Rays.{ActsUnlimited}
 use Rattle.demand3.proofs.Due.{due-zero, due-most, below-is}
 use Rattle.demand3.proofs.Trials.{Stated, state-not-idle, acts-not-idle}
+use Rattle.demand3.proofs.Stops.{stoppedLast, last-is, last-few}
 use Rattle.demand3.proofs.Made.{Made, made}
 use Rattle.demand3.proofs.Runs.{Stands, Exact, Runs, run-runs, started-stated}
 
@@ -84,6 +85,7 @@ not-last s h k = le-of-suc-le-suc (lt-of-le-ne h k)
 pub record Modest (r : BoxReport) : Type 0 where
   pub few : r .sweeps ≤ 200
   pub fewer : r .«exact_passes» ≤ 9
+  pub fewStopped : r .stopped ≤ 32
   pub held : Fits (r .residual)
 
 abbrev pub Reported : (BoxReport → Type 0) → Outcome → Type 0
@@ -91,18 +93,18 @@ Reported P (refused k) = Unit {0}
 Reported P (solved r) = P r
 Reported P (infeasible c l r) = P r
 
-report-modest : (p : Problem) (idle : ℕ) (c e : Bool) (s : Iterate) → s .counts .sweeps ≤ 200 → s .counts .passes ≤ 9 → Modest (reportOf p idle c e s)
+report-modest : (p : Problem) (idle : ℕ) (c e : Bool) (s : Iterate) → s .counts .sweeps ≤ 200 → s .counts .passes ≤ 9 → s .counts .stopped ≤ 32 → Modest (reportOf p idle c e s)
 unfolding reportOf
-report-modest p idle c e s h g = record { few = h; fewer = g; held = residual-fits p (s .states) (s .nu) }
+report-modest p idle c e s h g k = record { few = h; fewer = g; fewStopped = k; held = residual-fits p (s .states) (s .nu) }
 
-result-modest : (p : Problem) (idle : ℕ) (l : List ℕ) (x : Run) (st₀ : List ℕ) (nu₀ : List Float) → Runs p st₀ nu₀ 200 200 x → Reported Modest (result p idle l x .outcome)
+result-modest : (p : Problem) (idle : ℕ) (l : List ℕ) (x : Run) (st₀ : List ℕ) (nu₀ : List Float) → size p ≤ 32 → Runs p st₀ nu₀ 200 200 x → Reported Modest (result p idle l x .outcome)
 unfolding result unfound
-result-modest p idle l (going s) st₀ nu₀ h = report-modest p idle false false s (le-of-eq (h .0)) (rw (h .1 .passes) (due-most 200))
-result-modest p idle l (ended converged s) st₀ nu₀ h = report-modest p idle true false s (h .1) (rw (h .2 .standing .passes) (due-most (s .counts .sweeps)))
-result-modest p idle l (ended exact s) st₀ nu₀ h = report-modest p idle true true s (h .1) (rw (h .2 .passes) (due-most (s .counts .sweeps)))
-result-modest p idle l (ended (infeasible cause.Growth r) s) st₀ nu₀ h = report-modest p idle false false s (h .1) (rw (h .2 .standing .passes) (due-most (s .counts .sweeps - 1)))
-result-modest p idle l (ended (infeasible cause.Pass r) s) st₀ nu₀ h = report-modest p idle false false s (h .1) (rw (h .2 .standing .passes) (due-most (s .counts .sweeps)))
-result-modest p idle l (ended (infeasible cause.Sweep r) s) st₀ nu₀ h = report-modest p idle false false s (h .1) (rw (h .2 .standing .passes) (due-most (s .counts .sweeps)))
+result-modest p idle l (going s) st₀ nu₀ z h = report-modest p idle false false s (le-of-eq (h .0)) (rw (h .1 .passes) (due-most 200)) (rw (h .1 .stopped) (last-few p st₀ nu₀ z (s .counts .sweeps)))
+result-modest p idle l (ended converged s) st₀ nu₀ z h = report-modest p idle true false s (h .1) (rw (h .2 .standing .passes) (due-most (s .counts .sweeps))) (rw (h .2 .standing .stopped) (last-few p st₀ nu₀ z (s .counts .sweeps)))
+result-modest p idle l (ended exact s) st₀ nu₀ z h = report-modest p idle true true s (h .1) (rw (h .2 .passes) (due-most (s .counts .sweeps))) (rw (h .2 .stopped) (last-few p st₀ nu₀ z (s .counts .sweeps)))
+result-modest p idle l (ended (infeasible cause.Growth r) s) st₀ nu₀ z h = report-modest p idle false false s (h .1) (rw (h .2 .standing .passes) (due-most (s .counts .sweeps - 1))) (rw (h .2 .standing .stopped) (last-few p st₀ nu₀ z (s .counts .sweeps)))
+result-modest p idle l (ended (infeasible cause.Pass r) s) st₀ nu₀ z h = report-modest p idle false false s (h .1) (rw (h .2 .standing .passes) (due-most (s .counts .sweeps))) (rw (h .2 .standing .stopped) (last-few p st₀ nu₀ z (s .counts .sweeps)))
+result-modest p idle l (ended (infeasible cause.Sweep r) s) st₀ nu₀ z h = report-modest p idle false false s (h .1) (rw (h .2 .standing .passes) (due-most (s .counts .sweeps))) (rw (h .2 .standing .stopped) (last-few p st₀ nu₀ z (s .counts .sweeps)))
 
 -- ---- the claims of an accepted solve
 
@@ -125,6 +127,18 @@ module _ (c : Call) (zeroth : number c ≡ 0) (fair : BoundsInOrder (c .problem)
   unfolding inBox
   in-box nu i h = h
 
+  -- what the first sweep starts from
+  begun : StartedTo p (size p) (started c)
+  begun = start-started p (c .nu) (take (size p) (c .states)) (ok .values) (length-take-le (size p) (c .states) (ok .states))
+
+  -- the rows that the last of k sweeps stops
+  last-stopped : (k : ℕ) → stoppedLast p (started c .states) (started c .nu) k ≡ stoppedInLast c k
+  last-stopped zero = unfold stoppedLast in refl
+  last-stopped (suc k) = last-is p (started c .states) (started c .nu) (started-stated p (started c) begun) (begun .boxed .long) k
+
+  few-last : (k : ℕ) → stoppedLast p (started c .states) (started c .nu) k ≤ 32
+  few-last k = last-few p (started c .states) (started c .nu) (ok .sized .0) k
+
   -- a row that does not act is Idle
   idle-is : (i : ℕ) → i < size p → acting p i ≡ false → idleRow p i ≡ true
   idle-is i b h = idle-not-above (at (rowOf p i) i) (rw (diagonal p i b) h)
@@ -143,15 +157,17 @@ module _ (c : Call) (zeroth : number c ≡ 0) (fair : BoundsInOrder (c .problem)
   -- not exact: every multiplier is left by sweeps
   plain-sound : (a : Result) (idle : ℕ) (v g : Bool) (s : Iterate) → a .nu ≡ s .nu → Sweeps s → s .counts .sweeps ≤ 200 → Boxed p (s .nu) → s .nu ≡ bySweeps c (s .counts .sweeps)
       → s .counts .passes ≡ cond g (below (s .counts .sweeps)) (notAbove (s .counts .sweeps))
-      → (v ≡ true → le (sweep.residual p (s .states) (s .nu) (size p)) 1e-9 ≡ true) → Sound c a g (reportOf p idle v false s)
+      → (v ≡ true → le (sweep.residual p (s .states) (s .nu) (size p)) 1e-9 ≡ true) → s .counts .stopped ≡ stoppedLast p (started c .states) (started c .nu) (s .counts .sweeps) → Sound c a g (reportOf p idle v false s)
   unfolding reportOf
-  plain-sound a idle v g s e n h b w q r =
+  plain-sound a idle v g s e n h b w q r k =
       record {
         madeSweeps = n .0;
         lastSweep = λ z. n .1;
         madePasses = n .2;
         fewSweeps = h;
         passes = q;
+        stopped = k ∙ last-stopped (s .counts .sweeps);
+        fewStopped = rw k (few-last (s .counts .sweeps));
         leftBySweeps = λ z. e ∙ w;
         written = λ z. absurd (true≢false (sym z));
         idleLeft = λ i d z. ap (λ (nu : List Float). at nu i) (e ∙ w);
@@ -213,6 +229,8 @@ module _ (c : Call) (zeroth : number c ≡ 0) (fair : BoundsInOrder (c .problem)
         madePasses = n .2;
         fewSweeps = h;
         passes = x .passes;
+        stopped = x .stopped ∙ last-stopped (s .counts .sweeps);
+        fewStopped = rw (x .stopped) (few-last (s .counts .sweeps));
         leftBySweeps = λ z. absurd (true≢false z);
         written = λ z y. record {
           given = x .given;
@@ -282,16 +300,16 @@ module _ (c : Call) (zeroth : number c ≡ 0) (fair : BoundsInOrder (c .problem)
   result-claims idle (going s) n h =
       let q = h .0 in
       let g = h .1 in
-      (zeroth, plain-sound _ idle false false s refl (went-on s n) (le-of-eq q) (g .boxed) (g .alone) (rw q (g .passes)) (λ z. absurd (true≢false (sym z))))
+      (zeroth, plain-sound _ idle false false s refl (went-on s n) (le-of-eq q) (g .boxed) (g .alone) (rw q (g .passes)) (λ z. absurd (true≢false (sym z))) (g .stopped))
   result-claims idle (ended converged s) n h =
       let g = h .2 .standing in
-      (zeroth, plain-sound _ idle true false s refl (ended-in converged s n) (h .1) (g .boxed) (g .alone) (g .passes) (λ z. h .2 .small))
+      (zeroth, plain-sound _ idle true false s refl (ended-in converged s n) (h .1) (g .boxed) (g .alone) (g .passes) (λ z. h .2 .small) (g .stopped))
   result-claims idle (ended exact s) n h = (zeroth, exact-sound _ idle s refl (row-states (s .states) (h .2 .tries .stated .long)) (ended-in exact s n) (h .1) (h .2))
   result-claims idle (ended (infeasible cause.Growth r) s) n h =
       let g = h .2 .standing in (
         zeroth,
         plain-sound _ idle false true s refl (ended-in (infeasible cause.Growth r) s n) (h .1) (g .boxed) (g .alone)
-            (ended-below (s .counts .passes) (s .counts .sweeps) (h .0) (h .1) (g .passes)) (λ z. absurd (true≢false (sym z))),
+            (ended-below (s .counts .passes) (s .counts .sweeps) (h .0) (h .1) (g .passes)) (λ z. absurd (true≢false (sym z))) (g .stopped),
         listed-rows _ cause.Growth r refl (h .2 .some) (h .2 .these)
             (λ k b. grew-reason (s .nu) (getD r k 0) (each-at (λ i. sweep.isGrown (at (s .nu) i) (at (p .scale) i) ≡ true) r (h .2 .these .passing) k b)),
       )
@@ -299,14 +317,14 @@ module _ (c : Call) (zeroth : number c ≡ 0) (fair : BoundsInOrder (c .problem)
       let g = h .2 .standing in
       let f = h .2 .rows in (
         zeroth,
-        plain-sound _ idle false false s refl (ended-in (infeasible cause.Pass r) s n) (h .1) (g .boxed) (g .alone) (g .passes) (λ z. absurd (true≢false (sym z))),
+        plain-sound _ idle false false s refl (ended-in (infeasible cause.Pass r) s n) (h .1) (g .boxed) (g .alone) (g .passes) (λ z. absurd (true≢false (sym z))) (g .stopped),
         listed-rows _ cause.Pass r refl (f .some) (f .these) (unlimited-reasons (s .nu) (s .states) r (g .stated) (f .these)),
       )
   result-claims idle (ended (infeasible cause.Sweep r) s) n h =
       let g = h .2 .standing in
       let f = h .2 .rows in (
         zeroth,
-        plain-sound _ idle false false s refl (ended-in (infeasible cause.Sweep r) s n) (h .1) (g .boxed) (g .alone) (g .passes) (λ z. absurd (true≢false (sym z))),
+        plain-sound _ idle false false s refl (ended-in (infeasible cause.Sweep r) s n) (h .1) (g .boxed) (g .alone) (g .passes) (λ z. absurd (true≢false (sym z))) (g .stopped),
         listed-rows _ cause.Sweep r refl (f .some) (f .these) (unlimited-reasons (s .nu) (s .states) r (g .stated) (f .these)),
       )
 
@@ -336,15 +354,15 @@ module _ (p : Problem) (nu : List Float) (st l : List ℕ) {room : ℕ} (ok : Ac
 
   start-stands : Stands p (startOf p nu st .states) (startOf p nu st .nu) 0 (firstIterate (startOf p nu st))
   unfolding sweepsAlone
-  start-stands = record { stated = started-stated p (startOf p nu st) is-started; boxed = is-started .boxed; passes = sym due-zero; alone = refl }
+  start-stands = record { stated = started-stated p (startOf p nu st) is-started; boxed = is-started .boxed; passes = sym due-zero; alone = refl; stopped = unfold stoppedLast in refl }
 
   whole-run : (m : Watch) → Runs p (startOf p nu st .states) (startOf p nu st .nu) 200 200 (run SWEEP_CAP p m (firstIterate (startOf p nu st)) 200)
   whole-run m = run-runs p m (startOf p nu st .states) (startOf p nu st .nu) (firstIterate (startOf p nu st)) (start-stands .stated) refl start-stands
 
   solve-modest : (m : Watch) → Reported Modest (solve SWEEP_CAP p m nu (take (size p) st) l .outcome)
   solve-modest m =
-      solve-either (λ x. Reported Modest (x .outcome)) p m nu st l (record { few = zero-le; fewer = zero-le; held = ofBits-fits binary64 0 })
-      (result-modest p (startOf p nu st .idle) l (run SWEEP_CAP p m (firstIterate (startOf p nu st)) 200) (startOf p nu st .states) (startOf p nu st .nu) (whole-run m))
+      solve-either (λ x. Reported Modest (x .outcome)) p m nu st l (record { few = zero-le; fewer = zero-le; fewStopped = zero-le; held = ofBits-fits binary64 0 })
+      (result-modest p (startOf p nu st .idle) l (run SWEEP_CAP p m (firstIterate (startOf p nu st)) 200) (startOf p nu st .states) (startOf p nu st .nu) (ok .sized .0) (whole-run m))
 
 -- all rows Idle: no row is on a bound, and every multiplier is as the clamp put it
 nothing-claims : (c : Call) → number c ≡ 0 → BoundsInOrder (c .problem) → (ok : Accepted (c .problem) (c .nu) (c .states) (c .listed) (c .room)) → (idle : ℕ)
@@ -362,6 +380,8 @@ nothing-claims c z fair ok idle =
         madePasses = refl;
         fewSweeps = zero-le;
         passes = sym due-zero;
+        stopped = refl;
+        fewStopped = zero-le;
         leftBySweeps = λ y. absurd (true≢false y);
         written = λ y h. absurd (not-suc-le-zero h);
         idleLeft = λ i d y. refl;

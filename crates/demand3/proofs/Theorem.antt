@@ -68,6 +68,11 @@ unfolding turned
 passes-each [] = refl
 passes-each (r ∷ l) = rw (passes-each l)
 
+stopped-each : (l : List BoxReport) → sumOf (λ (r : SolveReport). r .stopped) (map turned l) ≡ sumOf (λ (r : BoxReport). r .stopped) l
+unfolding turned
+stopped-each [] = refl
+stopped-each (r ∷ l) = rw (stopped-each l)
+
 sums-of : (l : List Call) → Sums (record { tally = total NOTHING l; answers = map alone l })
 sums-of l =
     record {
@@ -78,8 +83,10 @@ sums-of l =
       anchors = from-nothing (λ r. r .anchors) (λ a b. refl) refl l;
       sweeps = from-nothing (λ r. r .sweeps) (λ a b. refl) refl l;
       «exact_passes» = from-nothing (λ r. r .«exact_passes») (λ a b. refl) refl l;
+      stopped = from-nothing (λ r. r .stopped) (λ a b. refl) refl l;
       sweepsReported = from-nothing (λ r. r .sweeps) (λ a b. refl) refl l ∙ sweeps-each (reported (map alone l));
       passesReported = from-nothing (λ r. r .«exact_passes») (λ a b. refl) refl l ∙ passes-each (reported (map alone l));
+      stoppedReported = from-nothing (λ r. r .stopped) (λ a b. refl) refl l ∙ stopped-each (reported (map alone l));
     }
 
 -- ---- the theorem

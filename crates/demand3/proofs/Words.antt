@@ -146,7 +146,7 @@ module _ (p : Problem) (i : ℕ) where
         rw (row-at j h) at (rw (add-one) at
         (sum-again (rowOf p i) (at (p .uFree) i) nu j (sumTo p nu i j) (summing j (omega arith)) (rw (row-length (p .w) (size p) i) h) (omega arith)))
 
-    sum-is : sumTo p nu i (size p) ≡ rowSum (rowOf p i) (at (p .uFree) i) nu
+    pub sum-is : sumTo p nu i (size p) ≡ rowSum (rowOf p i) (at (p .uFree) i) nu
     sum-is =
         let e = row-length (p .w) (size p) i in
         sum-done (rowOf p i) (at (p .uFree) i) nu (size p) (size p) (sumTo p nu i (size p))

@@ -1,5 +1,5 @@
 -- Demand 3 of the C interface: lists of calls of `piskorlu_tallied`, of which nothing is known but what its contract says. Definitions only.
--- A tally is nine counts and a residual there, which a call reads and leaves joined. Where a flag is yes, the counts that a rig begins with may have any number but 0.
+-- A tally is ten counts and a residual there, which a call reads and leaves joined. Where a flag is yes, the counts that a rig begins with may have any number but 0.
 use Prim.Native.Nat.{ℕ, _≤_}
 use mathlib.Core.Path.{_≡_}
 use mathlib.Core.Bool.{Bool, true, false}
@@ -25,9 +25,9 @@ pub record Buffers : Type 0 where
 abbrev pub held : Buffers → SolveReport
 held b = report.read (b .counts) (at (b .residual) 0)
 
--- nine counts and a residual, or more
+-- ten counts and a residual, or more
 pub record Long (b : Buffers) : Type 0 where
-  pub nine : 9 ≤ length (b .counts)
+  pub ten : 10 ≤ length (b .counts)
   pub one : 1 ≤ length (b .residual)
 
 -- what a call is lent beside the tally: the solve and its own buffers, those of its answer, and the workspace

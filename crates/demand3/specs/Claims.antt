@@ -3,9 +3,9 @@
 use Prim.Native.Nat.{ℕ, zero, suc, _+_, _*_, _≤_, _<_}
 use mathlib.Core.Path.{_≡_}
 use mathlib.Core.Bool.{Bool, true, false, cond, _&&_, _||_}
-use mathlib.Core.List.{List, [], _∷_}
+use mathlib.Core.List.{List, [], _∷_, _++_}
 use lib.Dec.{leb, ltb}
-use lib.ListN.{length, getD, take, replicate}
+use lib.ListN.{length, getD, take, drop, replicate}
 use lib.Ieee.{Float, nan, inf, fin, lt, le, eq, ne}
 use Rattle.floats.specs.Ops.{_⊕_, _⊖_, _⊗_, _⊘_, at, Fits, 0ᶠ, 1e6, 1e-9, ∞, −∞}
 use Rattle.box_rows.specs.Rows.{Problem, size}
@@ -91,7 +91,7 @@ abbrev pub started : Call → sweep.Start
 started c = startOf (c .problem) (c .nu) (c .states)
 
 abbrev pub firstIterate : sweep.Start → Iterate
-firstIterate b = iterate (b .nu) (b .states) (counts 0 0)
+firstIterate b = iterate (b .nu) (b .states) (counts 0 0 0)
 
 -- the solve after k sweeps, and whether it still goes on
 abbrev pub afterSweeps : Call → ℕ → Run
@@ -130,6 +130,29 @@ sweepsAlone p st nu (suc k) = oneSweep p st (sweepsAlone p st nu k)
 -- from the clamp before the first sweep on
 abbrev pub bySweeps : Call → ℕ → List Float
 bySweeps c k = sweepsAlone (c .problem) (started c .states) (started c .nu) k
+
+-- ---- the rows that a sweep stops
+
+-- a bound stops a row whose update would put it past that bound
+abbrev pub pastABound : Float → Float → Float → Bool
+pastABound v lo hi = lt v lo || lt hi v
+
+-- What row i is updated from, in a sweep from the multipliers v to the multipliers nu: the new ones of the rows before it, the old ones of itself and the rows after it.
+abbrev pub midway : List Float → List Float → ℕ → List Float
+midway v nu i = take i nu ++ drop i v
+
+abbrev pub isStoppedAt : Problem → List Float → List Float → ℕ → Bool
+isStoppedAt p v nu i = acting p i && pastABound (at v i ⊖ sumTo p (midway v nu i) i (size p) ⊘ cell p i i) (at (p .lo) i) (at (p .hi) i)
+
+-- how many of the first k rows
+unfoldable pub stoppedRows : Problem → List Float → List Float → ℕ → ℕ
+stoppedRows p v nu zero = 0
+stoppedRows p v nu (suc i) = stoppedRows p v nu i + cond (isStoppedAt p v nu i) 1 0
+
+-- of the last of k sweeps, where there is one
+abbrev pub stoppedInLast : Call → ℕ → ℕ
+stoppedInLast c zero = 0
+stoppedInLast c (suc k) = stoppedRows (c .problem) (bySweeps c k) (bySweeps c (suc k)) (size (c .problem))
 
 -- ---- an exact pass that finds the answer, by the names of its definition
 
@@ -202,6 +225,9 @@ pub record Sound (c : Call) (a : Result) (grew : Bool) (r : BoxReport) : Type 0 
   pub fewSweeps : r .sweeps ≤ 200
   -- exactly as many passes as 1, 2, 4 .. 128, 200 has members not above its sweeps (below, where growth ended it)
   pub passes : r .«exact_passes» ≡ cond grew (below (r .sweeps)) (notAbove (r .sweeps))
+  -- and the rows that the last sweep stopped, at most 32, whatever a pass made of them afterwards
+  pub stopped : r .stopped ≡ stoppedInLast c (r .sweeps)
+  pub fewStopped : r .stopped ≤ 32
   -- Left by sweeps are, in an answer that is not exact, all multipliers: only the pass that finds an exact answer writes the multipliers of an answer.
   pub leftBySweeps : r .exact ≡ false → a .nu ≡ bySweeps c (r .sweeps)
   -- In an exact answer they are those of the Idle rows: that pass has written every row that acts (no row acts where there was no sweep),

@@ -60,9 +60,11 @@ pub record Sums (t : Tallies) : Type 0 where
   pub anchors : t .tally .anchors ≡ sumOf (λ r. r .anchors) (turnedInto (t .answers))
   pub sweeps : t .tally .sweeps ≡ sumOf (λ r. r .sweeps) (turnedInto (t .answers))
   pub «exact_passes» : t .tally .«exact_passes» ≡ sumOf (λ r. r .«exact_passes») (turnedInto (t .answers))
-  -- the sweeps and passes that the solves themselves reported
+  pub stopped : t .tally .stopped ≡ sumOf (λ r. r .stopped) (turnedInto (t .answers))
+  -- the sweeps, passes and rows stopped that the solves themselves reported
   pub sweepsReported : t .tally .sweeps ≡ sumOf (λ r. r .sweeps) (reported (t .answers))
   pub passesReported : t .tally .«exact_passes» ≡ sumOf (λ r. r .«exact_passes») (reported (t .answers))
+  pub stoppedReported : t .tally .stopped ≡ sumOf (λ r. r .stopped) (reported (t .answers))
 
 -- ---- two orders of one list
 

@@ -5,13 +5,13 @@ use mathlib.Core.List.{List, [], _∷_}
 use Prim.Native.Nat.{ℕ}
 use lib.Dec.{eqb}
 use lib.Ieee.{Float, binary64, ofBits, toBits, add, lt, eq, ne, neg}
-use Rattle.floats.specs.Helpers.{clamp, larger, abs, isNaN, isFinite}
+use Rattle.floats.specs.Helpers.{clamp, none, low, high, side, larger, abs, isNaN, isFinite}
 use Rattle.floats.specs.Sqrt.{sqrt, nearestRoot, wholeRoot}
 
 -- ---- a case: what goes in, and last what must come out
 
 data Case : Type 0 where
-  clamps : ℕ → ℕ → ℕ → ℕ → Case
+  clamps : ℕ → ℕ → ℕ → ℕ → ℕ → Case
   larger-of : ℕ → ℕ → ℕ → Case
   absolute : ℕ → ℕ → Case
   nan-test finite-test : ℕ → Bool → Case
@@ -25,8 +25,8 @@ abbrev d : ℕ → Float
 d b = ofBits binary64 b
 
 unfoldable passes : Case → Bool
-unfolding clamp larger abs isNaN isFinite sqrt nearestRoot wholeRoot ofBits toBits add lt eq ne neg
-passes (clamps v lo hi r) = is (clamp (d v) (d lo) (d hi)) r
+unfolding clamp side larger abs isNaN isFinite sqrt nearestRoot wholeRoot ofBits toBits add lt eq ne neg
+passes (clamps v lo hi r s) = is (clamp (d v) (d lo) (d hi)) r && eqb (side (d v) (d lo) (d hi)) s
 passes (larger-of x y r) = is (larger (d x) (d y)) r
 passes (absolute v r) = is (abs (d v)) r
 passes (nan-test v r) = Bool·beq (isNaN (d v)) r
@@ -86,26 +86,31 @@ abbrev −∞ : ℕ
 
 cases : List Case
 cases =
-    -- below, inside, above, on each bound, equal bounds
-    clamps one two three two ∷
-    clamps two one three two ∷
-    clamps three one two two ∷
-    clamps one one two one ∷
-    clamps two one two two ∷
-    clamps three two two two ∷
+    -- below, inside, above, on each bound, equal bounds; last the side: a value that equals a bound is not stopped
+    clamps one two three two low ∷
+    clamps two one three two none ∷
+    clamps three one two two high ∷
+    clamps one one two one none ∷
+    clamps two one two two none ∷
+    clamps three two two two high ∷
     -- inverted bounds: lo is tested first; a NaN value stays; a NaN bound does not bind
-    clamps one three two three ∷
-    clamps three two one one ∷
-    clamps NaN one two NaN ∷
-    clamps three NaN two two ∷
-    clamps one two NaN two ∷
-    clamps three NaN NaN three ∷
+    clamps one three two three low ∷
+    clamps three two one one high ∷
+    clamps NaN one two NaN none ∷
+    clamps three NaN two two high ∷
+    clamps one two NaN two low ∷
+    clamps three NaN NaN three none ∷
     -- infinities and zeros: -0 is not below +0
-    clamps −∞ zero′ ∞ zero′ ∷
-    clamps ∞ −∞ ∞ ∞ ∷
-    clamps −zero zero′ one −zero ∷
-    clamps zero′ −one −zero zero′ ∷
-    clamps −least zero′ one zero′ ∷
+    clamps −∞ zero′ ∞ zero′ low ∷
+    clamps ∞ −∞ ∞ ∞ none ∷
+    clamps −zero zero′ one −zero none ∷
+    clamps zero′ −one −zero zero′ none ∷
+    clamps −least zero′ one zero′ low ∷
+    -- just past a bound on either side, a value that is past both, and boxes of one value
+    clamps least −one zero′ zero′ high ∷
+    clamps two three one three low ∷
+    clamps zero′ −zero −zero zero′ none ∷
+    clamps ∞ one one one high ∷
     -- the larger of two: order, NaN on either side and on both, zeros in either order, infinities
     larger-of one two two ∷
     larger-of two one two ∷

@@ -6,17 +6,40 @@ ghost use Rattle.floats.specs.Sqrt as def;
 
 mod root;
 
-// lo if v < lo, else hi if v > hi, else v: also for bounds that are NaN, infinite or inverted.
-pub fn clamp(v: f64, lo: f64, hi: f64) -> f64
-    ensures { λ r. ⌜ r ≡ helpers.clamp v lo hi ⌝ }
+// The side at which a clamp stops a value is a byte: at neither bound, at the lower one, at the upper one.
+pub const NONE: u8 = 0;
+
+pub const LOW: u8 = 1;
+
+pub const HIGH: u8 = 2;
+
+// A value put into its box, and the side at which it was stopped.
+pub struct Clamped {
+    pub value: f64,
+    pub side: u8,
+}
+
+// lo if v < lo, else hi if v > hi, else v: also for bounds that are NaN, infinite or inverted. Only a value that is
+// replaced by a bound is stopped: one that equals a bound is not.
+pub fn clamp(v: f64, lo: f64, hi: f64) -> Clamped
+    ensures { λ r. ⌜ (r .value ≡ helpers.clamp v lo hi) × (r .side ≡ helpers.side v lo hi) ⌝ }
 {
     if v < lo {
-        return lo;
+        return Clamped {
+            value: lo,
+            side: LOW,
+        };
     }
     if v > hi {
-        return hi;
+        return Clamped {
+            value: hi,
+            side: HIGH,
+        };
     }
-    v
+    Clamped {
+        value: v,
+        side: NONE,
+    }
 }
 
 // The larger of two: the one that isn't NaN, NaN if both are, and of +0 and -0 +0.

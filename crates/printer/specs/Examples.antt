@@ -61,7 +61,7 @@ d b = ofBits binary64 b
 
 abbrev report : ℕ → ℕ → Bool → Bool → ℕ → ℕ → BoxReport
 report sweeps passes converged exact idle residual =
-    record { sweeps = sweeps; «exact_passes» = passes; converged = converged; exact = exact; residual = d residual; idle = idle }
+    record { sweeps = sweeps; «exact_passes» = passes; converged = converged; exact = exact; residual = d residual; idle = idle; stopped = 0 }
 
 outputs : List Case
 outputs =

@@ -22,6 +22,7 @@ fn counts(a: SolveReport, b: SolveReport) -> bool {
         && a.anchors == b.anchors
         && a.sweeps == b.sweeps
         && a.exact_passes == b.exact_passes
+        && a.stopped == b.stopped
 }
 
 pub fn report(a: SolveReport, b: SolveReport) -> bool {
@@ -37,6 +38,7 @@ fn of_solve(a: BoxReport, b: BoxReport) -> bool {
         && a.converged == b.converged
         && a.exact == b.exact
         && a.idle == b.idle
+        && a.stopped == b.stopped
         && float(a.residual, b.residual)
 }
 

@@ -33,6 +33,7 @@ both-comm a b p q =
       anchors = add-comm (a .anchors) (b .anchors) i;
       sweeps = add-comm (a .sweeps) (b .sweeps) i;
       «exact_passes» = add-comm (a .«exact_passes») (b .«exact_passes») i;
+      stopped = add-comm (a .stopped) (b .stopped) i;
       converged = and-comm (a .converged) (b .converged) i;
       exact = and-comm (a .exact) (b .exact) i;
       residual = larger-comm (a .residual) (b .residual) p q i;
@@ -49,6 +50,7 @@ both-assoc a b c p q r =
       anchors = add-assoc (a .anchors) (b .anchors) (c .anchors) i;
       sweeps = add-assoc (a .sweeps) (b .sweeps) (c .sweeps) i;
       «exact_passes» = add-assoc (a .«exact_passes») (b .«exact_passes») (c .«exact_passes») i;
+      stopped = add-assoc (a .stopped) (b .stopped) (c .stopped) i;
       converged = and-assoc (a .converged) (b .converged) (c .converged) i;
       exact = and-assoc (a .exact) (b .exact) (c .exact) i;
       residual = larger-assoc (a .residual) (b .residual) (c .residual) p q r i;
@@ -93,6 +95,7 @@ all-sums-comm a b =
       add-comm (a .anchors) (b .anchors),
       add-comm (a .sweeps) (b .sweeps),
       add-comm (a .«exact_passes») (b .«exact_passes»),
+      add-comm (a .stopped) (b .stopped),
     )
 
 pub and-is-comm : (a b : SolveReport) → Held a → Held b → and a b ≡ and b a
@@ -107,14 +110,14 @@ before a (joined b) = and a b
 module _ (a b c : SolveReport) where
   shift : AllSummable a b → AllSummable (both a b) c → AllSummable b c × AllSummable a (both b c)
   shift s t = (
-    record { increments = omega arith; others = record { iterations = omega arith; rejected = omega arith; anchors = omega arith; sweeps = omega arith; «exact_passes» = omega arith } },
-    record { increments = omega arith; others = record { iterations = omega arith; rejected = omega arith; anchors = omega arith; sweeps = omega arith; «exact_passes» = omega arith } },
+    record { increments = omega arith; others = record { iterations = omega arith; rejected = omega arith; anchors = omega arith; sweeps = omega arith; «exact_passes» = omega arith; stopped = omega arith } },
+    record { increments = omega arith; others = record { iterations = omega arith; rejected = omega arith; anchors = omega arith; sweeps = omega arith; «exact_passes» = omega arith; stopped = omega arith } },
   )
 
   shift-back : AllSummable b c → AllSummable a (both b c) → AllSummable a b × AllSummable (both a b) c
   shift-back s t = (
-    record { increments = omega arith; others = record { iterations = omega arith; rejected = omega arith; anchors = omega arith; sweeps = omega arith; «exact_passes» = omega arith } },
-    record { increments = omega arith; others = record { iterations = omega arith; rejected = omega arith; anchors = omega arith; sweeps = omega arith; «exact_passes» = omega arith } },
+    record { increments = omega arith; others = record { iterations = omega arith; rejected = omega arith; anchors = omega arith; sweeps = omega arith; «exact_passes» = omega arith; stopped = omega arith } },
+    record { increments = omega arith; others = record { iterations = omega arith; rejected = omega arith; anchors = omega arith; sweeps = omega arith; «exact_passes» = omega arith; stopped = omega arith } },
   )
 
   -- both groupings refuse by 13, or both come to the same report

@@ -25,7 +25,7 @@ abbrev pub total : (SolveReport → ℕ) → List SolveReport → ℕ
 total count [] = 0
 total count (b ∷ l) = count b + total count l
 
--- a count that `and` adds is, of the list joined, what it was before and the list's total: so it is for increments, iterations, rejected, anchors, sweeps and exact_passes
+-- a count that `and` adds is, of the list joined, what it was before and the list's total: so it is for increments, iterations, rejected, anchors, sweeps, exact_passes and stopped
 module _ (count : SolveReport → ℕ) (adds : (a b : SolveReport) → count (both a b) ≡ count a + count b) where
   abbrev counted : ℕ → Answer → Type 0
   counted k (refused number) = Unit {0}

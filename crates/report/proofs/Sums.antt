@@ -30,7 +30,8 @@ module _ (a b : SolveReport) where
   pub summable : sumsFit a b ≡ true → Summable a b
   unfolding sumsFit
   summable e =
-      let s5 = both-true _ (sumFits (a .«exact_passes») (b .«exact_passes»)) e in
+      let s6 = both-true _ (sumFits (a .stopped) (b .stopped)) e in
+      let s5 = both-true _ (sumFits (a .«exact_passes») (b .«exact_passes»)) (s6 .0) in
       let s4 = both-true _ (sumFits (a .sweeps) (b .sweeps)) (s5 .0) in
       let s3 = both-true _ (sumFits (a .anchors) (b .anchors)) (s4 .0) in
       let s2 = both-true (sumFits (a .iterations) (b .iterations)) (sumFits (a .rejected) (b .rejected)) (s3 .0) in
@@ -40,6 +41,7 @@ module _ (a b : SolveReport) where
         anchors = fits (a .anchors) (b .anchors) (s3 .1);
         sweeps = fits (a .sweeps) (b .sweeps) (s4 .1);
         «exact_passes» = fits (a .«exact_passes») (b .«exact_passes») (s5 .1);
+        stopped = fits (a .stopped) (b .stopped) (s6 .1);
       }
 
   pub sums-fit : Summable a b → sumsFit a b ≡ true
@@ -51,6 +53,7 @@ module _ (a b : SolveReport) where
         fits-back (a .anchors) (b .anchors) (s .anchors),
         fits-back (a .sweeps) (b .sweeps) (s .sweeps),
         fits-back (a .«exact_passes») (b .«exact_passes») (s .«exact_passes»),
+        fits-back (a .stopped) (b .stopped) (s .stopped),
       )
 
   pub all-summable : allSumsFit a b ≡ true → AllSummable a b

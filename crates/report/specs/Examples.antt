@@ -20,6 +20,7 @@ same a b =
     && eqb (a .anchors) (b .anchors)
     && eqb (a .sweeps) (b .sweeps)
     && eqb (a .«exact_passes») (b .«exact_passes»)
+    && eqb (a .stopped) (b .stopped)
     && Bool·beq (a .converged) (b .converged)
     && Bool·beq (a .exact) (b .exact)
     && eqb (toBits binary64 (a .residual)) (toBits binary64 (b .residual))
@@ -31,8 +32,8 @@ alike (joined a) (refused l) = false
 alike (joined a) (joined b) = same a b
 
 -- the counts in the order of the struct's fields, the flags, and the residual's bits
-report : ℕ → ℕ → ℕ → ℕ → ℕ → ℕ → ℕ → Bool → Bool → ℕ → SolveReport
-report i n m r a s p c e x =
+report : ℕ → ℕ → ℕ → ℕ → ℕ → ℕ → ℕ → ℕ → Bool → Bool → ℕ → SolveReport
+report i n m r a s p t c e x =
     record {
       increments = i;
       iterations = n;
@@ -41,6 +42,7 @@ report i n m r a s p c e x =
       anchors = a;
       sweeps = s;
       «exact_passes» = p;
+      stopped = t;
       converged = c;
       exact = e;
       residual = ofBits binary64 x;
@@ -48,10 +50,13 @@ report i n m r a s p c e x =
 
 -- a report of nothing but a residual, or of one count
 rest : ℕ → SolveReport
-rest x = report 0 0 0 0 0 0 0 true true x
+rest x = report 0 0 0 0 0 0 0 0 true true x
 
 sweeps : ℕ → SolveReport
-sweeps k = report 0 0 0 0 0 k 0 true true 0
+sweeps k = report 0 0 0 0 0 k 0 0 true true 0
+
+stops : ℕ → SolveReport
+stops k = report 0 0 0 0 0 0 0 k true true 0
 
 -- ---- a case: what is joined, and last what must come out
 
@@ -95,20 +100,20 @@ NaN = 0x7FF8000000000000
 abbrev most : ℕ
 most = 4294967295
 
--- the six counts that `and` adds, each at x
+-- the seven counts that `and` adds, each at x, and most_iterations too
 each : ℕ → SolveReport
-each x = report x x x x x x x true true 0
+each x = report x x x x x x x x true true 0
 
 cases : List Case
 cases =
     -- every field: counts added, the larger most_iterations, flags both, the larger residual; in either order
-    ands (report 1 2 3 4 5 6 7 true false one) (report 10 20 2 40 50 60 70 true true two) (joined (report 11 22 3 44 55 66 77 true false two)) ∷
-    ands (report 10 20 2 40 50 60 70 true true two) (report 1 2 3 4 5 6 7 true false one) (joined (report 11 22 3 44 55 66 77 true false two)) ∷
-    ands (report 0 0 1 0 0 0 0 false true two) (report 0 0 9 0 0 0 0 true false one) (joined (report 0 0 9 0 0 0 0 false false two)) ∷
+    ands (report 1 2 3 4 5 6 7 8 true false one) (report 10 20 2 40 50 60 70 80 true true two) (joined (report 11 22 3 44 55 66 77 88 true false two)) ∷
+    ands (report 10 20 2 40 50 60 70 80 true true two) (report 1 2 3 4 5 6 7 8 true false one) (joined (report 11 22 3 44 55 66 77 88 true false two)) ∷
+    ands (report 0 0 1 0 0 0 0 0 false true two) (report 0 0 9 0 0 0 0 0 true false one) (joined (report 0 0 9 0 0 0 0 0 false false two)) ∷
     -- continued: the larger increments, most_iterations the sum of iterations, converged and residual the second's, exact both
-    continues (report 1 2 9 4 5 6 7 true true two) (report 1 20 8 40 50 60 70 false true one) (joined (report 1 22 22 44 55 66 77 false true one)) ∷
-    continues (report 3 2 9 4 5 6 7 false false NaN) (report 1 20 8 40 50 60 70 true true −one) (joined (report 3 22 22 44 55 66 77 true false −one)) ∷
-    continues (report 1 0 0 0 0 0 0 true true one) (report 2 0 0 0 0 0 0 true false NaN) (joined (report 2 0 0 0 0 0 0 true false NaN)) ∷
+    continues (report 1 2 9 4 5 6 7 8 true true two) (report 1 20 8 40 50 60 70 80 false true one) (joined (report 1 22 22 44 55 66 77 88 false true one)) ∷
+    continues (report 3 2 9 4 5 6 7 8 false false NaN) (report 1 20 8 40 50 60 70 80 true true −one) (joined (report 3 22 22 44 55 66 77 88 true false −one)) ∷
+    continues (report 1 0 0 0 0 0 0 0 true true one) (report 2 0 0 0 0 0 0 0 true false NaN) (joined (report 2 0 0 0 0 0 0 0 true false NaN)) ∷
     -- zeros: +0 unless both are -0
     ands (rest +0) (rest −0) (joined (rest +0)) ∷
     ands (rest −0) (rest +0) (joined (rest +0)) ∷
@@ -124,23 +129,25 @@ cases =
     ands NOTHING (rest NaN) (joined (rest +0)) ∷
     ands NOTHING (rest one) (joined (rest one)) ∷
     -- each sum at the limit, and one past it
-    ands (each 1) (each 4294967294) (joined (report most most 4294967294 most most most most true true 0)) ∷
-    ands (report 1 0 0 0 0 0 0 true true 0) (each most) (refused 13) ∷
-    ands (report 0 1 0 0 0 0 0 true true 0) (each most) (refused 13) ∷
-    ands (report 0 0 1 0 0 0 0 true true 0) (each most) (joined (each most)) ∷
-    ands (report 0 0 0 1 0 0 0 true true 0) (each most) (refused 13) ∷
-    ands (report 0 0 0 0 1 0 0 true true 0) (each most) (refused 13) ∷
-    ands (report 0 0 0 0 0 1 0 true true 0) (each most) (refused 13) ∷
-    ands (report 0 0 0 0 0 0 1 true true 0) (each most) (refused 13) ∷
+    ands (each 1) (each 4294967294) (joined (report most most 4294967294 most most most most most true true 0)) ∷
+    ands (report 1 0 0 0 0 0 0 0 true true 0) (each most) (refused 13) ∷
+    ands (report 0 1 0 0 0 0 0 0 true true 0) (each most) (refused 13) ∷
+    ands (report 0 0 1 0 0 0 0 0 true true 0) (each most) (joined (each most)) ∷
+    ands (report 0 0 0 1 0 0 0 0 true true 0) (each most) (refused 13) ∷
+    ands (report 0 0 0 0 1 0 0 0 true true 0) (each most) (refused 13) ∷
+    ands (report 0 0 0 0 0 1 0 0 true true 0) (each most) (refused 13) ∷
+    ands (report 0 0 0 0 0 0 1 0 true true 0) (each most) (refused 13) ∷
+    ands (report 0 0 0 0 0 0 0 1 true true 0) (each most) (refused 13) ∷
     -- continued adds no increments
-    continues (each 1) (each 4294967294) (joined (report 4294967294 most most most most most most true true 0)) ∷
-    continues (report most 0 0 0 0 0 0 true true 0) (each most) (joined (each most)) ∷
-    continues (report 0 1 0 0 0 0 0 true true 0) (each most) (refused 13) ∷
-    continues (report 0 0 most 0 0 0 0 true true 0) (each most) (joined (each most)) ∷
-    continues (report 0 0 0 1 0 0 0 true true 0) (each most) (refused 13) ∷
-    continues (report 0 0 0 0 1 0 0 true true 0) (each most) (refused 13) ∷
-    continues (report 0 0 0 0 0 1 0 true true 0) (each most) (refused 13) ∷
-    continues (report 0 0 0 0 0 0 1 true true 0) (each most) (refused 13) ∷
+    continues (each 1) (each 4294967294) (joined (report 4294967294 most most most most most most most true true 0)) ∷
+    continues (report most 0 0 0 0 0 0 0 true true 0) (each most) (joined (each most)) ∷
+    continues (report 0 1 0 0 0 0 0 0 true true 0) (each most) (refused 13) ∷
+    continues (report 0 0 most 0 0 0 0 0 true true 0) (each most) (joined (each most)) ∷
+    continues (report 0 0 0 1 0 0 0 0 true true 0) (each most) (refused 13) ∷
+    continues (report 0 0 0 0 1 0 0 0 true true 0) (each most) (refused 13) ∷
+    continues (report 0 0 0 0 0 1 0 0 true true 0) (each most) (refused 13) ∷
+    continues (report 0 0 0 0 0 0 1 0 true true 0) (each most) (refused 13) ∷
+    continues (report 0 0 0 0 0 0 0 1 true true 0) (each most) (refused 13) ∷
     -- lists: none, one, several; a sum that is too large in the middle, and one that is just not
     lists [] (joined NOTHING) ∷
     lists (rest −one ∷ []) (joined (rest +0)) ∷
@@ -148,8 +155,11 @@ cases =
     lists (rest one ∷ rest NaN ∷ rest two ∷ rest one ∷ []) (joined (rest two)) ∷
     lists (sweeps 4294967294 ∷ sweeps 1 ∷ sweeps 0 ∷ []) (joined (sweeps most)) ∷
     lists (sweeps 4294967294 ∷ sweeps 2 ∷ sweeps 0 ∷ []) (refused 13) ∷
-    lists (sweeps most ∷ rest one ∷ sweeps 1 ∷ []) (refused 13) ∷ []
+    lists (sweeps most ∷ rest one ∷ sweeps 1 ∷ []) (refused 13) ∷
+    -- the rows stopped are summed too
+    lists (stops 4294967263 ∷ stops 32 ∷ sweeps 0 ∷ []) (joined (stops most)) ∷
+    lists (stops 4294967264 ∷ stops 32 ∷ []) (refused 13) ∷ []
 
 table : every cases ≡ true
-unfolding every cases passes alike same report rest sweeps each
+unfolding every cases passes alike same report rest sweeps stops each
 table = refl

@@ -20,6 +20,7 @@ NOTHING =
       anchors = 0;
       sweeps = 0;
       «exact_passes» = 0;
+      stopped = 0;
       converged = true;
       exact = true;
       residual = 0ᶠ;
@@ -38,6 +39,7 @@ both a b =
       anchors = a .anchors + b .anchors;
       sweeps = a .sweeps + b .sweeps;
       «exact_passes» = a .«exact_passes» + b .«exact_passes»;
+      stopped = a .stopped + b .stopped;
       converged = a .converged && b .converged;
       exact = a .exact && b .exact;
       residual = larger (a .residual) (b .residual);
@@ -54,6 +56,7 @@ onward a b =
       anchors = a .anchors + b .anchors;
       sweeps = a .sweeps + b .sweeps;
       «exact_passes» = a .«exact_passes» + b .«exact_passes»;
+      stopped = a .stopped + b .stopped;
       converged = b .converged;
       exact = a .exact && b .exact;
       residual = b .residual;
@@ -76,6 +79,7 @@ sumsFit a b =
     && sumFits (a .anchors) (b .anchors)
     && sumFits (a .sweeps) (b .sweeps)
     && sumFits (a .«exact_passes») (b .«exact_passes»)
+    && sumFits (a .stopped) (b .stopped)
 
 -- the sums that `and` makes
 unfoldable pub allSumsFit : SolveReport → SolveReport → Bool
@@ -88,6 +92,7 @@ pub record Summable (a b : SolveReport) : Type 0 where
   pub anchors : a .anchors + b .anchors ≤ most
   pub sweeps : a .sweeps + b .sweeps ≤ most
   pub «exact_passes» : a .«exact_passes» + b .«exact_passes» ≤ most
+  pub stopped : a .stopped + b .stopped ≤ most
 
 pub record AllSummable (a b : SolveReport) : Type 0 where
   pub increments : a .increments + b .increments ≤ most

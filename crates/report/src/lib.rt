@@ -19,6 +19,8 @@ pub struct SolveReport {
     pub sweeps: u32,
     // Exact passes tried, in all.
     pub exact_passes: u32,
+    // Rows that the last sweep of a box problem stopped at a bound, in all.
+    pub stopped: u32,
     // Whether every increment converged.
     pub converged: bool,
     // Whether every box problem was solved by its exact pass.
@@ -43,6 +45,7 @@ impl SolveReport {
         anchors: 0,
         sweeps: 0,
         exact_passes: 0,
+        stopped: 0,
         converged: true,
         exact: true,
         residual: 0.0,
@@ -113,6 +116,7 @@ fn sums_fit(a: SolveReport, b: SolveReport) -> bool
         & sum_fits(a.anchors, b.anchors)
         & sum_fits(a.sweeps, b.sweeps)
         & sum_fits(a.exact_passes, b.exact_passes)
+        & sum_fits(a.stopped, b.stopped)
 }
 
 // Whether the sums that `and` makes fit.
@@ -141,6 +145,7 @@ fn onward(a: SolveReport, b: SolveReport) -> SolveReport
         anchors: a.anchors + b.anchors,
         sweeps: a.sweeps + b.sweeps,
         exact_passes: a.exact_passes + b.exact_passes,
+        stopped: a.stopped + b.stopped,
         converged: b.converged,
         exact: a.exact & b.exact,
         residual: b.residual,
@@ -159,6 +164,7 @@ fn both(a: SolveReport, b: SolveReport) -> SolveReport
         anchors: a.anchors + b.anchors,
         sweeps: a.sweeps + b.sweeps,
         exact_passes: a.exact_passes + b.exact_passes,
+        stopped: a.stopped + b.stopped,
         converged: a.converged & b.converged,
         exact: a.exact & b.exact,
         residual: floats::larger(a.residual, b.residual),

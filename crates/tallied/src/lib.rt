@@ -22,7 +22,7 @@ pub struct Tallied {
     pub answer: BoxAnswer,
 }
 
-// Whether the tally might not hold one solve more: 200 sweeps and 9 passes at most.
+// Whether the tally might not hold one solve more: 200 sweeps, 9 passes and 32 rows stopped at most.
 pub fn full(tally: SolveReport) -> bool
     ensures { λ r. ⌜ r ≡ def.full tally ⌝ }
 {
@@ -32,7 +32,10 @@ pub fn full(tally: SolveReport) -> bool
     if tally.sweeps > 4294967095 {
         return true;
     }
-    tally.exact_passes > 4294967286
+    if tally.exact_passes > 4294967286 {
+        return true;
+    }
+    tally.stopped > 4294967263
 }
 
 // The SolveReport that a BoxReport is turned into.
@@ -47,6 +50,7 @@ pub fn turned(report: BoxReport) -> SolveReport
         anchors: 0,
         sweeps: report.sweeps,
         exact_passes: report.exact_passes,
+        stopped: report.stopped,
         converged: report.converged,
         exact: report.exact,
         residual: report.residual,

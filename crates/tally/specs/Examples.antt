@@ -63,15 +63,24 @@ fights =
     call 2304 (one ∷ 0xBFF0000000000000 ∷ 0xBFF0000000000000 ∷ one ∷ []) (0xBFF0000000000000 ∷ 0xBFF0000000000000 ∷ []) (0 ∷ 0 ∷ []) (∞ ∷ ∞ ∷ []) (one ∷ one ∷ [])
     (0 ∷ 0 ∷ [])
 
+-- one row that the sweep stops at its lower bound, 0
+abbrev pub stops : def.Call
+stops = call 2304 (one ∷ []) (0x4010000000000000 ∷ []) (0 ∷ []) (∞ ∷ []) (one ∷ []) (0 ∷ [])
+
+-- growth of row 0 at sweep 1, beside a row that the sweep stops
+abbrev pub growsBeside : def.Call
+growsBeside =
+    call 2304 (0x3E70000000000000 ∷ 0 ∷ 0 ∷ one ∷ []) (0xBFF0000000000000 ∷ 0x4010000000000000 ∷ []) (0 ∷ 0 ∷ []) (∞ ∷ ∞ ∷ []) (one ∷ one ∷ []) (0 ∷ 0 ∷ [])
+
 -- a scale of 0, which is number 8
 abbrev pub refuses : def.Call
 refuses = call 2304 (one ∷ []) (0 ∷ []) (0 ∷ []) (0 ∷ []) (0 ∷ []) (one ∷ [])
 
 -- ---- what must come out
 
--- increments, sweeps, passes, flags and the residual's bits
-counts : ℕ → ℕ → ℕ → Bool → Bool → ℕ → SolveReport
-counts i s p c e x =
+-- increments, sweeps, passes, rows stopped, flags and the residual's bits
+counts : ℕ → ℕ → ℕ → ℕ → Bool → Bool → ℕ → SolveReport
+counts i s p k c e x =
     record {
       increments = i;
       iterations = 0;
@@ -80,14 +89,15 @@ counts i s p c e x =
       anchors = 0;
       sweeps = s;
       «exact_passes» = p;
+      stopped = k;
       converged = c;
       exact = e;
       residual = ofBits binary64 x;
     }
 
 -- a tally of solves that all ended well
-tallyOf : ℕ → ℕ → ℕ → SolveReport
-tallyOf i s p = counts i s p true true 0
+tallyOf : ℕ → ℕ → ℕ → ℕ → SolveReport
+tallyOf i s p k = counts i s p k true true 0
 
 -- its name, the tally at first, the calls, the tally left, and the number of each call, 0 where it is accepted
 pub record Case : Type 0 where
@@ -103,7 +113,7 @@ case m t l s n = record { name = m; first = t; calls = l; left = s; numbers = n 
 sameTally : SolveReport → SolveReport → Bool
 sameTally a b =
     eqb (a .increments) (b .increments) && eqb (a .iterations) (b .iterations) && eqb (a .«most_iterations») (b .«most_iterations») && eqb (a .rejected) (b .rejected)
-    && eqb (a .anchors) (b .anchors) && eqb (a .sweeps) (b .sweeps) && eqb (a .«exact_passes») (b .«exact_passes») && Bool·beq (a .converged) (b .converged)
+    && eqb (a .anchors) (b .anchors) && eqb (a .sweeps) (b .sweeps) && eqb (a .«exact_passes») (b .«exact_passes») && eqb (a .stopped) (b .stopped) && Bool·beq (a .converged) (b .converged)
     && Bool·beq (a .exact) (b .exact) && eqb (toBits binary64 (a .residual)) (toBits binary64 (b .residual))
 
 same : List ℕ → List ℕ → Bool
@@ -147,23 +157,27 @@ allPass (c ∷ l) = passes c && allPass l
 cases : List Case
 cases =
     case "growth, a fight and a refused solve, which joins nothing" report.NOTHING (grows ∷ fights ∷ refuses ∷ [])
-    (counts 2 2 1 false false 0x4000000000000000) (0 ∷ 0 ∷ 8 ∷ []) ∷
-    case "the same in another order" report.NOTHING (refuses ∷ fights ∷ grows ∷ []) (counts 2 2 1 false false 0x4000000000000000) (8 ∷ 0 ∷ 0 ∷ []) ∷
-    case "exact solves, and one of no rows" report.NOTHING (exact 2304 ∷ empty ∷ exact 2304 ∷ []) (tallyOf 3 2 2) (0 ∷ 0 ∷ 0 ∷ []) ∷
+    (counts 2 2 1 0 false false 0x4000000000000000) (0 ∷ 0 ∷ 8 ∷ []) ∷
+    case "the same in another order" report.NOTHING (refuses ∷ fights ∷ grows ∷ []) (counts 2 2 1 0 false false 0x4000000000000000) (8 ∷ 0 ∷ 0 ∷ []) ∷
+    case "exact solves, and one of no rows" report.NOTHING (exact 2304 ∷ empty ∷ exact 2304 ∷ []) (tallyOf 3 2 2 0) (0 ∷ 0 ∷ 0 ∷ []) ∷
     case "no solve" report.NOTHING [] report.NOTHING [] ∷
-    case "11 by increments" (tallyOf 4294967295 0 0) (empty ∷ []) (tallyOf 4294967295 0 0) (11 ∷ []) ∷
-    case "one increment below, then 11" (tallyOf 4294967294 0 0) (empty ∷ exact 2304 ∷ []) (tallyOf 4294967295 0 0) (0 ∷ 11 ∷ []) ∷
-    case "11 by sweeps" (tallyOf 0 4294967096 0) (exact 2304 ∷ []) (tallyOf 0 4294967096 0) (11 ∷ []) ∷
-    case "one sweep below, then 11" (tallyOf 0 4294967095 0) (exact 2304 ∷ empty ∷ []) (tallyOf 1 4294967096 1) (0 ∷ 11 ∷ []) ∷
-    case "11 by passes" (tallyOf 0 0 4294967287) (grows ∷ []) (tallyOf 0 0 4294967287) (11 ∷ []) ∷
-    case "one pass below, then 11" (tallyOf 0 0 4294967286) (exact 2304 ∷ empty ∷ []) (tallyOf 1 1 4294967287) (0 ∷ 11 ∷ []) ∷
-    case "10 and 8 before 11" (tallyOf 4294967295 0 0) (exact 2303 ∷ refuses ∷ empty ∷ []) (tallyOf 4294967295 0 0) (10 ∷ 8 ∷ 11 ∷ []) ∷ []
+    case "11 by increments" (tallyOf 4294967295 0 0 0) (empty ∷ []) (tallyOf 4294967295 0 0 0) (11 ∷ []) ∷
+    case "one increment below, then 11" (tallyOf 4294967294 0 0 0) (empty ∷ exact 2304 ∷ []) (tallyOf 4294967295 0 0 0) (0 ∷ 11 ∷ []) ∷
+    case "11 by sweeps" (tallyOf 0 4294967096 0 0) (exact 2304 ∷ []) (tallyOf 0 4294967096 0 0) (11 ∷ []) ∷
+    case "one sweep below, then 11" (tallyOf 0 4294967095 0 0) (exact 2304 ∷ empty ∷ []) (tallyOf 1 4294967096 1 0) (0 ∷ 11 ∷ []) ∷
+    case "11 by passes" (tallyOf 0 0 4294967287 0) (grows ∷ []) (tallyOf 0 0 4294967287 0) (11 ∷ []) ∷
+    case "one pass below, then 11" (tallyOf 0 0 4294967286 0) (exact 2304 ∷ empty ∷ []) (tallyOf 1 1 4294967287 0) (0 ∷ 11 ∷ []) ∷
+    case "rows stopped are summed, those of every accepted solve" report.NOTHING (stops ∷ exact 2304 ∷ refuses ∷ growsBeside ∷ stops ∷ [])
+    (counts 4 4 3 3 false false 0) (0 ∷ 0 ∷ 8 ∷ 0 ∷ 0 ∷ []) ∷
+    case "11 by rows stopped, though this solve would stop none" (tallyOf 0 0 0 4294967264) (exact 2304 ∷ []) (tallyOf 0 0 0 4294967264) (11 ∷ []) ∷
+    case "one row stopped below, then 11" (tallyOf 0 0 0 4294967263) (stops ∷ empty ∷ []) (tallyOf 1 1 1 4294967264) (0 ∷ 11 ∷ []) ∷
+    case "10 and 8 before 11" (tallyOf 4294967295 0 0 0) (exact 2303 ∷ refuses ∷ empty ∷ []) (tallyOf 4294967295 0 0 0) (10 ∷ 8 ∷ 11 ∷ []) ∷ []
 
 table : allPass cases ≡ true
 unfolding
     loops.turns loops.between loops.downward loops.swap loops.tab loops.those loops.every loops.noted loops.counted
     updates.updated
-    helpers.clamp helpers.larger helpers.abs helpers.isNaN helpers.isFinite
+    helpers.clamp helpers.side helpers.larger helpers.abs helpers.isNaN helpers.isFinite
     root.wholeRoot root.nearestRoot root.sqrt
     sums.gathered
     reflector.beta reflector.less reflector.factor reflector.reflect
@@ -172,7 +186,7 @@ unfolding
     least.leading least.rowNorm2 least.keptRow least.reflectRow least.reflectRows least.clear least.cleared
     least.lastCleared least.known least.substituted least.turn least.turned least.firstTurned least.unpermuted
     least.solved least.ranked least.leastNorm
-    box.row box.isIdle box.onBound box.stateOf box.rowSum box.update box.naturalResidual box.residualAt
+    box.row box.isIdle box.onBound box.stateOf box.rowSum box.update box.updateSide box.naturalResidual box.residualAt
     rays.sizeOf rays.largestRow rays.largest rays.dropped rays.grows rays.collect rays.collectRow rays.collected
     rays.linear rays.quadraticRow rays.quadratic rays.farthest rays.falls rays.fallingRows rays.ray
     pass.startRow pass.start pass.rightHandRow pass.rightHandSide pass.matrixRow pass.matrix pass.residualRow
@@ -180,7 +194,7 @@ unfolding
     pass.longest pass.nearer pass.ratioRow pass.ratioTest pass.advance pass.hold pass.pushed pass.worse pass.releaseRow
     pass.worstRow pass.release pass.scattered pass.unmet pass.unbounded pass.stepped pass.takeStep pass.toward pass.stepOf
     pass.step pass.steps pass.closed pass.exactPass
-    sweep.startRow sweep.start sweep.sweepRow sweep.sweep sweep.isGrown sweep.residualRow sweep.residual
+    sweep.startRow sweep.start sweep.sweepRow sweep.sweep sweep.stops sweep.stopped sweep.isGrown sweep.residualRow sweep.residual
     sweep.coordinate sweep.moved sweep.change sweep.classifyRow sweep.classified
     solve.member solve.unless solve.passed solve.checked solve.tested solve.turn solve.run solve.reportOf solve.unfound
     solve.result solve.solve solve.goodScale solve.refusal solve.reply solve.solveReply

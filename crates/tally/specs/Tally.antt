@@ -41,6 +41,7 @@ turned r =
       anchors = 0;
       sweeps = r .sweeps;
       «exact_passes» = r .«exact_passes»;
+      stopped = r .stopped;
       converged = r .converged;
       exact = r .exact;
       residual = r .residual;
@@ -59,9 +60,9 @@ joinedTo t (infeasible c l r) = kept t (report.and t (turned r))
 
 -- ---- the tallied solve
 
--- whether the tally might not hold one solve more: 200 sweeps and 9 passes at most
+-- whether the tally might not hold one solve more: 200 sweeps, 9 passes and 32 rows stopped at most
 unfoldable pub full : SolveReport → Bool
-full t = eqb (t .increments) 4294967295 || ltb 4294967095 (t .sweeps) || ltb 4294967286 (t .«exact_passes»)
+full t = eqb (t .increments) 4294967295 || ltb 4294967095 (t .sweeps) || ltb 4294967286 (t .«exact_passes») || ltb 4294967263 (t .stopped)
 
 -- 5 to 10 first, then 11
 unfoldable pub numberOn : SolveReport → Call → ℕ

@@ -8,8 +8,8 @@ clamp-requires : tie.Need-clamp-requires
 clamp-requires c κs = search needs
 
 returns : tie.Need-returns
-unfolding box.update
-returns c = rw (c .clamp .ensures)
+unfolding box.update box.updateSide
+returns c = (c .clamp .ensures .0, c .clamp .ensures .1)
 
 pub update-spec : {M : Type 1} → statement M
 update-spec = tie.close (tie.spec clamp-requires returns)

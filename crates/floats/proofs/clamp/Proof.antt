@@ -4,16 +4,16 @@ use Rattle.floats.proofs.clamp.Statement.{statement}
 use Rattle.floats.proofs.clamp.Tie as tie
 
 returns : tie.Need-returns
-unfolding helpers.clamp
-returns c = rw (c .if1 .taken)
+unfolding helpers.clamp helpers.side
+returns c = (rw (c .if1 .taken), rw (c .if1 .taken))
 
 returns-2 : tie.Need-returns-2
-unfolding helpers.clamp
-returns-2 c = rw (c .before .if1 .left, c .if2 .taken)
+unfolding helpers.clamp helpers.side
+returns-2 c = (rw (c .before .if1 .left, c .if2 .taken), rw (c .before .if1 .left, c .if2 .taken))
 
 returns-3 : tie.Need-returns-3
-unfolding helpers.clamp
-returns-3 c = rw (c .before .if1 .left, c .if2 .left)
+unfolding helpers.clamp helpers.side
+returns-3 c = (rw (c .before .if1 .left, c .if2 .left), rw (c .before .if1 .left, c .if2 .left))
 
 pub clamp-spec : {M : Type 1} → statement M
 clamp-spec = tie.close (tie.spec returns returns-2 returns-3)

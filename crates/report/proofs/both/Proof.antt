@@ -25,13 +25,16 @@ add-t8 c = omega (arith, c .before .before .before .before .before .before .befo
 add-t9 : tie.Need-add-t9
 add-t9 c = omega (arith, c .before .before .before .before .before .before .before .before .before .before .before .before .before .pre .others .«exact_passes»)
 
+add-t10 : tie.Need-add-t10
+add-t10 c = omega (arith, c .before .before .before .before .before .before .before .before .before .before .before .before .before .before .before .pre .others .stopped)
+
 larger-requires : tie.Need-larger-requires
 larger-requires c κs = search needs
 
 returns : tie.Need-returns
-returns c = rw (c .before .before .before .before .before .before .before .before .before .before .before .before .before .max .ensures, c .larger .ensures)
+returns c = rw (c .before .before .before .before .before .before .before .before .before .before .before .before .before .before .before .max .ensures, c .larger .ensures)
 
 pub both-spec : {M : Type 1} → statement M
 both-spec =
     tie.close
-    (tie.spec add-t3 add-t4 max-requires add-t6 add-t7 add-t8 add-t9 larger-requires returns)
+    (tie.spec add-t3 add-t4 max-requires add-t6 add-t7 add-t8 add-t9 add-t10 larger-requires returns)

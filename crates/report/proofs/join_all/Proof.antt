@@ -179,7 +179,7 @@ module _ {M : Type 1} (𝓤 : URA M) (H : Heap 𝓤) (A : Atoms 𝓤) (W : Given
 
   -- what lies past the end
   abbrev none : SolveReport
-  none = record { increments = 0; iterations = 0; «most_iterations» = 0; rejected = 0; anchors = 0; sweeps = 0; «exact_passes» = 0; converged = true; exact = true; residual = nan }
+  none = record { increments = 0; iterations = 0; «most_iterations» = 0; rejected = 0; anchors = 0; sweeps = 0; «exact_passes» = 0; stopped = 0; converged = true; exact = true; residual = nan }
 
   typedT : (r : SolveReport) → IsT r → Holds (hasTy T′.mir (T′.lowered r)) × WT (T′.lowered r)
   typedT r is = LL.lawful T.the-type T′.the-laws 𝓤 H A W .typed r _ is .0
@@ -237,7 +237,7 @@ module _ {M : Type 1} (𝓤 : URA M) (H : Heap 𝓤) (A : Atoms 𝓤) (W : Given
         rewrite ! 3 (λ (z : Bool). ‵ (fat fullShare tyBool l₅ 0 (vbool z))) (lt-ltb (t .i) n small) refl $ stays ! (load ! (from ! (stop !)) (look ! 3 refl)) $
         assigns ! (bin ! (load ! (from ! (stop !)) (look ! 1 refl)) (lit ! tt) (record { fits = bytes-fit })) (from ! (stop !)) (store ! 2 refl (tt, record { fits = bytes-fit })) $
         assigns ! (bin ! (load ! (from ! (fld ! refl (stop !))) (look-in ! 8 (sub ! 0 refl (whole !)))) (load ! (from ! (stop !)) (look ! 2 refl)) tt) (from ! (stop !)) (init ! 4 refl (tt, tt)) $
-        rewrite ! 4 (λ (p : ℕ). ‵ (fat fullShare tyPtr l₆ 0 (vptr b p))) (sym (place-is 40 o (t .i))) refl $
+        rewrite ! 4 (λ (p : ℕ). ‵ (fat fullShare tyPtr l₆ 0 (vptr b p))) (sym (place-is 48 o (t .i))) refl $
         -- the slice is looked into, and element i is copied
         move ! (6 ∷ 7 ∷ []) $ looks-slice ! tt T.the-row (Is T.the-row) (shows 𝓤 H A T.the-row) (LL.vals T.the-type T′.the-laws) (LL.tells T.the-type T′.the-laws) (LL.copy T.the-type T′.the-copy 𝓤 H A W) ys b o (λ q′.
         elem-out ! T.the-row (Is T.the-row) (shows 𝓤 H A T.the-row) (LL.vals T.the-type T′.the-laws) (LL.tells T.the-type T′.the-laws) q′ ys (t .i) none b o small (λ g.
@@ -258,7 +258,7 @@ module _ {M : Type 1} (𝓤 : URA M) (H : Heap 𝓤) (A : Atoms 𝓤) (W : Given
         elem : SolveReport
         elem = getD ys (t .i) none
 
-        bytes-fit : t .i * 40 < 2 ^ 64
+        bytes-fit : t .i * 48 < 2 ^ 64
         bytes-fit = omega (arith, small, room .1)
 
         less : n - (t .i + 1) < n - t .i

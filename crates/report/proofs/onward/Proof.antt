@@ -1,4 +1,5 @@
 -- `report::onward` meets its contract. Assumes nothing.
+use native.Mathlib.Omega.{arith}
 use borrow.Author.Needs.{needs}
 use Rattle.report.proofs.onward.Statement.{statement}
 use Rattle.report.proofs.onward.Tie as tie
@@ -21,8 +22,11 @@ add-t7 c = search needs
 add-t8 : tie.Need-add-t8
 add-t8 c = search needs
 
+add-t9 : tie.Need-add-t9
+add-t9 c = omega (arith, c .before .before .before .before .before .before .before .before .before .before .before .before .before .pre .stopped)
+
 returns : tie.Need-returns
-returns c = rw (c .before .before .before .before .before .before .before .before .before .before .max .ensures)
+returns c = rw (c .before .before .before .before .before .before .before .before .before .before .before .before .max .ensures)
 
 pub onward-spec : {M : Type 1} → statement M
-onward-spec = tie.close (tie.spec add-iterations max-requires add-t5 add-t6 add-t7 add-t8 returns)
+onward-spec = tie.close (tie.spec add-iterations max-requires add-t5 add-t6 add-t7 add-t8 add-t9 returns)

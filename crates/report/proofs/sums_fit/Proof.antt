@@ -19,9 +19,20 @@ sum-fits-requires-4 c κs = search needs
 sum-fits-requires-5 : tie.Need-sum-fits-requires-5
 sum-fits-requires-5 c κs = search needs
 
+sum-fits-requires-6 : tie.Need-sum-fits-requires-6
+sum-fits-requires-6 c κs = search needs
+
 returns : tie.Need-returns
 unfolding def.sumsFit
-returns c = rw (c .before .before .before .before .sum-fits .ensures, c .before .before .before .sum-fits2 .ensures, c .before .before .sum-fits3 .ensures, c .before .sum-fits4 .ensures, c .sum-fits5 .ensures)
+returns c =
+    rw (
+      c .before .before .before .before .before .sum-fits .ensures,
+      c .before .before .before .before .sum-fits2 .ensures,
+      c .before .before .before .sum-fits3 .ensures,
+      c .before .before .sum-fits4 .ensures,
+      c .before .sum-fits5 .ensures,
+      c .sum-fits6 .ensures,
+    )
 
 pub sums-fit-spec : {M : Type 1} → statement M
 sums-fit-spec =
@@ -32,4 +43,5 @@ sums-fit-spec =
     sum-fits-requires-3
     sum-fits-requires-4
     sum-fits-requires-5
+    sum-fits-requires-6
     returns)

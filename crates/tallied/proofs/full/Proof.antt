@@ -14,7 +14,12 @@ returns-2 c = rw (ne-eqb _ _ (c .before .before .if1 .left), lt-ltb _ _ (c .if2 
 
 returns-3 : tie.Need-returns-3
 unfolding def.full
-returns-3 c = rw (ne-eqb _ _ (c .before .before .before .if1 .left), le-ltb _ _ (c .before .if2 .left))
+returns-3 c = rw (ne-eqb _ _ (c .before .before .before .before .if1 .left), le-ltb _ _ (c .before .before .if2 .left), lt-ltb _ _ (c .if3 .taken))
+
+returns-4 : tie.Need-returns-4
+unfolding def.full
+returns-4 c =
+    rw (ne-eqb _ _ (c .before .before .before .before .before .if1 .left), le-ltb _ _ (c .before .before .before .if2 .left), le-ltb _ _ (c .before .if3 .left))
 
 pub full-spec : {M : Type 1} → statement M
 full-spec =
@@ -22,4 +27,5 @@ full-spec =
     (tie.spec
     returns
     returns-2
-    returns-3)
+    returns-3
+    returns-4)

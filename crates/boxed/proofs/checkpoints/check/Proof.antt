@@ -1,7 +1,5 @@
-use Rattle.boxed.proofs.Checks.{check-tried, check-not}
-use mathlib.Core.Path.{refl, ap}
-use native.Mathlib.Numerals.{add-one}
-use Rattle.boxed.specs.Solve as def
+use Rattle.boxed.proofs.Checks.{one-tried, check-tried, check-not}
+use mathlib.Core.Path.{refl}
 use native.Mathlib.Omega.{arith}
 use borrow.Author.Needs.{needs}
 use Rattle.boxed.proofs.checkpoints.check.Statement.{statement}
@@ -34,7 +32,7 @@ returns c =
     let at-if1 = at-attempt .before .before .before .before .before in
     let at-checkpoint = at-if1 .before in
     let at-args = at-checkpoint .before .before .before .before .before .before .before .before .before .before in (
-      check-tried _ _ _ _ _ _ _ (at-checkpoint .checkpoint .ensures) _ _ _ _ _ (at-if1 .if1 .taken) (ap (def.counts (at-args .args .counts .sweeps)) (add-one (at-args .args .counts .passes))) (at-attempt .attempt .ensures .0),
+      check-tried _ _ _ _ _ _ _ (at-checkpoint .checkpoint .ensures) _ _ _ _ _ (at-if1 .if1 .taken) (one-tried (at-args .args .counts)) (at-attempt .attempt .ensures .0),
       refl,
       omega arith,
       at-attempt .attempt .ensures .1,

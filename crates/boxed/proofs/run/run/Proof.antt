@@ -13,7 +13,7 @@ use Rattle.boxed.proofs.run.run.Tie as tie
 abbrev Inv-loop : tie.InvT-loop
 Inv-loop limits w u-free lo hi scale motion states₀ nu₀ rows₀ work₀ counts₀ states nu rows work counts =
     (counts .sweeps ≤ limits .cap) × (counts .passes ≤ counts .sweeps) × Kept states₀ states nu₀ nu rows₀ rows work₀ work
-    × (def.run (limits .cap) (box.problem w u-free lo hi scale) (def.watch motion (limits .tolerance)) (def.iterate nu₀ states₀ (def.counts 0 0)) (counts .sweeps)
+    × (def.run (limits .cap) (box.problem w u-free lo hi scale) (def.watch motion (limits .tolerance)) (def.iterate nu₀ states₀ (def.counts 0 0 0)) (counts .sweeps)
     ≡ def.going (def.iterate nu states counts))
     × (rows ≡ rows₀) × (private.beyond work ≡ private.beyond work₀)
 

@@ -45,7 +45,7 @@ returns c =
     let at-args = at-sweep .before .before .before .before .before .before .before .before .before .before .before .before .before .before in
     let at-pre = at-args in (
       turn-grown _ _ _ _ _ (at-args .args .counts) _ _ (at-sweep .sweep .last .1 .1 .1 .1 .1 .0) _ _ _
-          (at-sweep .sweep .ensures .0) (one-more (at-args .args .counts)) (at-sweep .sweep .kept .1 .1 .1 .1 .1 .0 ∙ at-pre .pre .2) (at-grown .grown .ensures) (at-if1 .if1 .taken),
+          (at-sweep .sweep .ensures .0) (one-more (at-args .args .counts) _ _ (at-sweep .sweep .ensures .2)) (at-sweep .sweep .kept .1 .1 .1 .1 .1 .0 ∙ at-pre .pre .2) (at-grown .grown .ensures) (at-if1 .if1 .taken),
       refl,
       omega arith,
       refl,
@@ -84,7 +84,7 @@ returns-2 c =
     let at-args = at-sweep .before .before .before .before .before .before .before .before .before .before .before .before .before .before in
     let at-pre = at-args in (
       turn-ended _ _ _ _ _ (at-args .args .counts) _ _ (at-sweep .sweep .last .1 .1 .1 .1 .1 .0) _ _ _
-          (at-sweep .sweep .ensures .0) (one-more (at-args .args .counts)) (at-sweep .sweep .kept .1 .1 .1 .1 .1 .0 ∙ at-pre .pre .2) (at-grown .grown .ensures) (at-if1 .if1 .left)
+          (at-sweep .sweep .ensures .0) (one-more (at-args .args .counts) _ _ (at-sweep .sweep .ensures .2)) (at-sweep .sweep .kept .1 .1 .1 .1 .1 .0 ∙ at-pre .pre .2) (at-grown .grown .ensures) (at-if1 .if1 .left)
           _ _ _ _ _ (at-check .check .ensures .0) (sym (at-going .going .ensures) ∙ not-true _ (at-if2 .if2 .taken)),
       at-check .check .ensures .1,
       at-check .check .ensures .2,
@@ -144,7 +144,7 @@ returns-3 c =
     let at-args = at-sweep .before .before .before .before .before .before .before .before .before .before .before .before .before .before in
     let at-pre = at-args in (
       turn-tested _ _ _ _ _ (at-args .args .counts) _ _ (at-sweep .sweep .last .1 .1 .1 .1 .1 .0) _ _ _
-          (at-sweep .sweep .ensures .0) (one-more (at-args .args .counts)) (at-sweep .sweep .kept .1 .1 .1 .1 .1 .0 ∙ at-pre .pre .2) (at-grown .grown .ensures) (at-if1 .if1 .left)
+          (at-sweep .sweep .ensures .0) (one-more (at-args .args .counts) _ _ (at-sweep .sweep .ensures .2)) (at-sweep .sweep .kept .1 .1 .1 .1 .1 .0 ∙ at-pre .pre .2) (at-grown .grown .ensures) (at-if1 .if1 .left)
           (at-check .check .result .sweeping) _ _ _ _ (at-check .check .ensures .0) (sym (at-going .going .ensures) ∙ not-false _ (at-if2 .if2 .left))
           (at-sweep .sweep .last .1 .1 .1 .1 .1 .1 .0) _ _ _ (at-sweep .sweep .ensures .1) (at-pre .pre .2) (at-tests .tests .ensures),
       at-check .check .ensures .1,

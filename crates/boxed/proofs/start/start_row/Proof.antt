@@ -30,11 +30,11 @@ returns : tie.Need-returns
 unfolding def.startRow
 returns c =
     let at-put = c .before .before in
-    let at-clamp = at-put .before in
-    let at-put-state = at-clamp .before .before .before .before in
+    let at-clamp = at-put .before .before in
+    let at-put-state = at-clamp .before .before .before in
     let at-if1 = at-put-state .before .before in
     let at-is-idle = at-if1 .before in
-    (rw (sym (at-is-idle .is-idle .ensures) ∙ at-if1 .if1 .taken, add-one, at-put .put .ensures, at-put-state .put-state .ensures, at-clamp .clamp .ensures), search needs)
+    (rw (sym (at-is-idle .is-idle .ensures) ∙ at-if1 .if1 .taken, add-one, at-put .put .ensures, at-put-state .put-state .ensures, at-clamp .clamp .ensures .0), search needs)
 
 put-state-requires-2 : tie.Need-put-state-requires-2
 put-state-requires-2 c κs = search needs
@@ -58,12 +58,12 @@ returns-2 : tie.Need-returns-2
 unfolding def.startRow
 returns-2 c =
     let at-put2 = c .before .before in
-    let at-clamp2 = at-put2 .before in
+    let at-clamp2 = at-put2 .before .before in
     let at-at = at-clamp2 .before in
-    let at-put-state2 = at-at .before .before .before .before .before in
+    let at-put-state2 = at-at .before .before .before .before in
     let at-if1 = at-put-state2 .before .before in
     let at-is-idle = at-if1 .before in
-    (rw (sym (at-is-idle .is-idle .ensures) ∙ at-if1 .if1 .left, at-put2 .put2 .ensures, at-put-state2 .put-state2 .ensures, at-clamp2 .clamp2 .ensures, at-at .at .ensures), search needs)
+    (rw (sym (at-is-idle .is-idle .ensures) ∙ at-if1 .if1 .left, at-put2 .put2 .ensures, at-put-state2 .put-state2 .ensures, at-clamp2 .clamp2 .ensures .0, at-at .at .ensures), search needs)
 
 pub start-row-spec : {M : Type 1} → statement M
 start-row-spec =

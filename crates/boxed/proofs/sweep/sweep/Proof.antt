@@ -7,6 +7,7 @@ use lib.Ieee.{nan}
 use Rattle.loops.specs.Loops.{pasted}
 use Rattle.loops.proofs.Paste.{front-start, front-again, front-done, front-whole}
 use Rattle.boxed.proofs.Later.{sweep-later}
+use Rattle.boxed.proofs.Stopping.{stopped-start, stopped-again, stopped-done}
 use borrow.Author.Needs.{needs}
 use native.Mathlib.Omega.{arith}
 use Rattle.boxed.proofs.sweep.sweep.Statement.{statement}
@@ -18,18 +19,18 @@ use Rattle.boxed.proofs.read.put.Reads as put-reads
 use Rattle.boxed.proofs.sweep.sweep_row.Reads as sweep-row-reads
 
 abbrev Inv-loop : tie.InvT-loop
-Inv-loop w u-free lo hi states nu₀ before₀ n i₀ nu before i =
+Inv-loop w u-free lo hi states nu₀ before₀ n k₀ i₀ nu before k i =
     (i ≤ n) × (n ≡ length u-free) × (length nu ≡ length nu₀) × (nu ≡ def.sweep w u-free lo hi states nu₀ i)
-    × (length before ≡ length before₀) × (before ≡ pasted (take i nu₀) before₀)
+    × (length before ≡ length before₀) × (before ≡ pasted (take i nu₀) before₀) × (k ≤ i) × (k ≡ def.stopped w u-free lo hi states nu₀ i)
 
 abbrev μ-loop : tie.MeasureT-loop
-μ-loop w u-free lo hi states nu₀ before₀ n i₀ nu before i = n - i
+μ-loop w u-free lo hi states nu₀ before₀ n k₀ i₀ nu before k i = n - i
 
 loop-holds : tie.Need-loop-holds Inv-loop μ-loop
 unfolding def.sweep
 loop-holds c =
     let at-args = c .before .before .before .before .before .before .before in
-    (search needs, search needs, search needs, turns-from _ _, search needs, front-start (at-args .args .nu .now) (at-args .args .before .now))
+    (search needs, search needs, search needs, turns-from _ _, search needs, front-start (at-args .args .nu .now) (at-args .args .before .now), search needs, stopped-start _ _ _ _ _ _)
 
 -- src/sweep.rt:60:30
 at-requires : tie.Need-at-requires Inv-loop μ-loop
@@ -59,10 +60,12 @@ loop-again c =
       search needs,
       search needs,
       search needs,
-      turns-again _ _ _ _ _ (at-loop .loop .inv .3) (at-sweep-row .sweep-row .ensures),
+      turns-again _ _ _ _ _ (at-loop .loop .inv .3) (at-sweep-row .sweep-row .ensures .0),
       search needs,
       front-again (at-args .args .nu .now) (at-args .args .before .now) (at-loop .loop .i) nan (at-loop .loop .before) _ (at-loop .loop .inv .5) (omega arith)
           (rw (at-put .put .ensures, at-at .at .ensures, at-loop .loop .inv .3, sweep-later _ _ _ _ _ (at-args .args .nu .now) (at-loop .loop .i) (at-loop .loop .i) (omega arith))),
+      at-sweep-row .sweep-row .ensures .2,
+      stopped-again _ _ _ _ _ _ _ _ _ _ (at-loop .loop .inv .7) (at-loop .loop .inv .3) (at-sweep-row .sweep-row .ensures .1),
     )
 
 same-length : tie.Need-same-length Inv-loop μ-loop
@@ -80,6 +83,7 @@ returns c =
       turns-done _ _ _ _ _ (omega arith) (omega arith) (at-loop .loop .inv .3),
       front-done (at-args .args .nu .now) (at-args .args .before .now) (at-loop .loop .i) (at-loop .loop .before) (at-loop .loop .inv .5) (omega arith)
           ∙ front-whole (at-args .args .nu .now) (at-args .args .before .now) (omega arith),
+      stopped-done _ _ _ _ _ _ _ _ _ (omega arith) (omega arith) (at-loop .loop .inv .7),
     )
 
 pub sweep-spec : {M : Type 1} → statement M

@@ -3,9 +3,11 @@ use native.Mathlib.Omega.{arith}
 use lib.ListN.{length}
 use borrow.Author.Tests.{eq-eqb, ne-eqb}
 use borrow.Author.Needs.{needs}
+use Rattle.loops.specs.Loops.{counted}
 use Rattle.boxed.specs.Sweep as def
 use Rattle.box_rows.specs.Rows as box
 use Rattle.box_rows.proofs.Matrix.{row-fits, row-length}
+use Rattle.boxed.proofs.Stopping.{counted-within}
 use Rattle.boxed.proofs.sweep.sweep_row.Statement.{statement}
 use Rattle.boxed.proofs.sweep.sweep_row.Tie as tie
 
@@ -13,10 +15,11 @@ state-requires : tie.Need-state-requires
 state-requires c κs = search needs
 
 returns : tie.Need-returns
-unfolding def.sweepRow
+unfolding def.sweepRow def.stops counted
 returns c =
     let at-state = c .before in
-    rw (eq-eqb _ _ (sym (at-state .state .ensures) ∙ c .if1 .taken))
+    let idle = eq-eqb _ _ (sym (at-state .state .ensures) ∙ c .if1 .taken) in
+    (rw idle, rw idle, search needs)
 
 row-requires : tie.Need-row-requires
 row-requires c κs =
@@ -50,13 +53,19 @@ update-requires c κs = search needs
 put-requires : tie.Need-put-requires
 put-requires c κs = search needs
 
+count-requires : tie.Need-count-requires
+count-requires c κs =
+    let at-pre = c .before .before .before .before .before .before .before .before .before .before .before .before .before .before .before .before .before .before .before .before .before .before in
+    omega (arith, at-pre .pre .0 .0, at-pre .pre .5, at-pre .pre .6)
+
 same-length : tie.Need-same-length
 same-length c = search needs
 
 returns-2 : tie.Need-returns-2
-unfolding def.sweepRow
+unfolding def.sweepRow def.stops
 returns-2 c =
-    let at-put = c .before .before in
+    let at-count = c in
+    let at-put = at-count .before .before .before in
     let at-update = at-put .before .before in
     let at-at5 = at-update .before in
     let at-at4 = at-at5 .before in
@@ -68,7 +77,11 @@ returns-2 c =
     let at-if1 = at-row .before in
     let at-state = at-if1 .before in
     let at-args = at-state .before .before .before .before .before .before .before in
-    rw (ne-eqb _ _ (λ (e : box.state (at-args .args .states .now) (at-args .args .i) ≡ 3). at-if1 .if1 .left (at-state .state .ensures ∙ e)), at-put .put .ensures, at-update .update .ensures, at-row-sum .row-sum .ensures, at-at .at .ensures, at-at2 .at2 .ensures, at-at3 .at3 .ensures, at-at4 .at4 .ensures, at-at5 .at5 .ensures, at-row .row .ensures)
+    let acts = ne-eqb _ _ (λ (e : box.state (at-args .args .states .now) (at-args .args .i) ≡ 3). at-if1 .if1 .left (at-state .state .ensures ∙ e)) in (
+      rw (acts, at-put .put .ensures, at-update .update .ensures .0, at-row-sum .row-sum .ensures, at-at .at .ensures, at-at2 .at2 .ensures, at-at3 .at3 .ensures, at-at4 .at4 .ensures, at-at5 .at5 .ensures, at-row .row .ensures),
+      rw (acts, at-count .count .ensures, at-update .update .ensures .1, at-row-sum .row-sum .ensures, at-at .at .ensures, at-at2 .at2 .ensures, at-at3 .at3 .ensures, at-at4 .at4 .ensures, at-at5 .at5 .ensures, at-row .row .ensures),
+      counted-within _ _ _ _ (at-count .count .ensures) (at-args .pre .6),
+    )
 
 pub sweep-row-spec : {M : Type 1} → statement M
 sweep-row-spec =
@@ -85,5 +98,6 @@ sweep-row-spec =
     at-requires-5
     update-requires
     put-requires
+    count-requires
     same-length
     returns-2)

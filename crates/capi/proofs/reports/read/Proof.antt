@@ -38,9 +38,12 @@ shared-slice-read-flagged-2 c = search needs
 flagged-requires-2 : tie.Need-flagged-requires-2
 flagged-requires-2 c κs = search needs
 
+shared-slice-read-t24 : tie.Need-shared-slice-read-t24
+shared-slice-read-t24 c = search needs
+
 returns : tie.Need-returns
 unfolding def.read
-returns c = rw (c .before .before .flagged .ensures, c .flagged2 .ensures)
+returns c = rw (c .before .before .before .flagged .ensures, c .before .flagged2 .ensures)
 
 pub read-spec : {M : Type 1} → statement M
 read-spec =
@@ -57,4 +60,5 @@ read-spec =
     flagged-requires
     shared-slice-read-flagged-2
     flagged-requires-2
+    shared-slice-read-t24
     returns)

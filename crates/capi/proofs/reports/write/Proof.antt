@@ -40,6 +40,9 @@ flag-requires-2 c κs = search needs
 slice-write-counts-9 : tie.Need-slice-write-counts-9
 slice-write-counts-9 c = simp length-set (omega arith)
 
+slice-write-counts-10 : tie.Need-slice-write-counts-10
+slice-write-counts-10 c = simp length-set (omega arith)
+
 same-length : tie.Need-same-length
 same-length c = search needs
 
@@ -62,5 +65,6 @@ write-spec =
     slice-write-counts-8
     flag-requires-2
     slice-write-counts-9
+    slice-write-counts-10
     same-length
     returns)

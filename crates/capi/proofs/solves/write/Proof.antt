@@ -49,12 +49,18 @@ slice-write-counts-6 c = simp length-set (omega arith)
 slice-write-counts-7 : tie.Need-slice-write-counts-7
 slice-write-counts-7 c = simp length-set (omega arith)
 
+cast-counts-6 : tie.Need-cast-counts-6
+cast-counts-6 c = search needs
+
+slice-write-counts-8 : tie.Need-slice-write-counts-8
+slice-write-counts-8 c = simp length-set (omega arith)
+
 same-length : tie.Need-same-length
 same-length c = search needs
 
 returns : tie.Need-returns
 unfolding def.written
-returns c = rw (c .before .before .flag .ensures, c .before .flag2 .ensures)
+returns c = rw (c .before .before .before .flag .ensures, c .before .before .flag2 .ensures)
 
 pub write-spec : {M : Type 1} → statement M
 write-spec =
@@ -74,5 +80,7 @@ write-spec =
     cast-counts-5
     slice-write-counts-6
     slice-write-counts-7
+    cast-counts-6
+    slice-write-counts-8
     same-length
     returns)

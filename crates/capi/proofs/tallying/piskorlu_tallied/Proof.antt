@@ -1,6 +1,6 @@
 -- `capi::tallying::piskorlu_tallied` meets its contract. Assumes nothing.
 use mathlib.Core.Path.{refl, sym, _∙_}
-use Rattle.capi.proofs.Entering.{nine, one, room, no-room, answered}
+use Rattle.capi.proofs.Entering.{ten, one, room, no-room, answered}
 use native.Mathlib.Omega.{arith}
 use borrow.Author.Needs.{needs}
 use Rattle.capi.proofs.tallying.piskorlu_tallied.Statement.{statement}
@@ -13,7 +13,7 @@ slice-read-read : tie.Need-slice-read-read
 slice-read-read c = omega (arith, one _ _ _ _ (sym (c .before .before .before .taken .ensures) ∙ c .before .before .if1 .taken))
 
 read-requires : tie.Need-read-requires
-read-requires c κs = nine _ _ _ _ (sym (c .before .before .before .taken .ensures) ∙ c .before .before .if1 .taken)
+read-requires c κs = ten _ _ _ _ (sym (c .before .before .before .taken .ensures) ∙ c .before .before .if1 .taken)
 
 tallied-solve-requires : tie.Need-tallied-solve-requires
 tallied-solve-requires c κs = search needs
@@ -25,7 +25,7 @@ keep-requires : tie.Need-keep-requires
 keep-requires c κs =
     let at-if1 = c .before .before .before .before .before .before .before .before .before .before .before .before .before .before .before .before .before .before .before .before .before .before .before .before .before in
     let taken = sym (at-if1 .before .taken .ensures) ∙ at-if1 .if1 .taken in
-    (nine _ _ _ _ taken, one _ _ _ _ taken)
+    (ten _ _ _ _ taken, one _ _ _ _ taken)
 
 same-length : tie.Need-same-length
 same-length c = search needs
