@@ -357,7 +357,7 @@ mod solved {
     pub fn problems(call: Solve, batch: &[Owned], rounds: usize) -> (f64, f64) {
         let mut workspace = vec![0.0; 2_304];
         let (mut states, mut rows) = ([0; 32], [0; 32]);
-        let (mut counts, mut residual) = ([0; 7], [0.0]);
+        let (mut counts, mut residual) = ([0; 8], [0.0]);
         let mut solver = BoxSolver::new();
         let (mut port, mut original) = (Vec::new(), Vec::new());
         for _ in 0..rounds {

@@ -22,6 +22,8 @@ mod port;
 mod reference;
 mod run;
 #[cfg(test)]
+mod stop_tests;
+#[cfg(test)]
 mod tests;
 mod vectors;
 

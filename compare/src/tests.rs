@@ -21,6 +21,7 @@ fn answer(problem: Owned) -> Answer {
         states_len: n,
         rows_len: n,
         fill: 0.5,
+        example: None,
     };
     Solve::reference(&case, Rule::None)
 }

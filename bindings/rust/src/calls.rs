@@ -26,7 +26,7 @@ pub struct Lent<'a> {
     pub residual: &'a mut [f64],
 }
 
-/// A report's ten counts, the flags converged and exact last among them, and
+/// A report's ten counts, at the places that the header names, and
 /// its residual.
 pub type Report<'a> = (&'a [u32], f64);
 

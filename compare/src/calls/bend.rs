@@ -174,5 +174,6 @@ fn solve_case(file: &[u8]) -> Option<crate::cases::solve::Case> {
         states_len,
         rows_len,
         fill: 0.0,
+        example: None,
     })
 }

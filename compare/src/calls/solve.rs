@@ -5,7 +5,7 @@ use super::guard::{Guard, Guarded};
 use super::{all_same, same, show_values, Call, Zeros};
 use crate::cases::random::Rng;
 use crate::cases::solve::{self as cases, Case};
-use crate::coverage::{Class, Coverage, NUMBERS, ROWS};
+use crate::coverage::{Class, Coverage, EXAMPLES, NUMBERS, ROWS};
 use crate::port;
 use crate::reference::problem::{Lent, WORKSPACE};
 use crate::reference::rule::{Place, Rule};
@@ -336,6 +336,14 @@ fn sweep_class(sweeps: u32) -> &'static str {
 const SWEEPS: &[&str] = &[
     "0", "1", "2", "3-4", "5-8", "9-16", "17-32", "33-64", "65-128", "129-199", "200",
 ];
+const OUTCOMES: &[&str] = &[
+    "solved exact",
+    "solved by sweeps",
+    "solved at the cap",
+    "infeasible growth",
+    "infeasible pass",
+    "infeasible sweep",
+];
 const SWEPT: &[&str] = SWEEPS.split_at(1).1;
 const STATES: [&str; 4] = ["Inside", "AtLo", "AtHi", "Idle"];
 
@@ -357,6 +365,13 @@ pub fn cover(case: &Case, answer: &Answer, coverage: &mut Coverage) {
         Outcome::Infeasible(Cause::Sweep, _) => ("infeasible sweep", "sweeps of ray"),
     };
     coverage.count("outcome", name);
+    coverage.number("rows stopped", report.stopped as usize);
+    if report.stopped > 0 {
+        coverage.count("outcome with rows stopped", name);
+    }
+    if let Some(example) = case.example {
+        coverage.count("example of stops", EXAMPLES[example - 1]);
+    }
     coverage.count(by_sweeps, sweep_class(report.sweeps));
     for &state in &answer.states[..n] {
         let group = if matches!(outcome, Outcome::Solved) {
@@ -387,14 +402,19 @@ impl Call for Solve {
         },
         Class {
             group: "outcome",
-            names: &[
-                "solved exact",
-                "solved by sweeps",
-                "solved at the cap",
-                "infeasible growth",
-                "infeasible pass",
-                "infeasible sweep",
-            ],
+            names: OUTCOMES,
+        },
+        Class {
+            group: "outcome with rows stopped",
+            names: OUTCOMES,
+        },
+        Class {
+            group: "rows stopped",
+            names: ROWS,
+        },
+        Class {
+            group: "example of stops",
+            names: EXAMPLES.split_at(23).0,
         },
         Class {
             group: "sweeps",

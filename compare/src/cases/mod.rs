@@ -20,5 +20,7 @@ pub mod rays;
 pub mod reports;
 pub mod roots;
 pub mod solve;
+pub mod stop_examples;
+pub mod stops;
 pub mod sums;
 pub mod sweeps;

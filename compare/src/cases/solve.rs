@@ -1,10 +1,12 @@
 //! Solves: the families that range widely. Those aimed at one rule each are in
-//! `aimed`, those about lengths in `lengths`.
+//! `aimed`, those about lengths in `lengths`, and those about rows stopped in
+//! `stops`.
 
 use super::aimed;
 use super::lengths;
 use super::problem::{boxes, gram, rows, tolerance, warm, Owned};
 use super::random::Rng;
+use super::stops;
 
 /// One solve: the problem and the lengths of what is lent with it.
 #[derive(Clone, Debug)]
@@ -15,6 +17,8 @@ pub struct Case {
     pub rows_len: usize,
     /// What the workspace holds.
     pub fill: f64,
+    /// The worked example of `stops` that it is.
+    pub example: Option<usize>,
 }
 
 impl Case {
@@ -27,6 +31,7 @@ impl Case {
             states_len: n + rng.pick(&[0, 0, 1, 4]),
             rows_len: n + rng.pick(&[0, 0, 1, 4]),
             fill: rng.pick(&[0.0, f64::NAN, f64::NEG_INFINITY, 2.5, -1e300]),
+            example: None,
         }
     }
 }
@@ -56,13 +61,16 @@ pub fn families() -> Vec<&'static str> {
         .iter()
         .chain(aimed::PROBLEMS)
         .map(|&(name, _)| name);
-    problems.chain(std::iter::once(lengths::SOLVE)).collect()
+    problems.chain([lengths::SOLVE, stops::SOLVE]).collect()
 }
 
 /// The case of a family.
 pub fn case(family: &str, rng: &mut Rng) -> Option<Case> {
     if family == lengths::SOLVE {
         return Some(lengths::solve(rng));
+    }
+    if family == stops::SOLVE {
+        return Some(stops::solve(rng));
     }
     let (_, make) = PROBLEMS
         .iter()

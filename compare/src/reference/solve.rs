@@ -12,7 +12,7 @@ use super::state::{state_of, State};
 pub const SWEEP_CAP: u32 = 200;
 
 /// What a solve reports.
-#[derive(Clone, Copy, Debug, Default)]
+#[derive(Clone, Copy, PartialEq, Debug, Default)]
 pub struct BoxReport {
     pub sweeps: u32,
     pub exact_passes: u32,
