@@ -130,24 +130,34 @@ static void refusals(void)
 
     one_row(&p, 1.0, -1.0);
     check(piskorlu_solve(p.w, 1, p.u_free, 33, p.lo, 1, p.hi, 1, p.scale, 1, NULL, 0, 0.0, p.nu, 1, p.states, 1, p.rows, 1,
-                         p.workspace, 2304, p.counts, 7, p.residual, 1) == PISKORLU_REFUSED_TOO_LARGE, "5");
+                         p.workspace, 2304, p.counts, PISKORLU_SOLVE_COUNTS, p.residual, 1) == PISKORLU_REFUSED_TOO_LARGE, "5");
     check(piskorlu_solve(p.w, 2, p.u_free, 1, p.lo, 1, p.hi, 1, p.scale, 1, NULL, 0, 0.0, p.nu, 1, p.states, 1, p.rows, 1,
-                         p.workspace, 2304, p.counts, 7, p.residual, 1) == PISKORLU_REFUSED_NOT_SQUARE, "6");
+                         p.workspace, 2304, p.counts, PISKORLU_SOLVE_COUNTS, p.residual, 1) == PISKORLU_REFUSED_NOT_SQUARE, "6");
     check(piskorlu_solve(p.w, 1, p.u_free, 1, p.lo, 0, p.hi, 1, p.scale, 1, NULL, 0, 0.0, p.nu, 1, p.states, 1, p.rows, 1,
-                         p.workspace, 2304, p.counts, 7, p.residual, 1) == PISKORLU_REFUSED_UNEQUAL, "7");
+                         p.workspace, 2304, p.counts, PISKORLU_SOLVE_COUNTS, p.residual, 1) == PISKORLU_REFUSED_UNEQUAL, "7");
     p.scale[0] = 0.0;
     check(solve(&p) == PISKORLU_REFUSED_SCALE, "8");
     two_rows(&p, 1.0, 0.0, 0.0, 1.0, -1.0, -1.0);
     check(piskorlu_solve(p.w, 4, p.u_free, 2, p.lo, 2, p.hi, 2, p.scale, 2, p.motion, 1, 0.0, p.nu, 2, p.states, 2, p.rows, 2,
-                         p.workspace, 2304, p.counts, 7, p.residual, 1) == PISKORLU_REFUSED_MOTION, "9");
+                         p.workspace, 2304, p.counts, PISKORLU_SOLVE_COUNTS, p.residual, 1) == PISKORLU_REFUSED_MOTION, "9");
     check(piskorlu_solve(p.w, 4, p.u_free, 2, p.lo, 2, p.hi, 2, p.scale, 2, NULL, 0, 0.0, p.nu, 2, p.states, 2, p.rows, 2,
-                         p.workspace, PISKORLU_SOLVE_WORKSPACE - 1, p.counts, 7, p.residual, 1) == PISKORLU_REFUSED_SHORT, "10");
+                         p.workspace, PISKORLU_SOLVE_WORKSPACE - 1, p.counts, PISKORLU_SOLVE_COUNTS, p.residual, 1) == PISKORLU_REFUSED_SHORT, "10");
     check(piskorlu_solve(p.w, 4, p.u_free, 2, p.lo, 2, p.hi, 2, p.scale, 2, NULL, 0, 0.0, p.nu, 2, p.states, 2, p.rows, 2,
                          p.workspace, 2304, p.counts, PISKORLU_SOLVE_COUNTS - 1, p.residual, 1) == PISKORLU_REFUSED_SHORT, "10, counts");
     tally[PISKORLU_REPORT_INCREMENTS] = 4294967295u;
     check(tallied(&p, tally, residual) == PISKORLU_REFUSED_TALLY, "11");
     check(piskorlu_least_norm(v, 1, 1, 2, v, 1, v, 1, space, 1056, rank, 1) == PISKORLU_REFUSED_LEAST_NORM, "12");
-    check(piskorlu_and(tally, 9, 0.0, tally, 9, 0.0, counts, 9, residual, 1) == PISKORLU_REFUSED_JOIN, "13");
+    check(piskorlu_and(tally, PISKORLU_REPORT_COUNTS, 0.0, tally, PISKORLU_REPORT_COUNTS, 0.0, counts, PISKORLU_REPORT_COUNTS, residual, 1)
+              == PISKORLU_REFUSED_JOIN, "13");
+    tally[PISKORLU_REPORT_INCREMENTS] = 0;
+    check(piskorlu_and(tally, PISKORLU_REPORT_COUNTS, 0.0, tally, PISKORLU_REPORT_COUNTS, 0.0, counts, PISKORLU_REPORT_COUNTS, residual, 1)
+              == PISKORLU_ACCEPTED, "joined, with room");
+    check(piskorlu_and(tally, PISKORLU_REPORT_COUNTS - 1, 0.0, tally, PISKORLU_REPORT_COUNTS, 0.0, counts, PISKORLU_REPORT_COUNTS, residual, 1)
+              == PISKORLU_REFUSED_JOIN, "13, counts");
+    tally[PISKORLU_REPORT_STOPPED] = 4294967264u;
+    check(tallied(&p, tally, residual) == PISKORLU_REFUSED_TALLY, "11, rows stopped");
+    tally[PISKORLU_REPORT_STOPPED] = 4294967263u;
+    check(tallied(&p, tally, residual) == PISKORLU_ACCEPTED, "one row stopped below");
     for (k = 0; k <= 13; k++) {
         uint32_t j;
         check(strcmp(piskorlu_number_in_words(k), piskorlu_number_in_words(0xFFFFFFFFu)) != 0, "a number has words");
@@ -217,6 +227,11 @@ static void places(void)
     check(solve(&p) == PISKORLU_ACCEPTED && p.counts[PISKORLU_COUNT_OUTCOME] == PISKORLU_SOLVED && p.counts[PISKORLU_COUNT_IDLE] == 1
               && p.counts[PISKORLU_COUNT_EXACT] == 1 && p.counts[PISKORLU_COUNT_LISTED] == 0 && p.states[0] == PISKORLU_IDLE
               && p.states[1] == PISKORLU_INSIDE, "an Idle row");
+    one_row(&p, 1.0, 0.0);
+    check(solve(&p) == PISKORLU_ACCEPTED && p.states[0] == PISKORLU_AT_LO && p.counts[PISKORLU_COUNT_STOPPED] == 0, "at lo, stopped 0");
+    two_rows(&p, ldexp(1.0, -24), 0.0, 0.0, 1.0, -1.0, 4.0);
+    check(solve(&p) == PISKORLU_ACCEPTED && p.counts[PISKORLU_COUNT_OUTCOME] == PISKORLU_INFEASIBLE_BY_GROWTH && p.states[0] == PISKORLU_INSIDE
+              && p.states[1] == PISKORLU_INSIDE && p.counts[PISKORLU_COUNT_STOPPED] == 1, "growth, both inside, stopped 1");
     one_row(&p, 1.0, -1e308);
     p.scale[0] = 1e303;
     check(solve(&p) == PISKORLU_ACCEPTED && p.counts[PISKORLU_COUNT_CONVERGED] == 1 && p.counts[PISKORLU_COUNT_EXACT] == 0, "converged, not exact");
@@ -228,12 +243,14 @@ static void places(void)
     one_row(&p, 1.0, -1.0);
     check(tallied(&p, tally, residual) == PISKORLU_ACCEPTED && tally[PISKORLU_REPORT_INCREMENTS] == 1 && tally[PISKORLU_REPORT_SWEEPS] == 1
               && tally[PISKORLU_REPORT_EXACT_PASSES] == 1 && tally[PISKORLU_REPORT_CONVERGED] == 1 && tally[PISKORLU_REPORT_EXACT] == 1, "a tally");
-    check(piskorlu_and(a, 9, 0.5, b, 9, 0.0, counts, 9, residual, 1) == PISKORLU_ACCEPTED, "joined");
+    check(piskorlu_and(a, PISKORLU_REPORT_COUNTS, 0.5, b, PISKORLU_REPORT_COUNTS, 0.0, counts, PISKORLU_REPORT_COUNTS, residual, 1)
+              == PISKORLU_ACCEPTED, "joined");
     check(counts[PISKORLU_REPORT_INCREMENTS] == 1 && counts[PISKORLU_REPORT_ITERATIONS] == 2 && counts[PISKORLU_REPORT_MOST_ITERATIONS] == 3
               && counts[PISKORLU_REPORT_REJECTED] == 4 && counts[PISKORLU_REPORT_ANCHORS] == 5 && counts[PISKORLU_REPORT_SWEEPS] == 6
-              && counts[PISKORLU_REPORT_EXACT_PASSES] == 7 && counts[PISKORLU_REPORT_CONVERGED] == 1 && counts[PISKORLU_REPORT_EXACT] == 0 && counts[PISKORLU_REPORT_STOPPED] == 8
+              && counts[PISKORLU_REPORT_EXACT_PASSES] == 7 && counts[PISKORLU_REPORT_CONVERGED] == 1 && counts[PISKORLU_REPORT_EXACT] == 0
+              && counts[PISKORLU_REPORT_STOPPED] == 8
               && residual[0] == 0.5, "the places of a report, and a flag other than 0 is yes");
-    check(piskorlu_continued(a, 9, 0.5, b, 9, 0.0, counts, 9, residual, 1) == PISKORLU_ACCEPTED
+    check(piskorlu_continued(a, PISKORLU_REPORT_COUNTS, 0.5, b, PISKORLU_REPORT_COUNTS, 0.0, counts, PISKORLU_REPORT_COUNTS, residual, 1) == PISKORLU_ACCEPTED
               && counts[PISKORLU_REPORT_MOST_ITERATIONS] == 2 && residual[0] == 0.0, "continued: the iterations' sum, and b's residual");
     check(piskorlu_sqrt(ldexp(1.0, -1074)) == ldexp(1.0, -537), "a square root");
 }
@@ -348,18 +365,18 @@ static void buffers(void)
     mprotect(only, page, PROT_READ);
     /* motion and W overlap */
     check(piskorlu_solve(only, 4, only + 4, n, only + 6, n, only + 8, n, only + 10, n, only, 4, 0.0, nu, n, p.states, n, p.rows, n, p.workspace,
-                         2304, counts, 7, residual, 1) == PISKORLU_ACCEPTED && nu[0] == 1.5 && nu[1] == 0.0, "const buffers of a solve in read-only memory, two overlapping");
+                         2304, counts, PISKORLU_SOLVE_COUNTS, residual, 1) == PISKORLU_ACCEPTED && nu[0] == 1.5 && nu[1] == 0.0, "const buffers of a solve in read-only memory, two overlapping");
     mprotect(only, page, PROT_READ | PROT_WRITE);
     memcpy(reports, no_solve, sizeof no_solve);
     mprotect(only, page, PROT_READ);
-    check(piskorlu_and(reports, 9, 0.0, reports, 9, 0.0, joined, 9, residual, 1) == PISKORLU_ACCEPTED, "of a join, and one report twice");
+    check(piskorlu_and(reports, PISKORLU_REPORT_COUNTS, 0.0, reports, PISKORLU_REPORT_COUNTS, 0.0, joined, PISKORLU_REPORT_COUNTS, residual, 1) == PISKORLU_ACCEPTED, "of a join, and one report twice");
     mprotect(only, page, PROT_READ | PROT_WRITE);
     bend_file((uint8_t *)only);
     mprotect(only, page, PROT_READ);
     check(piskorlu_bend((uint8_t *)only, 80, out, sizeof out) > 60, "of a bend file");
     munmap(only, page);
 
-    check(piskorlu_solve(NULL, 0, NULL, 0, NULL, 0, NULL, 0, NULL, 0, NULL, 0, 0.0, NULL, 0, NULL, 0, NULL, 0, p.workspace, 2304, counts, 7,
+    check(piskorlu_solve(NULL, 0, NULL, 0, NULL, 0, NULL, 0, NULL, 0, NULL, 0, 0.0, NULL, 0, NULL, 0, NULL, 0, p.workspace, 2304, counts, PISKORLU_SOLVE_COUNTS,
                          residual, 1) == PISKORLU_ACCEPTED && counts[PISKORLU_COUNT_OUTCOME] == PISKORLU_SOLVED, "NULL of no values: no rows");
     check(piskorlu_solve(NULL, 0, NULL, 0, NULL, 0, NULL, 0, NULL, 0, NULL, 0, 0.0, NULL, 0, NULL, 0, NULL, 0, NULL, 0, NULL, 0, NULL, 0)
               == PISKORLU_REFUSED_SHORT, "NULL everywhere");
@@ -407,8 +424,8 @@ static void call_joins(void)
     static const uint32_t a[] = PISKORLU_REPORT_OF_NO_SOLVE;
     static uint32_t counts[PISKORLU_REPORT_COUNTS];
     static double residual[1];
-    piskorlu_and(a, 9, 0.5, a, 9, 0.25, counts, 9, residual, 1);
-    piskorlu_continued(a, 9, 0.5, a, 9, 0.25, counts, 9, residual, 1);
+    piskorlu_and(a, PISKORLU_REPORT_COUNTS, 0.5, a, PISKORLU_REPORT_COUNTS, 0.25, counts, PISKORLU_REPORT_COUNTS, residual, 1);
+    piskorlu_continued(a, PISKORLU_REPORT_COUNTS, 0.5, a, PISKORLU_REPORT_COUNTS, 0.25, counts, PISKORLU_REPORT_COUNTS, residual, 1);
 }
 static void call_bend(void)
 {

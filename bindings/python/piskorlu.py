@@ -105,8 +105,8 @@ class Report:
     exact_passes: int = 0
     converged: bool = True
     exact: bool = True
-    stopped: int = 0
     residual: float = 0.0
+    stopped: int = 0
 
     def both(self, other):
         """This report and another, as one procedure's: `and`."""
@@ -130,8 +130,8 @@ class Answer:
     converged: bool
     exact: bool
     idle: int
-    stopped: int
     residual: float
+    stopped: int
 
     @property
     def solved(self):
@@ -277,8 +277,8 @@ def _solve(call, before, w, u_free, lo, hi, scale, nu, motion, tolerance):
         converged=bool(converged),
         exact=bool(exact),
         idle=idle,
-        stopped=stopped,
         residual=residual[0],
+        stopped=stopped,
     )
 
 

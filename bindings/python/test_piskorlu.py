@@ -17,6 +17,7 @@ import sys
 import tempfile
 import threading
 import unittest
+from dataclasses import replace
 
 HERE = os.path.dirname(os.path.abspath(__file__))
 ROOT = os.path.dirname(os.path.dirname(HERE))
@@ -68,6 +69,14 @@ class Solve(unittest.TestCase):
         self.assertEqual((stops.solved, stops.cause, stops.rows), (False, Cause.PASS, [0, 1]))
         near = -(1 - 1e-8)
         self.assertEqual(pads([[1, near], [near, 1]], [-1, -1]).cause, Cause.SWEEP)
+
+    def test_rows_stopped(self):
+        """A row may stand on its bound without being stopped, and one that was stopped may end elsewhere."""
+        rests = pads([1], [0])
+        self.assertEqual((rests.states, rests.stopped), ([State.AT_LO], 0))
+        grown = pads([[2**-24, 0], [0, 1]], [-1, 4])
+        self.assertEqual((grown.cause, grown.states, grown.stopped), (Cause.GROWTH, [State.INSIDE, State.INSIDE], 1))
+        self.assertEqual(pads([1], [4], hi=[1], nu=[0.5]).stopped, 1)
 
     def test_w_that_is_not_as_it_should_be(self):
         """docs/SPECIFICATION.md's table."""
@@ -197,9 +206,12 @@ class Others(unittest.TestCase):
         self.assertTrue(math.isnan(sqrt(-1)))
 
     def test_reports(self):
-        a, b = Report(1, 2, 3, 4, 5, 6, 7, True, True, 0.5), Report(10, 20, 30, 40, 50, 60, 70, True, False, 0.25)
-        self.assertEqual(a.both(b), Report(11, 22, 30, 44, 55, 66, 77, True, False, 0.5))
-        self.assertEqual(a.continued(b), Report(10, 22, 22, 44, 55, 66, 77, True, False, 0.25))
+        a, b = Report(1, 2, 3, 4, 5, 6, 7, True, True, 0.5, 8), Report(10, 20, 30, 40, 50, 60, 70, True, False, 0.25, 80)
+        self.assertEqual(a.both(b), Report(11, 22, 30, 44, 55, 66, 77, True, False, 0.5, 88))
+        self.assertEqual(a.continued(b), Report(10, 22, 22, 44, 55, 66, 77, True, False, 0.25, 88))
+        with self.assertRaises(Refused) as refused:
+            Report(stopped=0xFFFFFFFF).both(Report(stopped=1))
+        self.assertEqual(refused.exception.number, 13)
 
     def test_a_day(self):
         day = Report()
@@ -207,6 +219,15 @@ class Others(unittest.TestCase):
             answer, day = tallied(day, [2], [-4], [0], [INF], [1])
             self.assertEqual(answer.nu, [2.0])
         self.assertEqual(day, Report(increments=3, sweeps=3, exact_passes=3))
+        for _ in range(2):
+            answer, day = tallied(day, [1], [4], [0], [INF], [1])
+            self.assertEqual((answer.nu, answer.stopped), ([0.0], 1))
+        self.assertEqual(day, Report(increments=5, sweeps=5, exact_passes=5, stopped=2))
+        full = Report(stopped=0xFFFFFFFF - 31)
+        with self.assertRaises(Refused) as refused:
+            tallied(full, [2], [-4], [0], [INF], [1])
+        self.assertEqual(refused.exception.number, 11)
+        self.assertEqual(tallied(replace(full, stopped=0xFFFFFFFF - 32), [1], [4], [0], [INF], [1])[1].stopped, 0xFFFFFFFF - 31)
 
     def test_exact_sums(self):
         third = 1 / 3

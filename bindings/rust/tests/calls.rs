@@ -88,6 +88,26 @@ fn marked_cases() {
     );
 }
 
+/// On a bound without being stopped, stopped and not on a bound, and neither
+/// state nor side alone tells the other.
+#[test]
+fn rows_stopped() {
+    let stopped = |left: &Left| left.report.map(|report| report.stopped);
+    let rests = solved(&[1.0], &[0.0]);
+    assert_eq!(
+        (stopped(&rests), rests.states),
+        (Some(0), vec![State::AtLo])
+    );
+    let held = solved(&[1.0], &[4.0]);
+    assert_eq!((stopped(&held), held.states), (Some(1), vec![State::AtLo]));
+    let grown = solved(&[(-24.0_f64).exp2(), 0.0, 0.0, 1.0], &[-1.0, 4.0]);
+    assert_eq!(grown.cause, Some(Cause::Growth));
+    assert_eq!(
+        (stopped(&grown), grown.states),
+        (Some(1), vec![State::Inside; 2])
+    );
+}
+
 #[test]
 fn infeasible() {
     let left = solved(&[(-24.0_f64).exp2()], &[-1.0]);
@@ -299,7 +319,7 @@ fn both_layers_agree() {
         };
         let left = answer(&problem, &vec![0.5; n]);
         let (mut nu, mut states, mut rows) = (vec![0.5; n], vec![0; n], vec![9; n]);
-        let (mut counts, mut residual) = ([9; 7], [9.0]);
+        let (mut counts, mut residual) = ([9; 8], [9.0]);
         let number = piskorlu::calls::solve(piskorlu::calls::Lent {
             w: &w,
             u_free: &u_free,
