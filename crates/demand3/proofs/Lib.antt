@@ -5,10 +5,11 @@ pub mod Rays
 pub mod Due
 pub mod Advance
 pub mod Trials
-pub mod Stops
+pub mod Sweeps
 pub mod Runs
 pub mod Made
 pub mod Solves
+pub mod Decided
 pub mod Orders
 pub mod Theorem
 pub mod Instance

@@ -19,7 +19,7 @@ use Rattle.boxed.specs.Sweep as sweep
 use Rattle.boxed.specs.Solve.{converged, Iterate, iterate, counts, tried, Run, going, ended, unless, checkpoint, passed, checked, Watch, tested, turn, run, SWEEP_CAP}
 use Rattle.boxed.specs.declared.Cause.the-variants as cause
 use Rattle.boxed.specs.declared.Counts.{Counts}
-use Rattle.demand3.proofs.Stops.{stoppedTo}
+use Rattle.demand3.proofs.Sweeps.{stoppedOf}
 use Rattle.demand3.specs.Claims.{goesOn, oneSweep, none, makesPass, passesMade}
 
 -- ---- what a sweep leaves counted
@@ -64,26 +64,26 @@ module _ (p : Problem) (m : Watch) (s : Iterate) where
   after k = run SWEEP_CAP p m s k
 
   turn-counts : (k : ℕ) (t : Iterate) → t .counts .sweeps ≡ k
-      → countsOf (turn SWEEP_CAP p m k (going t)) ≡ counts (suc k) (t .counts .passes + cond (makesPass p k (going t)) 1 0) (stoppedTo p (t .states) (t .nu) (size p))
+      → countsOf (turn SWEEP_CAP p m k (going t)) ≡ counts (suc k) (t .counts .passes + cond (makesPass p k (going t)) 1 0) (stoppedOf p (t .states) (t .nu))
   unfolding turn unless
   turn-counts k t q = go (sweep.grown (oneSweep p (t .states) (t .nu)) (p .scale) (size p))
     where
-      u : Iterate
-      u = iterate (oneSweep p (t .states) (t .nu)) (t .states) (counts (suc (t .counts .sweeps)) (t .counts .passes) k′)
+      stopped : ℕ
+      stopped = stoppedOf p (t .states) (t .nu)
 
-      k′ : ℕ
-      k′ = stoppedTo p (t .states) (t .nu) (size p)
+      u : Iterate
+      u = iterate (oneSweep p (t .states) (t .nu)) (t .states) (counts (suc (t .counts .sweeps)) (t .counts .passes) stopped)
 
       none-more : (b : Bool) → t .counts .passes ≡ t .counts .passes + cond (b && false) 1 0
       none-more b = rw (and-false b) (omega arith)
 
-      go : (l : List ℕ) → countsOf (tested p m (t .nu) (checked SWEEP_CAP p (unless cause.Growth u l))) ≡ counts (suc k) (t .counts .passes + cond (checkpoint SWEEP_CAP (suc k) && none l) 1 0) k′
+      go : (l : List ℕ) → countsOf (tested p m (t .nu) (checked SWEEP_CAP p (unless cause.Growth u l))) ≡ counts (suc k) (t .counts .passes + cond (checkpoint SWEEP_CAP (suc k) && none l) 1 0) stopped
       go [] =
           tested-counts p m (t .nu) (checked SWEEP_CAP p (going u)) ∙ checked-counts p u
-          ∙ ap (λ (n : ℕ). counts (suc n) (t .counts .passes + cond (checkpoint SWEEP_CAP (suc n) && true) 1 0) k′) q
+          ∙ ap (λ (n : ℕ). counts (suc n) (t .counts .passes + cond (checkpoint SWEEP_CAP (suc n) && true) 1 0) stopped) q
       go (a ∷ l) =
           unfold tested checked in
-          ap (λ (n : ℕ). counts (suc n) (t .counts .passes) k′) q ∙ ap (λ (n : ℕ). counts (suc k) n k′) (none-more (checkpoint SWEEP_CAP (suc k)))
+          ap (λ (n : ℕ). counts (suc n) (t .counts .passes) stopped) q ∙ ap (λ (n : ℕ). counts (suc k) n stopped) (none-more (checkpoint SWEEP_CAP (suc k)))
 
   abbrev pub Made : ℕ → Run → Type 0
   Made k (going t) = ((i : ℕ) → i ≤ k → goesOn (run SWEEP_CAP p m s i) ≡ true) × (t .counts .sweeps ≡ k) × (t .counts .passes ≡ passesMade p m s k)

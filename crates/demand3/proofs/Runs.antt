@@ -1,30 +1,29 @@
 -- What holds of a run after each sweep, going on or ended.
 use Prim.Native.Nat.{ℕ, suc, _-_, _≤_, _<_}
 use mathlib.Core.Path.{_≡_, refl, sym, _∙_, ap, subst}
-use mathlib.Core.Bool.{Bool, true, false, not, cond}
+use mathlib.Core.Bool.{Bool, true, false, cond}
 use mathlib.Core.List.{List, [], _∷_}
 use native.Mathlib.Omega.{arith}
 use native.Mathlib.Nat.{le-refl}
 use lib.Dec.{eqb}
 use lib.ListN.{length}
 use lib.Ieee.{Float, le}
-use Rattle.loops.specs.Loops.{turns}
-use Rattle.loops.proofs.Turns.{turns-keep, turns-start, turns-step}
+use Rattle.loops.proofs.Turns.{turns-keep}
 use Rattle.loops.proofs.Gather.{Gathered}
 use Rattle.floats.specs.Ops.{at, 1e-9}
-use Rattle.box_rows.specs.Rows.{Problem, size, acts}
+use Rattle.box_rows.specs.Rows.{Problem, size}
 use Rattle.exact_pass.specs.Ray.{ray}
 use Rattle.exact_pass.specs.Pass as pass
 use Rattle.exact_pass.specs.Pass.{trial, Pass, found, exactPass}
 use Rattle.boxed.specs.Sweep as sweep
-use Rattle.demand3.proofs.Stops.{stoppedTo, stopped-same, stoppedLast}
 use Rattle.boxed.specs.Solve.{Ending, exact, converged, infeasible, Iterate, iterate, counts, tried, Run, going, ended, unless, checkpoint, passed, checked, Watch, tested, turn, run, SWEEP_CAP}
 use Rattle.boxed.specs.declared.Cause.the-variants as cause
-use Rattle.demand3.specs.Claims.{notAbove, oneSweep, sweepsAlone, firstTried, LastStep}
+use Rattle.demand3.specs.Claims.{notAbove, oneSweep, sweptTo, sweepsAlone, stoppedTo, stoppedByLast, firstTried, LastStep}
 use Rattle.demand3.proofs.Rays.{grown-gathered, ray-gathered, ActsUnlimited}
 use Rattle.demand3.proofs.Due.{due-next}
 use Rattle.demand3.proofs.Boxes.{Boxed, sweep-boxed, idleRow, StartedTo}
 use Rattle.demand3.proofs.Trials.{Stated, Tries, hard, NoMotion, Passing, exact-passing}
+use Rattle.demand3.proofs.Sweeps.{stoppedOf, swept-is, stopped-is}
 
 -- ---- the states at the start
 
@@ -44,74 +43,59 @@ started-stated p s h =
       known = λ i b. rw (h .states i b) (few (idleRow p i));
     }
 
--- ---- a sweep reads of the states which rows are Idle, and nothing else
-
-abbrev sweepRow : Problem → List ℕ → ℕ → List Float → List Float
-sweepRow p st = sweep.sweepRow (p .w) (p .uFree) (p .lo) (p .hi) st
-
-row-same : (p : Problem) (st su : List ℕ) (i : ℕ) (nu : List Float) → acts st i ≡ acts su i → sweepRow p st i nu ≡ sweepRow p su i nu
-unfolding sweep.sweepRow
-row-same p st su i nu e = rw e
-
-sweep-same : (p : Problem) (st su : List ℕ) (nu : List Float) → Stated p st → Stated p su → oneSweep p st nu ≡ oneSweep p su nu
-unfolding sweep.sweep
-sweep-same p st su nu m n =
-    turns-keep (sweepRow p st) nu (λ i x. x ≡ turns i nu (sweepRow p su)) (size p) (sym (turns-start nu (sweepRow p su)))
-    λ i x b e. row-same p st su i x (ap not (m .idle i b ∙ sym (n .idle i b))) ∙ ap (sweepRow p su i) e ∙ sym (turns-step nu (sweepRow p su) i)
-
--- ---- a run: st₀ and nu₀ are what its first sweep starts from
+-- ---- a run: nu₀ is what its first sweep starts from
 
 -- as many passes as c sweeps have, and the multipliers of the sweeps that are counted
-pub record Stands (p : Problem) (st₀ : List ℕ) (nu₀ : List Float) (c : ℕ) (s : Iterate) : Type 0 where
+pub record Stands (p : Problem) (nu₀ : List Float) (c : ℕ) (s : Iterate) : Type 0 where
   pub stated : Stated p (s .states)
   pub boxed : Boxed p (s .nu)
   pub passes : s .counts .passes ≡ notAbove c
-  pub alone : s .nu ≡ sweepsAlone p st₀ nu₀ (s .counts .sweeps)
-  pub stopped : s .counts .stopped ≡ stoppedLast p st₀ nu₀ (s .counts .sweeps)
+  pub alone : s .nu ≡ sweepsAlone p nu₀ (s .counts .sweeps)
+  pub stopped : s .counts .stopped ≡ stoppedByLast p nu₀ (s .counts .sweeps)
 
-pub record Converged (p : Problem) (st₀ : List ℕ) (nu₀ : List Float) (s : Iterate) : Type 0 where
-  pub standing : Stands p st₀ nu₀ (s .counts .sweeps) s
+pub record Converged (p : Problem) (nu₀ : List Float) (s : Iterate) : Type 0 where
+  pub standing : Stands p nu₀ (s .counts .sweeps) s
   pub small : le (sweep.residual p (s .states) (s .nu) (size p)) 1e-9 ≡ true
 
 -- Idle rows have what the sweeps left
-pub record Exact (p : Problem) (st₀ : List ℕ) (nu₀ : List Float) (s : Iterate) : Type 0 where
+pub record Exact (p : Problem) (nu₀ : List Float) (s : Iterate) : Type 0 where
   pub passes : s .counts .passes ≡ notAbove (s .counts .sweeps)
-  pub boxed : Boxed p (sweepsAlone p st₀ nu₀ (s .counts .sweeps))
-  pub stopped : s .counts .stopped ≡ stoppedLast p st₀ nu₀ (s .counts .sweeps)
-  pub tries : Tries p (sweepsAlone p st₀ nu₀ (s .counts .sweeps)) (trial (s .nu) (s .states))
+  pub boxed : Boxed p (sweepsAlone p nu₀ (s .counts .sweeps))
+  pub stopped : s .counts .stopped ≡ stoppedByLast p nu₀ (s .counts .sweeps)
+  pub tries : Tries p (sweepsAlone p nu₀ (s .counts .sweeps)) (trial (s .nu) (s .states))
   pub gentle : (i : ℕ) → i < size p → hard p (s .states) (s .nu) i ≡ false
   pub given : List ℕ
-  pub pass : exactPass p given (sweepsAlone p st₀ nu₀ (s .counts .sweeps)) ≡ found (trial (s .nu) (s .states))
-  pub last : LastStep p (firstTried p given (sweepsAlone p st₀ nu₀ (s .counts .sweeps))) (s .nu) (s .states)
+  pub pass : exactPass p given (sweepsAlone p nu₀ (s .counts .sweeps)) ≡ found (trial (s .nu) (s .states))
+  pub last : LastStep p (firstTried p given (sweepsAlone p nu₀ (s .counts .sweeps))) (s .nu) (s .states)
 
 -- growth ends a sweep before its pass
-pub record Grew (p : Problem) (st₀ : List ℕ) (nu₀ : List Float) (s : Iterate) (l : List ℕ) : Type 0 where
-  pub standing : Stands p st₀ nu₀ (s .counts .sweeps - 1) s
+pub record Grew (p : Problem) (nu₀ : List Float) (s : Iterate) (l : List ℕ) : Type 0 where
+  pub standing : Stands p nu₀ (s .counts .sweeps - 1) s
   pub some : 0 < length l
   pub these : Gathered (λ i. sweep.isGrown (at (s .nu) i) (at (p .scale) i) ≡ true) (size p) l
 
-pub record Unmet (p : Problem) (st₀ : List ℕ) (nu₀ : List Float) (s : Iterate) (l : List ℕ) : Type 0 where
-  pub standing : Stands p st₀ nu₀ (s .counts .sweeps) s
+pub record Unmet (p : Problem) (nu₀ : List Float) (s : Iterate) (l : List ℕ) : Type 0 where
+  pub standing : Stands p nu₀ (s .counts .sweeps) s
   pub rows : NoMotion p (s .states) l
 
-abbrev pub Ends : Problem → List ℕ → List Float → Ending → Iterate → Type 0
-Ends p st₀ nu₀ converged s = Converged p st₀ nu₀ s
-Ends p st₀ nu₀ exact s = Exact p st₀ nu₀ s
-Ends p st₀ nu₀ (infeasible cause.Growth l) s = Grew p st₀ nu₀ s l
-Ends p st₀ nu₀ (infeasible cause.Pass l) s = Unmet p st₀ nu₀ s l
-Ends p st₀ nu₀ (infeasible cause.Sweep l) s = Unmet p st₀ nu₀ s l
+abbrev pub Ends : Problem → List Float → Ending → Iterate → Type 0
+Ends p nu₀ converged s = Converged p nu₀ s
+Ends p nu₀ exact s = Exact p nu₀ s
+Ends p nu₀ (infeasible cause.Growth l) s = Grew p nu₀ s l
+Ends p nu₀ (infeasible cause.Pass l) s = Unmet p nu₀ s l
+Ends p nu₀ (infeasible cause.Sweep l) s = Unmet p nu₀ s l
 
 -- after k sweeps, with as many passes as c sweeps have
-abbrev pub Runs : Problem → List ℕ → List Float → ℕ → ℕ → Run → Type 0
-Runs p st₀ nu₀ k c (going s) = (s .counts .sweeps ≡ k) × Stands p st₀ nu₀ c s
-Runs p st₀ nu₀ k c (ended e s) = (0 < s .counts .sweeps) × (s .counts .sweeps ≤ k) × Ends p st₀ nu₀ e s
+abbrev pub Runs : Problem → List Float → ℕ → ℕ → Run → Type 0
+Runs p nu₀ k c (going s) = (s .counts .sweeps ≡ k) × Stands p nu₀ c s
+Runs p nu₀ k c (ended e s) = (0 < s .counts .sweeps) × (s .counts .sweeps ≤ k) × Ends p nu₀ e s
 
-module _ (p : Problem) (m : Watch) (st₀ : List ℕ) (nu₀ : List Float) (first : Stated p st₀) (k : ℕ) (few : k < 200) where
-  recount : (s : Iterate) (c d : ℕ) → c ≡ d → Stands p st₀ nu₀ c s → Stands p st₀ nu₀ d s
-  recount s c d e h = subst (λ (c : ℕ). Stands p st₀ nu₀ c s) e h
+module _ (p : Problem) (m : Watch) (nu₀ : List Float) (k : ℕ) (few : k < 200) where
+  recount : (s : Iterate) (c d : ℕ) → c ≡ d → Stands p nu₀ c s → Stands p nu₀ d s
+  recount s c d e h = subst (λ (c : ℕ). Stands p nu₀ c s) e h
 
-  grown-runs : (s : Iterate) (l : List ℕ) → s .counts .sweeps ≡ suc k → Stands p st₀ nu₀ k s
-      → Gathered (λ i. sweep.isGrown (at (s .nu) i) (at (p .scale) i) ≡ true) (size p) l → Runs p st₀ nu₀ (suc k) k (unless cause.Growth s l)
+  grown-runs : (s : Iterate) (l : List ℕ) → s .counts .sweeps ≡ suc k → Stands p nu₀ k s
+      → Gathered (λ i. sweep.isGrown (at (s .nu) i) (at (p .scale) i) ≡ true) (size p) l → Runs p nu₀ (suc k) k (unless cause.Growth s l)
   unfolding unless
   grown-runs s [] q h g = (q, h)
   grown-runs s (a ∷ l) q h g =
@@ -121,14 +105,14 @@ module _ (p : Problem) (m : Watch) (st₀ : List ℕ) (nu₀ : List Float) (firs
   due : (n : ℕ) (b : Bool) → n ≡ suc k → checkpoint SWEEP_CAP n ≡ b → notAbove n ≡ cond b (suc (notAbove k)) (notAbove k)
   due n b q e = ap notAbove q ∙ due-next k few ∙ ap (λ (b : Bool). cond b (suc (notAbove k)) (notAbove k)) (sym (ap (checkpoint SWEEP_CAP) q) ∙ e)
 
-  module _ (s : Iterate) (q : s .counts .sweeps ≡ suc k) (h : Stands p st₀ nu₀ k s) where
+  module _ (s : Iterate) (q : s .counts .sweeps ≡ suc k) (h : Stands p nu₀ k s) where
     -- the states that a pass left, and one pass more
     after-pass : (st : List ℕ) → Stated p st → checkpoint SWEEP_CAP (s .counts .sweeps) ≡ true
-        → Stands p st₀ nu₀ (s .counts .sweeps) (iterate (s .nu) st (tried (s .counts)))
+        → Stands p nu₀ (s .counts .sweeps) (iterate (s .nu) st (tried (s .counts)))
     after-pass st g e = record { stated = g; boxed = h .boxed; passes = ap suc (h .passes) ∙ sym (due (s .counts .sweeps) true q e); alone = h .alone; stopped = h .stopped }
 
     passed-runs : (x : Pass) → exactPass p (s .states) (s .nu) ≡ x → checkpoint SWEEP_CAP (s .counts .sweeps) ≡ true
-        → Passing p (s .nu) (firstTried p (s .states) (s .nu)) x → Runs p st₀ nu₀ (suc k) (suc k) (passed s x)
+        → Passing p (s .nu) (firstTried p (s .states) (s .nu)) x → Runs p nu₀ (suc k) (suc k) (passed s x)
     unfolding passed
     passed-runs (pass.moved t) r e g = (q, recount _ (s .counts .sweeps) (suc k) q (after-pass (t .states) (g .stated) e))
     passed-runs (pass.failed t) r e g = (q, recount _ (s .counts .sweeps) (suc k) q (after-pass (t .states) (g .stated) e))
@@ -148,26 +132,26 @@ module _ (p : Problem) (m : Watch) (st₀ : List ℕ) (nu₀ : List Float) (firs
     )
     passed-runs (pass.infeasible l t) r e g = (omega arith, omega arith, record { standing = after-pass (t .states) (g .0 .stated) e; rows = g .1 })
 
-  checked-runs : (x : Run) → Runs p st₀ nu₀ (suc k) k x → Runs p st₀ nu₀ (suc k) (suc k) (checked SWEEP_CAP p x)
+  checked-runs : (x : Run) → Runs p nu₀ (suc k) k x → Runs p nu₀ (suc k) (suc k) (checked SWEEP_CAP p x)
   unfolding checked
   checked-runs (ended e s) h = h
   checked-runs (going s) h = go (checkpoint SWEEP_CAP (s .counts .sweeps)) refl
     where
-      go : (b : Bool) → checkpoint SWEEP_CAP (s .counts .sweeps) ≡ b → Runs p st₀ nu₀ (suc k) (suc k) (cond b (passed s (exactPass p (s .states) (s .nu))) (going s))
+      go : (b : Bool) → checkpoint SWEEP_CAP (s .counts .sweeps) ≡ b → Runs p nu₀ (suc k) (suc k) (cond b (passed s (exactPass p (s .states) (s .nu))) (going s))
       go true e = passed-runs s (h .0) (h .1) (exactPass p (s .states) (s .nu)) refl e (exact-passing p (s .states) (s .nu) (h .1 .stated) (h .1 .boxed .long))
       go false e = (
         h .0,
         record { stated = h .1 .stated; boxed = h .1 .boxed; passes = h .1 .passes ∙ sym (due (s .counts .sweeps) false (h .0) e) ∙ ap notAbove (h .0); alone = h .1 .alone; stopped = h .1 .stopped },
       )
 
-  unmet-runs : (s : Iterate) (l : List ℕ) → s .counts .sweeps ≡ suc k → Stands p st₀ nu₀ (suc k) s → Gathered (ActsUnlimited p (s .states)) (size p) l
-      → Runs p st₀ nu₀ (suc k) (suc k) (unless cause.Sweep s l)
+  unmet-runs : (s : Iterate) (l : List ℕ) → s .counts .sweeps ≡ suc k → Stands p nu₀ (suc k) s → Gathered (ActsUnlimited p (s .states)) (size p) l
+      → Runs p nu₀ (suc k) (suc k) (unless cause.Sweep s l)
   unfolding unless
   unmet-runs s [] q h g = (q, h)
   unmet-runs s (a ∷ l) q h g =
       (omega arith, omega arith, record { standing = recount s (suc k) (s .counts .sweeps) (sym q) h; rows = record { some = omega arith; these = g } })
 
-  tested-runs : (before : List Float) (x : Run) → Runs p st₀ nu₀ (suc k) (suc k) x → Runs p st₀ nu₀ (suc k) (suc k) (tested p m before x)
+  tested-runs : (before : List Float) (x : Run) → Runs p nu₀ (suc k) (suc k) x → Runs p nu₀ (suc k) (suc k) (tested p m before x)
   unfolding tested
   tested-runs before (ended e s) h = h
   tested-runs before (going s) h = go (sweep.hasStopped (m .motion) (m .tolerance) (s .nu) before) (le (sweep.residual p (s .states) (s .nu) (size p)) 1e-9) refl
@@ -176,19 +160,19 @@ module _ (p : Problem) (m : Watch) (st₀ : List ℕ) (nu₀ : List Float) (firs
       y = sweep.change (s .nu) before (size p)
 
       go : (a b : Bool) → le (sweep.residual p (s .states) (s .nu) (size p)) 1e-9 ≡ b
-          → Runs p st₀ nu₀ (suc k) (suc k) (cond a (cond b (ended converged s) (unless cause.Sweep s (ray p (s .states) (sweep.change (s .nu) before (size p))))) (going s))
+          → Runs p nu₀ (suc k) (suc k) (cond a (cond b (ended converged s) (unless cause.Sweep s (ray p (s .states) (sweep.change (s .nu) before (size p))))) (going s))
       go true true e =
           let q = h .0 in
           (omega arith, omega arith, record { standing = recount s (suc k) (s .counts .sweeps) (sym q) (h .1); small = e })
       go true false e = unmet-runs s (ray p (s .states) y) (h .0) (h .1) (ray-gathered p (s .states) y)
       go false b e = h
 
-  turn-runs : (x : Run) → Runs p st₀ nu₀ k k x → Runs p st₀ nu₀ (suc k) (suc k) (turn SWEEP_CAP p m k x)
-  unfolding turn sweepsAlone
+  turn-runs : (x : Run) → Runs p nu₀ k k x → Runs p nu₀ (suc k) (suc k) (turn SWEEP_CAP p m k x)
+  unfolding turn
   turn-runs (ended e s) h = (h .0, omega (arith, h .1), h .2)
   turn-runs (going s) h =
       let nu = oneSweep p (s .states) (s .nu) in
-      let t = iterate nu (s .states) (counts (suc (s .counts .sweeps)) (s .counts .passes) (stoppedTo p (s .states) (s .nu) (size p))) in
+      let t = iterate nu (s .states) (counts (suc (s .counts .sweeps)) (s .counts .passes) (stoppedOf p (s .states) (s .nu))) in
       let l = sweep.grown nu (p .scale) (size p) in
       let g = h .1 in
       tested-runs (s .nu) (checked SWEEP_CAP p (unless cause.Growth t l))
@@ -198,14 +182,13 @@ module _ (p : Problem) (m : Watch) (st₀ : List ℕ) (nu₀ : List Float) (firs
         stated = g .stated;
         boxed = sweep-boxed p (s .states) (s .nu) (g .boxed);
         passes = g .passes;
-        alone = sweep-same p (s .states) st₀ (s .nu) (g .stated) first ∙ ap (oneSweep p st₀) (g .alone);
-        stopped = unfold stoppedLast in
-            stopped-same p (s .states) st₀ (s .nu) (λ i b. ap not (g .stated .idle i b ∙ sym (first .idle i b))) (size p) (le-refl (size p))
-            ∙ ap (λ (v : List Float). stoppedTo p st₀ v (size p)) (g .alone);
+        alone = unfold sweepsAlone in
+            swept-is p (s .states) (g .stated) (s .nu) (g .boxed .long) (size p) (le-refl (size p)) ∙ ap (λ (v : List Float). sweptTo p v (size p)) (g .alone);
+        stopped = unfold stoppedByLast in
+            stopped-is p (s .states) (g .stated) (s .nu) (g .boxed .long) (size p) (le-refl (size p)) ∙ ap (λ (v : List Float). stoppedTo p v (size p)) (g .alone);
       })
       (grown-gathered nu (p .scale) (size p))))
 
-pub run-runs : (p : Problem) (m : Watch) (st₀ : List ℕ) (nu₀ : List Float) (s : Iterate) → Stated p st₀ → s .counts .sweeps ≡ 0 → Stands p st₀ nu₀ 0 s
-    → Runs p st₀ nu₀ 200 200 (run SWEEP_CAP p m s 200)
+pub run-runs : (p : Problem) (m : Watch) (nu₀ : List Float) (s : Iterate) → s .counts .sweeps ≡ 0 → Stands p nu₀ 0 s → Runs p nu₀ 200 200 (run SWEEP_CAP p m s 200)
 unfolding run
-run-runs p m st₀ nu₀ s first z h = turns-keep (turn SWEEP_CAP p m) (going s) (λ k. Runs p st₀ nu₀ k k) 200 (z, h) λ k x b g. turn-runs p m st₀ nu₀ first k b x g
+run-runs p m nu₀ s z h = turns-keep (turn SWEEP_CAP p m) (going s) (λ k. Runs p nu₀ k k) 200 (z, h) λ k x b g. turn-runs p m nu₀ k b x g

@@ -1,10 +1,10 @@
 -- Every solve has the claims of demand 3, and every report is one that a tally can take.
 use Prim.Native.Nat.{ℕ, zero, suc, _-_, _≤_, _<_, zero-le}
 use mathlib.Core.Path.{_≡_, refl, sym, _∙_, ap, subst}
-use mathlib.Core.Bool.{Bool, true, false, cond, _&&_, true≢false, and-false}
+use mathlib.Core.Bool.{Bool, true, false, not, cond, _&&_, true≢false, and-false}
 use mathlib.Core.List.{List, _++_}
 use native.Mathlib.Omega.{arith}
-use native.Mathlib.Nat.{not-suc-le-zero, le-of-suc-le-suc, le-of-eq}
+use native.Mathlib.Nat.{not-suc-le-zero, le-of-suc-le-suc, le-of-eq, le-refl}
 use lib.Arith.{lt-of-le-ne}
 use lib.Dec.{ltb, eqb}
 use lib.ListN.{length, getD, take, drop, List·getD-append}
@@ -29,17 +29,16 @@ use Rattle.boxed.specs.Sweep as sweep
 use Rattle.boxed.specs.Solve.{Ending, exact, converged, Iterate, counts, Run, going, ended, Watch, run, Outcome, refused, solved, infeasible, Result, left, reportOf, unfound, result, nothing, solve, reply, solveReply, SWEEP_CAP}
 use Rattle.boxed.proofs.Accepting.{Accepted, accepted}
 use Rattle.boxed.specs.declared.BoxReport.{BoxReport}
-use Rattle.boxed.specs.declared.Counts.{Counts}
 use Rattle.boxed.specs.declared.Cause.{Cause}
 use Rattle.boxed.specs.declared.Cause.the-variants as cause
 use Rattle.tally.specs.Tally.{Call, number, alone}
-use Rattle.demand3.specs.Claims.{sweepsAlone, BoundsInOrder, NaNOrInBox, acting, notAbove, below, startOf, started, firstIterate, afterSweeps, goesOn, passesMade, passesIn, bySweeps, stoppedInLast, rowStates, ownResidual, OnBound, Sound, Reason, Listed, Claims}
-use Rattle.demand3.proofs.Words.{lt-abs, acts-above, above-acts, idle-not-above, diagonal, own-is, rising-at, gathered-few}
+use Rattle.demand3.specs.Claims.{sweepsAlone, BoundsInOrder, NaNOrInBox, acting, NoneActs, notAbove, below, startOf, started, firstIterate, afterSweeps, goesOn, passesMade, passesIn, clampedTo, firstMultipliers, bySweeps, stoppedByLast, stoppedInLast, rowStates, ownResidual, OnBound, Sound, Reason, Listed, Claims}
+use Rattle.demand3.proofs.Words.{lt-abs, acts-above, diagonal, own-is, rising-at, gathered-few}
 use Rattle.demand3.proofs.Boxes.{Boxed, Inside, idleRow, StartedTo, start-started}
 use Rattle.demand3.proofs.Rays.{ActsUnlimited}
 use Rattle.demand3.proofs.Due.{due-zero, due-most, below-is}
 use Rattle.demand3.proofs.Trials.{Stated, state-not-idle, acts-not-idle}
-use Rattle.demand3.proofs.Stops.{stoppedLast, last-is, last-few}
+use Rattle.demand3.proofs.Sweeps.{idle-not-acting, start-is, all-idle, none-acts, last-few}
 use Rattle.demand3.proofs.Made.{Made, made}
 use Rattle.demand3.proofs.Runs.{Stands, Exact, Runs, run-runs, started-stated}
 
@@ -97,14 +96,20 @@ report-modest : (p : Problem) (idle : ℕ) (c e : Bool) (s : Iterate) → s .cou
 unfolding reportOf
 report-modest p idle c e s h g k = record { few = h; fewer = g; fewStopped = k; held = residual-fits p (s .states) (s .nu) }
 
-result-modest : (p : Problem) (idle : ℕ) (l : List ℕ) (x : Run) (st₀ : List ℕ) (nu₀ : List Float) → size p ≤ 32 → Runs p st₀ nu₀ 200 200 x → Reported Modest (result p idle l x .outcome)
+-- the counts of a run, by what it stands on: the passes of n sweeps
+stands-modest : (p : Problem) (nu₀ : List Float) (idle : ℕ) (c : Bool) (s : Iterate) (n : ℕ) → size p ≤ 32 → s .counts .sweeps ≤ 200 → Stands p nu₀ n s → Modest (reportOf p idle c false s)
+stands-modest p nu₀ idle c s n z h g =
+    report-modest p idle c false s h (rw (g .passes) (due-most n)) (rw (g .stopped) (last-few p nu₀ z (s .counts .sweeps)))
+
+result-modest : (p : Problem) (idle : ℕ) (l : List ℕ) (x : Run) (nu₀ : List Float) → size p ≤ 32 → Runs p nu₀ 200 200 x → Reported Modest (result p idle l x .outcome)
 unfolding result unfound
-result-modest p idle l (going s) st₀ nu₀ z h = report-modest p idle false false s (le-of-eq (h .0)) (rw (h .1 .passes) (due-most 200)) (rw (h .1 .stopped) (last-few p st₀ nu₀ z (s .counts .sweeps)))
-result-modest p idle l (ended converged s) st₀ nu₀ z h = report-modest p idle true false s (h .1) (rw (h .2 .standing .passes) (due-most (s .counts .sweeps))) (rw (h .2 .standing .stopped) (last-few p st₀ nu₀ z (s .counts .sweeps)))
-result-modest p idle l (ended exact s) st₀ nu₀ z h = report-modest p idle true true s (h .1) (rw (h .2 .passes) (due-most (s .counts .sweeps))) (rw (h .2 .stopped) (last-few p st₀ nu₀ z (s .counts .sweeps)))
-result-modest p idle l (ended (infeasible cause.Growth r) s) st₀ nu₀ z h = report-modest p idle false false s (h .1) (rw (h .2 .standing .passes) (due-most (s .counts .sweeps - 1))) (rw (h .2 .standing .stopped) (last-few p st₀ nu₀ z (s .counts .sweeps)))
-result-modest p idle l (ended (infeasible cause.Pass r) s) st₀ nu₀ z h = report-modest p idle false false s (h .1) (rw (h .2 .standing .passes) (due-most (s .counts .sweeps))) (rw (h .2 .standing .stopped) (last-few p st₀ nu₀ z (s .counts .sweeps)))
-result-modest p idle l (ended (infeasible cause.Sweep r) s) st₀ nu₀ z h = report-modest p idle false false s (h .1) (rw (h .2 .standing .passes) (due-most (s .counts .sweeps))) (rw (h .2 .standing .stopped) (last-few p st₀ nu₀ z (s .counts .sweeps)))
+result-modest p idle l (going s) nu₀ z h = stands-modest p nu₀ idle false s 200 z (le-of-eq (h .0)) (h .1)
+result-modest p idle l (ended converged s) nu₀ z h = stands-modest p nu₀ idle true s (s .counts .sweeps) z (h .1) (h .2 .standing)
+result-modest p idle l (ended exact s) nu₀ z h =
+    report-modest p idle true true s (h .1) (rw (h .2 .passes) (due-most (s .counts .sweeps))) (rw (h .2 .stopped) (last-few p nu₀ z (s .counts .sweeps)))
+result-modest p idle l (ended (infeasible cause.Growth r) s) nu₀ z h = stands-modest p nu₀ idle false s (s .counts .sweeps - 1) z (h .1) (h .2 .standing)
+result-modest p idle l (ended (infeasible cause.Pass r) s) nu₀ z h = stands-modest p nu₀ idle false s (s .counts .sweeps) z (h .1) (h .2 .standing)
+result-modest p idle l (ended (infeasible cause.Sweep r) s) nu₀ z h = stands-modest p nu₀ idle false s (s .counts .sweeps) z (h .1) (h .2 .standing)
 
 -- ---- the claims of an accepted solve
 
@@ -127,46 +132,41 @@ module _ (c : Call) (zeroth : number c ≡ 0) (fair : BoundsInOrder (c .problem)
   unfolding inBox
   in-box nu i h = h
 
-  -- what the first sweep starts from
-  begun : StartedTo p (size p) (started c)
-  begun = start-started p (c .nu) (take (size p) (c .states)) (ok .values) (length-take-le (size p) (c .states) (ok .states))
-
-  -- the rows that the last of k sweeps stops
-  last-stopped : (k : ℕ) → stoppedLast p (started c .states) (started c .nu) k ≡ stoppedInLast c k
-  last-stopped zero = unfold stoppedLast in refl
-  last-stopped (suc k) = last-is p (started c .states) (started c .nu) (started-stated p (started c) begun) (begun .boxed .long) k
-
-  few-last : (k : ℕ) → stoppedLast p (started c .states) (started c .nu) k ≤ 32
-  few-last k = last-few p (started c .states) (started c .nu) (ok .sized .0) k
+  few-last : (k : ℕ) → stoppedInLast c k ≤ 32
+  few-last k = last-few p (firstMultipliers c) (ok .sized .0) k
 
   -- a row that does not act is Idle
   idle-is : (i : ℕ) → i < size p → acting p i ≡ false → idleRow p i ≡ true
-  idle-is i b h = idle-not-above (at (rowOf p i) i) (rw (diagonal p i b) h)
+  idle-is i b h = idle-not-acting p i b ∙ ap not h
 
   acting-state : (st : List ℕ) (i : ℕ) → Stated p st → i < size p → acting p i ≡ true → state st i ≤ 2
   acting-state st i m b h =
-      not-last (state st i) (m .known i b) (eqb-false (state st i) 3 (m .idle i b ∙ above-acts (at (rowOf p i) i) (rw (diagonal p i b) h)))
+      not-last (state st i) (m .known i b) (eqb-false (state st i) 3 (m .idle i b ∙ idle-not-acting p i b ∙ ap not h))
 
-  -- it goes on until the last sweep that it counts, and has counted the passes that it made
+  -- it goes on until the last sweep that it counts, and has counted the passes that it made; it made a sweep, since a row acts
   abbrev Sweeps : Iterate → Type 0
   Sweeps s =
       ((i : ℕ) → i < s .counts .sweeps → goesOn (afterSweeps c i) ≡ true)
       × (goesOn (afterSweeps c (s .counts .sweeps)) && ltb (s .counts .sweeps) 200 ≡ false)
       × (s .counts .passes ≡ passesIn c (s .counts .sweeps))
+      × (0 < s .counts .sweeps)
+      × (NoneActs p → ⊥)
 
   -- not exact: every multiplier is left by sweeps
   plain-sound : (a : Result) (idle : ℕ) (v g : Bool) (s : Iterate) → a .nu ≡ s .nu → Sweeps s → s .counts .sweeps ≤ 200 → Boxed p (s .nu) → s .nu ≡ bySweeps c (s .counts .sweeps)
       → s .counts .passes ≡ cond g (below (s .counts .sweeps)) (notAbove (s .counts .sweeps))
-      → (v ≡ true → le (sweep.residual p (s .states) (s .nu) (size p)) 1e-9 ≡ true) → s .counts .stopped ≡ stoppedLast p (started c .states) (started c .nu) (s .counts .sweeps) → Sound c a g (reportOf p idle v false s)
+      → (v ≡ true → le (sweep.residual p (s .states) (s .nu) (size p)) 1e-9 ≡ true) → s .counts .stopped ≡ stoppedInLast c (s .counts .sweeps) → Sound c a g (reportOf p idle v false s)
   unfolding reportOf
   plain-sound a idle v g s e n h b w q r k =
       record {
         madeSweeps = n .0;
-        lastSweep = λ z. n .1;
+        lastSweep = λ y. n .1;
+        noSweep = λ y. let o = n .3 in absurd (omega arith);
+        noneActs = λ y. absurd (n .4 y);
         madePasses = n .2;
         fewSweeps = h;
         passes = q;
-        stopped = k ∙ last-stopped (s .counts .sweeps);
+        stopped = k;
         fewStopped = rw k (few-last (s .counts .sweeps));
         leftBySweeps = λ z. e ∙ w;
         written = λ z. absurd (true≢false (sym z));
@@ -215,7 +215,7 @@ module _ (c : Call) (zeroth : number c ≡ 0) (fair : BoundsInOrder (c .problem)
         }
 
   exact-sound : (a : Result) (idle : ℕ) (s : Iterate) → a .nu ≡ s .nu → rowStates c a ≡ s .states → Sweeps s → s .counts .sweeps ≤ 200
-      → Exact p (started c .states) (started c .nu) s → Sound c a false (reportOf p idle true true s)
+      → Exact p (firstMultipliers c) s → Sound c a false (reportOf p idle true true s)
   unfolding reportOf
   exact-sound a idle s e i n h x =
       let t = x .tries in
@@ -225,11 +225,13 @@ module _ (c : Call) (zeroth : number c ≡ 0) (fair : BoundsInOrder (c .problem)
       = λ j d. sym (getD-take (size p) (a .states) j 0 d) ∙ ap (λ (st : List ℕ). state st j) i in
       record {
         madeSweeps = n .0;
-        lastSweep = λ z. n .1;
+        lastSweep = λ y. n .1;
+        noSweep = λ y. let o = n .3 in absurd (omega arith);
+        noneActs = λ y. absurd (n .4 y);
         madePasses = n .2;
         fewSweeps = h;
         passes = x .passes;
-        stopped = x .stopped ∙ last-stopped (s .counts .sweeps);
+        stopped = x .stopped;
         fewStopped = rw (x .stopped) (few-last (s .counts .sweeps));
         leftBySweeps = λ z. absurd (true≢false z);
         written = λ z y. record {
@@ -279,52 +281,54 @@ module _ (c : Call) (zeroth : number c ≡ 0) (fair : BoundsInOrder (c .problem)
   unlimited-reasons nu st r m g k b = unlimited-reason nu st (getD r k 0) m (each-at (λ j. j < size p) r (g .below) k b) (each-at (ActsUnlimited p st) r (g .passing) k b)
 
   abbrev Whole : Run → Type 0
-  Whole x = Runs p (started c .states) (started c .nu) 200 200 x
+  Whole x = Runs p (firstMultipliers c) 200 200 x
 
   abbrev MadeSo : Run → Type 0
   MadeSo x = Made p (c .watch) (firstIterate (started c)) 200 x
 
-  went-on : (s : Iterate) → MadeSo (going s) → Sweeps s
-  went-on s h =
-      let n : s .counts .sweeps ≡ 200 = ap (λ (k : Counts). k .sweeps) (h .1) in (
+  went-on : (s : Iterate) → (NoneActs p → ⊥) → MadeSo (going s) → Sweeps s
+  went-on s o h =
+      let n = h .1 in (
         (λ i b. h .0 i (omega arith)),
         rw n (and-false (goesOn (afterSweeps c 200))),
-        rw n (ap (λ (k : Counts). k .passes) (h .1)),
+        rw n (h .2),
+        omega arith,
+        o,
       )
 
-  ended-in : (e : Ending) (s : Iterate) → MadeSo (ended e s) → Sweeps s
-  ended-in e s h = (h .0, ap (λ (b : Bool). b && ltb (s .counts .sweeps) 200) (h .1), h .2)
+  ended-in : (e : Ending) (s : Iterate) → (NoneActs p → ⊥) → 0 < s .counts .sweeps → MadeSo (ended e s) → Sweeps s
+  ended-in e s o z h = (h .0, ap (λ (b : Bool). b && ltb (s .counts .sweeps) 200) (h .1), h .2, z, o)
 
-  result-claims : (idle : ℕ) (x : Run) → MadeSo x → Whole x → Claims c (answered (result p idle (c .listed) x))
+  result-claims : (idle : ℕ) (x : Run) → (NoneActs p → ⊥) → MadeSo x → Whole x → Claims c (answered (result p idle (c .listed) x))
   unfolding result unfound
-  result-claims idle (going s) n h =
+  result-claims idle (going s) o n h =
       let q = h .0 in
       let g = h .1 in
-      (zeroth, plain-sound _ idle false false s refl (went-on s n) (le-of-eq q) (g .boxed) (g .alone) (rw q (g .passes)) (λ z. absurd (true≢false (sym z))) (g .stopped))
-  result-claims idle (ended converged s) n h =
+      (zeroth, plain-sound _ idle false false s refl (went-on s o n) (le-of-eq q) (g .boxed) (g .alone) (rw q (g .passes)) (λ z. absurd (true≢false (sym z))) (g .stopped))
+  result-claims idle (ended converged s) o n h =
       let g = h .2 .standing in
-      (zeroth, plain-sound _ idle true false s refl (ended-in converged s n) (h .1) (g .boxed) (g .alone) (g .passes) (λ z. h .2 .small) (g .stopped))
-  result-claims idle (ended exact s) n h = (zeroth, exact-sound _ idle s refl (row-states (s .states) (h .2 .tries .stated .long)) (ended-in exact s n) (h .1) (h .2))
-  result-claims idle (ended (infeasible cause.Growth r) s) n h =
+      (zeroth, plain-sound _ idle true false s refl (ended-in converged s o (h .0) n) (h .1) (g .boxed) (g .alone) (g .passes) (λ z. h .2 .small) (g .stopped))
+  result-claims idle (ended exact s) o n h = (zeroth, exact-sound _ idle s refl (row-states (s .states) (h .2 .tries .stated .long)) (ended-in exact s o (h .0) n) (h .1) (h .2))
+  result-claims idle (ended (infeasible cause.Growth r) s) o n h =
       let g = h .2 .standing in (
         zeroth,
-        plain-sound _ idle false true s refl (ended-in (infeasible cause.Growth r) s n) (h .1) (g .boxed) (g .alone)
+        plain-sound _ idle false true s refl (ended-in (infeasible cause.Growth r) s o (h .0) n) (h .1) (g .boxed) (g .alone)
             (ended-below (s .counts .passes) (s .counts .sweeps) (h .0) (h .1) (g .passes)) (λ z. absurd (true≢false (sym z))) (g .stopped),
         listed-rows _ cause.Growth r refl (h .2 .some) (h .2 .these)
             (λ k b. grew-reason (s .nu) (getD r k 0) (each-at (λ i. sweep.isGrown (at (s .nu) i) (at (p .scale) i) ≡ true) r (h .2 .these .passing) k b)),
       )
-  result-claims idle (ended (infeasible cause.Pass r) s) n h =
+  result-claims idle (ended (infeasible cause.Pass r) s) o n h =
       let g = h .2 .standing in
       let f = h .2 .rows in (
         zeroth,
-        plain-sound _ idle false false s refl (ended-in (infeasible cause.Pass r) s n) (h .1) (g .boxed) (g .alone) (g .passes) (λ z. absurd (true≢false (sym z))) (g .stopped),
+        plain-sound _ idle false false s refl (ended-in (infeasible cause.Pass r) s o (h .0) n) (h .1) (g .boxed) (g .alone) (g .passes) (λ z. absurd (true≢false (sym z))) (g .stopped),
         listed-rows _ cause.Pass r refl (f .some) (f .these) (unlimited-reasons (s .nu) (s .states) r (g .stated) (f .these)),
       )
-  result-claims idle (ended (infeasible cause.Sweep r) s) n h =
+  result-claims idle (ended (infeasible cause.Sweep r) s) o n h =
       let g = h .2 .standing in
       let f = h .2 .rows in (
         zeroth,
-        plain-sound _ idle false false s refl (ended-in (infeasible cause.Sweep r) s n) (h .1) (g .boxed) (g .alone) (g .passes) (λ z. absurd (true≢false (sym z))) (g .stopped),
+        plain-sound _ idle false false s refl (ended-in (infeasible cause.Sweep r) s o (h .0) n) (h .1) (g .boxed) (g .alone) (g .passes) (λ z. absurd (true≢false (sym z))) (g .stopped),
         listed-rows _ cause.Sweep r refl (f .some) (f .these) (unlimited-reasons (s .nu) (s .states) r (g .stated) (f .these)),
       )
 
@@ -336,39 +340,46 @@ not-bound false s v e f g h = h (sym f ∙ e)
 
 -- every row is Idle, or the sweeps run
 solve-either : (P : Result → Type 0) (p : Problem) (m : Watch) (nu : List Float) (st l : List ℕ)
-    → P (left (solved (nothing (startOf p nu st .idle))) (startOf p nu st .nu) (startOf p nu st .states) l)
-    → P (result p (startOf p nu st .idle) l (run SWEEP_CAP p m (firstIterate (startOf p nu st)) 200))
+    → (startOf p nu st .idle ≡ size p → P (left (solved (nothing (startOf p nu st .idle))) (startOf p nu st .nu) (startOf p nu st .states) l))
+    → ((startOf p nu st .idle ≡ size p → ⊥) → P (result p (startOf p nu st .idle) l (run SWEEP_CAP p m (firstIterate (startOf p nu st)) 200)))
     → P (solve SWEEP_CAP p m nu (take (size p) st) l)
 unfolding solve
-solve-either P p m nu st l x y = go (eqb (startOf p nu st .idle) (size p))
+solve-either P p m nu st l x y = go (eqb (startOf p nu st .idle) (size p)) refl
   where
-    go : (b : Bool)
+    go : (b : Bool) → eqb (startOf p nu st .idle) (size p) ≡ b
         → P (cond b (left (solved (nothing (startOf p nu st .idle))) (startOf p nu st .nu) (startOf p nu st .states) l)
         (result p (startOf p nu st .idle) l (run SWEEP_CAP p m (firstIterate (startOf p nu st)) 200)))
-    go true = x
-    go false = y
+    go true e = x (eqb-true (startOf p nu st .idle) (size p) e)
+    go false e = y (eqb-false (startOf p nu st .idle) (size p) e)
 
 module _ (p : Problem) (nu : List Float) (st l : List ℕ) {room : ℕ} (ok : Accepted p nu st l room) where
   is-started : StartedTo p (size p) (startOf p nu st)
   is-started = start-started p nu (take (size p) st) (ok .values) (length-take-le (size p) st (ok .states))
 
-  start-stands : Stands p (startOf p nu st .states) (startOf p nu st .nu) 0 (firstIterate (startOf p nu st))
-  unfolding sweepsAlone
-  start-stands = record { stated = started-stated p (startOf p nu st) is-started; boxed = is-started .boxed; passes = sym due-zero; alone = refl; stopped = unfold stoppedLast in refl }
+  start-stands : Stands p (clampedTo p nu (size p)) 0 (firstIterate (startOf p nu st))
+  unfolding sweepsAlone stoppedByLast
+  start-stands =
+      record {
+        stated = started-stated p (startOf p nu st) is-started;
+        boxed = is-started .boxed;
+        passes = sym due-zero;
+        alone = start-is p nu (take (size p) st) (size p) (le-refl (size p));
+        stopped = refl;
+      }
 
-  whole-run : (m : Watch) → Runs p (startOf p nu st .states) (startOf p nu st .nu) 200 200 (run SWEEP_CAP p m (firstIterate (startOf p nu st)) 200)
-  whole-run m = run-runs p m (startOf p nu st .states) (startOf p nu st .nu) (firstIterate (startOf p nu st)) (start-stands .stated) refl start-stands
+  whole-run : (m : Watch) → Runs p (clampedTo p nu (size p)) 200 200 (run SWEEP_CAP p m (firstIterate (startOf p nu st)) 200)
+  whole-run m = run-runs p m (clampedTo p nu (size p)) (firstIterate (startOf p nu st)) refl start-stands
 
   solve-modest : (m : Watch) → Reported Modest (solve SWEEP_CAP p m nu (take (size p) st) l .outcome)
   solve-modest m =
-      solve-either (λ x. Reported Modest (x .outcome)) p m nu st l (record { few = zero-le; fewer = zero-le; fewStopped = zero-le; held = ofBits-fits binary64 0 })
-      (result-modest p (startOf p nu st .idle) l (run SWEEP_CAP p m (firstIterate (startOf p nu st)) 200) (startOf p nu st .states) (startOf p nu st .nu) (ok .sized .0) (whole-run m))
+      solve-either (λ x. Reported Modest (x .outcome)) p m nu st l (λ e. record { few = zero-le; fewer = zero-le; fewStopped = zero-le; held = ofBits-fits binary64 0 })
+      (λ e. result-modest p (startOf p nu st .idle) l (run SWEEP_CAP p m (firstIterate (startOf p nu st)) 200) (clampedTo p nu (size p)) (ok .sized .0) (whole-run m))
 
 -- all rows Idle: no row is on a bound, and every multiplier is as the clamp put it
-nothing-claims : (c : Call) → number c ≡ 0 → BoundsInOrder (c .problem) → (ok : Accepted (c .problem) (c .nu) (c .states) (c .listed) (c .room)) → (idle : ℕ)
-    → Claims c (left (solved (nothing idle)) (started c .nu) (started c .states ++ drop (size (c .problem)) (c .states)) (c .listed))
-unfolding inBox sweepsAlone passesMade
-nothing-claims c z fair ok idle =
+nothing-claims : (c : Call) → number c ≡ 0 → BoundsInOrder (c .problem) → (ok : Accepted (c .problem) (c .nu) (c .states) (c .listed) (c .room)) → started c .idle ≡ size (c .problem)
+    → Claims c (left (solved (nothing (started c .idle))) (started c .nu) (started c .states ++ drop (size (c .problem)) (c .states)) (c .listed))
+unfolding inBox sweepsAlone stoppedByLast passesMade
+nothing-claims c z fair ok e =
     let h = is-started (c .problem) (c .nu) (c .states) (c .listed) ok in
     let bound : (i v : ℕ) → i < size (c .problem) → state (started c .states ++ drop (size (c .problem)) (c .states)) i ≡ v → (v ≡ 3 → ⊥) → (v ≡ 0 → ⊥) → ⊥
     = λ i v d y. not-bound (idleRow (c .problem) i) (state (started c .states) i) v (h .states i d)
@@ -377,6 +388,8 @@ nothing-claims c z fair ok idle =
       record {
         madeSweeps = λ k h. absurd (not-suc-le-zero h);
         lastSweep = λ h. absurd (not-suc-le-zero h);
+        noSweep = λ y. none-acts (c .problem) (c .nu) (take (size (c .problem)) (c .states)) (size (c .problem)) (le-refl (size (c .problem))) e;
+        noneActs = λ y. refl;
         madePasses = refl;
         fewSweeps = zero-le;
         passes = sym due-zero;
@@ -384,7 +397,7 @@ nothing-claims c z fair ok idle =
         fewStopped = zero-le;
         leftBySweeps = λ y. absurd (true≢false y);
         written = λ y h. absurd (not-suc-le-zero h);
-        idleLeft = λ i d y. refl;
+        idleLeft = λ i d y. ap (λ (v : List Float). at v i) (start-is (c .problem) (c .nu) (take (size (c .problem)) (c .states)) (size (c .problem)) (le-refl (size (c .problem))));
         inBoxes = λ y. absurd (true≢false y);
         idleInBoxes = λ i d y. h .boxed .boxes (fair .ordered) i d;
         converged = λ x y. absurd (true≢false y);
@@ -398,8 +411,9 @@ solve-claims : (c : Call) (z : number c ≡ 0) (fair : BoundsInOrder (c .problem
 solve-claims c z fair ok =
     let p = c .problem in
     solve-either (λ x. Claims c (answered c z fair ok x)) p (c .watch) (c .nu) (c .states) (c .listed)
-    (nothing-claims c z fair ok (started c .idle))
-    (result-claims c z fair ok (started c .idle) (afterSweeps c 200) (made p (c .watch) (firstIterate (started c)) refl 200)
+    (nothing-claims c z fair ok)
+    (λ o. result-claims c z fair ok (started c .idle) (afterSweeps c 200)
+    (λ n. o (all-idle p (c .nu) (take (size p) (c .states)) n (size p) (le-refl (size p)))) (made p (c .watch) (firstIterate (started c)) refl 200)
     (whole-run p (c .nu) (c .states) (c .listed) ok (c .watch)))
 
 -- ---- a call

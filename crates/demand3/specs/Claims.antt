@@ -3,9 +3,9 @@
 use Prim.Native.Nat.{ℕ, zero, suc, _+_, _*_, _≤_, _<_}
 use mathlib.Core.Path.{_≡_}
 use mathlib.Core.Bool.{Bool, true, false, cond, _&&_, _||_}
-use mathlib.Core.List.{List, [], _∷_, _++_}
+use mathlib.Core.List.{List, [], _∷_}
 use lib.Dec.{leb, ltb}
-use lib.ListN.{length, getD, take, drop, replicate}
+use lib.ListN.{length, getD, set, take, replicate}
 use lib.Ieee.{Float, nan, inf, fin, lt, le, eq, ne}
 use Rattle.floats.specs.Ops.{_⊕_, _⊖_, _⊗_, _⊘_, at, Fits, 0ᶠ, 1e6, 1e-9, ∞, −∞}
 use Rattle.box_rows.specs.Rows.{Problem, size}
@@ -58,6 +58,9 @@ ownResidual p nu i = distance (at nu i) (sumTo p nu i (size p)) (cell p i i) (at
 -- a row acts unless it is Idle, its diagonal NaN or at most 0
 abbrev pub acting : Problem → ℕ → Bool
 acting p i = lt 0ᶠ (cell p i i)
+
+abbrev pub NoneActs : Problem → Type 0
+NoneActs p = (i : ℕ) → i < size p → acting p i ≡ false
 
 -- NaN, or at least lo and at most hi
 abbrev pub NaNOrInBox : Problem → List Float → ℕ → Type 0
@@ -122,37 +125,54 @@ passesMade p m s (suc k) = passesMade p m s k + cond (makesPass p k (run SWEEP_C
 abbrev pub passesIn : Call → ℕ → ℕ
 passesIn c k = passesMade (c .problem) (c .watch) (firstIterate (started c)) k
 
--- The multipliers that k sweeps leave of nu, no exact pass between. A sweep reads of the states only which rows are Idle, and no pass changes that.
-unfoldable pub sweepsAlone : Problem → List ℕ → List Float → ℕ → List Float
-sweepsAlone p st nu zero = nu
-sweepsAlone p st nu (suc k) = oneSweep p st (sweepsAlone p st nu k)
+-- ---- the sweeps' multipliers and the rows that they stop, in these words alone: no name of the solver's definition
+
+-- The multipliers as the first sweep finds them, the first k of them clamped: the row's own where it acts, else 0.
+unfoldable pub clampedTo : Problem → List Float → ℕ → List Float
+clampedTo p nu zero = nu
+clampedTo p nu (suc i) = set (clampedTo p nu i) i (within (cond (acting p i) (at nu i) 0ᶠ) (at (p .lo) i) (at (p .hi) i))
+
+-- where the update of row i puts it before its box is looked at: nu_i - u_i / W_ii
+abbrev pub unclamped : Problem → List Float → ℕ → Float
+unclamped p nu i = at nu i ⊖ sumTo p nu i (size p) ⊘ cell p i i
+
+-- row i updated, where it acts
+unfoldable pub updatedAt : Problem → ℕ → List Float → List Float
+updatedAt p i nu = cond (acting p i) (set nu i (within (unclamped p nu i) (at (p .lo) i) (at (p .hi) i))) nu
+
+-- what a sweep has made of nu when it comes to row i: the rows before it are updated, in order
+unfoldable pub sweptTo : Problem → List Float → ℕ → List Float
+sweptTo p nu zero = nu
+sweptTo p nu (suc i) = updatedAt p i (sweptTo p nu i)
+
+-- The multipliers that k sweeps leave of nu, no exact pass between: only the pass that ends a solve changes a multiplier.
+unfoldable pub sweepsAlone : Problem → List Float → ℕ → List Float
+sweepsAlone p nu zero = nu
+sweepsAlone p nu (suc k) = sweptTo p (sweepsAlone p nu k) (size p)
 
 -- from the clamp before the first sweep on
+abbrev pub firstMultipliers : Call → List Float
+firstMultipliers c = clampedTo (c .problem) (c .nu) (size (c .problem))
+
 abbrev pub bySweeps : Call → ℕ → List Float
-bySweeps c k = sweepsAlone (c .problem) (started c .states) (started c .nu) k
+bySweeps c k = sweepsAlone (c .problem) (firstMultipliers c) k
 
--- ---- the rows that a sweep stops
+-- A bound stops a row that acts and whose update puts it past that bound: below lo or above hi. On a bound is not past it, and a NaN is past none.
+abbrev pub isStoppedAt : Problem → List Float → ℕ → Bool
+isStoppedAt p nu i = acting p i && (lt (unclamped p nu i) (at (p .lo) i) || lt (at (p .hi) i) (unclamped p nu i))
 
--- a bound stops a row whose update would put it past that bound
-abbrev pub pastABound : Float → Float → Float → Bool
-pastABound v lo hi = lt v lo || lt hi v
+-- how many of the first k rows a sweep of nu stops, each when the sweep comes to it
+unfoldable pub stoppedTo : Problem → List Float → ℕ → ℕ
+stoppedTo p nu zero = 0
+stoppedTo p nu (suc i) = stoppedTo p nu i + cond (isStoppedAt p (sweptTo p nu i) i) 1 0
 
--- What row i is updated from, in a sweep from the multipliers v to the multipliers nu: the new ones of the rows before it, the old ones of itself and the rows after it.
-abbrev pub midway : List Float → List Float → ℕ → List Float
-midway v nu i = take i nu ++ drop i v
+-- of all its rows, the last of k sweeps from nu on; none where there is no sweep
+unfoldable pub stoppedByLast : Problem → List Float → ℕ → ℕ
+stoppedByLast p nu zero = 0
+stoppedByLast p nu (suc k) = stoppedTo p (sweepsAlone p nu k) (size p)
 
-abbrev pub isStoppedAt : Problem → List Float → List Float → ℕ → Bool
-isStoppedAt p v nu i = acting p i && pastABound (at v i ⊖ sumTo p (midway v nu i) i (size p) ⊘ cell p i i) (at (p .lo) i) (at (p .hi) i)
-
--- how many of the first k rows
-unfoldable pub stoppedRows : Problem → List Float → List Float → ℕ → ℕ
-stoppedRows p v nu zero = 0
-stoppedRows p v nu (suc i) = stoppedRows p v nu i + cond (isStoppedAt p v nu i) 1 0
-
--- of the last of k sweeps, where there is one
 abbrev pub stoppedInLast : Call → ℕ → ℕ
-stoppedInLast c zero = 0
-stoppedInLast c (suc k) = stoppedRows (c .problem) (bySweeps c k) (bySweeps c (suc k)) (size (c .problem))
+stoppedInLast c k = stoppedByLast (c .problem) (firstMultipliers c) k
 
 -- ---- an exact pass that finds the answer, by the names of its definition
 
@@ -217,8 +237,11 @@ pub record OnBound (p : Problem) (nu : List Float) (i : ℕ) (bound : Float) : T
 pub record Sound (c : Call) (a : Result) (grew : Bool) (r : BoxReport) : Type 0 where
   -- the report carries one for each sweep that the solve made: it was going on after every smaller number of them,
   pub madeSweeps : (k : ℕ) → k < r .sweeps → goesOn (afterSweeps c k) ≡ true
-  -- and it ended in the last, or at 200 (where all rows are Idle it made none)
+  -- and it ended in the last, or at 200;
   pub lastSweep : 0 < r .sweeps → goesOn (afterSweeps c (r .sweeps)) && ltb (r .sweeps) 200 ≡ false
+  -- it made none exactly where no row acts,
+  pub noSweep : r .sweeps ≡ 0 → NoneActs (c .problem)
+  pub noneActs : NoneActs (c .problem) → r .sweeps ≡ 0
   -- and one for each exact pass
   pub madePasses : r .«exact_passes» ≡ passesIn c (r .sweeps)
   -- at most 200 sweeps
