@@ -4,7 +4,7 @@
 //! - `original`: boxed.rs, dense.rs and report.rs were found. They are
 //!   included by path and never copied.
 //! - `port_sqrt`, `port_least_norm`, `port_joins`, `port_solve`,
-//!   `port_tallied`, `port_bend`, `port_chain`, `port_chain_write`,
+//!   `port_tallied`, `port_triangle`, `port_tallied_triangle`, `port_bend`, `port_chain`, `port_chain_write`,
 //!   `port_exact`, `port_exact_nearest`, `port_exact_join`: the static library
 //!   has that function, or those.
 
@@ -17,12 +17,14 @@ use std::process::Command;
 const MODULES: [&str; 3] = ["boxed", "dense", "report"];
 
 /// Each cfg of the port with the symbol that sets it.
-const CALLS: [(&str, &str); 11] = [
+const CALLS: [(&str, &str); 13] = [
     ("port_sqrt", "piskorlu_sqrt"),
     ("port_least_norm", "piskorlu_least_norm"),
     ("port_joins", "piskorlu_continued"),
     ("port_solve", "piskorlu_solve"),
     ("port_tallied", "piskorlu_tallied"),
+    ("port_triangle", "piskorlu_solve_triangle"),
+    ("port_tallied_triangle", "piskorlu_tallied_triangle"),
     ("port_bend", "piskorlu_bend"),
     ("port_chain", "piskorlu_chain_step"),
     ("port_chain_write", "piskorlu_chain_write"),

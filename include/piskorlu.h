@@ -105,6 +105,8 @@ extern "C" {
 #define PISKORLU_REFUSED_LINK 14u
 /* Chained bend files: more than PISKORLU_MOST_STEPS steps, or none to write. */
 #define PISKORLU_REFUSED_STEPS 15u
+/* Triangle solve, in the place of 6: the triangle has not n(n + 1)/2 values. */
+#define PISKORLU_REFUSED_TRIANGLE 16u
 
 /* The most steps of a chained bend file. */
 #define PISKORLU_MOST_STEPS 40
@@ -243,6 +245,36 @@ uint32_t piskorlu_solve(const double *w, size_t w_len,
                         double *workspace, size_t workspace_len,
                         size_t *counts, size_t counts_len,
                         double *residual, size_t residual_len);
+
+/*
+ * piskorlu_solve of the symmetric matrix whose lower triangle is t: every
+ * answer, and what is left in every buffer, is that of piskorlu_solve with the
+ * mirrored matrix as w. The matrix is mirrored inside, on the stack.
+ *
+ * t          the lower triangle by rows, n(n + 1)/2 values: row i has i + 1, up
+ *            to its own entry. W has t[i(i + 1)/2 + j] in row i and column j and
+ *            in row j and column i, for j at most i. (The upper triangle by rows
+ *            is another list from n = 3 on.)
+ *
+ * The others are those of piskorlu_solve. Returns PISKORLU_ACCEPTED, or the
+ * first that applies of 5, 16, 7, 8, 9 and 10 (10 at once where counts or
+ * residual is too short), and then nothing is written.
+ */
+#define PISKORLU_SOLVE_TRIANGLE_STACK 24576
+
+uint32_t piskorlu_solve_triangle(const double *t, size_t t_len,
+                                 const double *u_free, size_t u_free_len,
+                                 const double *lo, size_t lo_len,
+                                 const double *hi, size_t hi_len,
+                                 const double *scale, size_t scale_len,
+                                 const double *motion, size_t motion_len,
+                                 double tolerance,
+                                 double *nu, size_t nu_len,
+                                 uint8_t *states, size_t states_len,
+                                 size_t *rows, size_t rows_len,
+                                 double *workspace, size_t workspace_len,
+                                 size_t *counts, size_t counts_len,
+                                 double *residual, size_t residual_len);
 
 /*
  * Whether the calling thread's floating-point operations are those that the
@@ -456,6 +488,29 @@ uint32_t piskorlu_tallied(uint32_t *tally, size_t tally_len,
                           double *workspace, size_t workspace_len,
                           size_t *counts, size_t counts_len,
                           double *residual, size_t residual_len);
+
+/*
+ * piskorlu_tallied of the symmetric matrix whose lower triangle by rows is t,
+ * as piskorlu_solve_triangle has it. Returns PISKORLU_ACCEPTED, or the first
+ * that applies of 5, 16, 7, 8, 9, 10 and 11, and then nothing is written.
+ */
+#define PISKORLU_TALLIED_TRIANGLE_STACK 24576
+
+uint32_t piskorlu_tallied_triangle(uint32_t *tally, size_t tally_len,
+                                   double *tally_residual, size_t tally_residual_len,
+                                   const double *t, size_t t_len,
+                                   const double *u_free, size_t u_free_len,
+                                   const double *lo, size_t lo_len,
+                                   const double *hi, size_t hi_len,
+                                   const double *scale, size_t scale_len,
+                                   const double *motion, size_t motion_len,
+                                   double tolerance,
+                                   double *nu, size_t nu_len,
+                                   uint8_t *states, size_t states_len,
+                                   size_t *rows, size_t rows_len,
+                                   double *workspace, size_t workspace_len,
+                                   size_t *counts, size_t counts_len,
+                                   double *residual, size_t residual_len);
 
 /*
  * A row sum u_free + W nu without rounding, in an accumulator: a whole number

@@ -158,7 +158,7 @@ JSON_ERRORS = [
     (b"\xff", "byte 0 is not UTF-8; expected JSON text in UTF-8"),
     (b"[" * 100000, "nested too deeply"),
     (b'{"tolerance": 1, "tolerance": 2}', '"tolerance" stands twice in one object; expected once'),
-    ([], "the file: found a list; expected an object with title, note, units, rows, matrix, motion, tolerance, before_start"),
+    ([], "the file: found a list; expected an object with title, note, units, rows, matrix, triangle, motion, tolerance, before_start"),
     (changed(("colour",), 1), 'the file: "colour" is not a field here; expected title'),
     (changed(("rows",), ...), "rows: missing; a description needs rows, matrix and tolerance"),
     (changed(("matrix",), ...), "matrix: missing"),
@@ -197,6 +197,13 @@ JSON_ERRORS = [
     (changed(("matrix",), []), "matrix: found 0 lines; expected 1, one per row"),
     (changed(("matrix",), [[1, 2]]), "matrix, line 0: found 2 values; expected 1, one per row"),
     (changed(("matrix",), [["x"]]), 'matrix, line 0, value 0: found "x"; expected a number such as'),
+    (changed(("matrix",), "upper"), 'matrix: found "upper"; expected a list'),
+    (changed(("matrix",), "lower"), 'triangle: missing; "matrix": "lower" needs it, line i with i + 1 values'),
+    (changed(("triangle",), [[2]]), 'triangle: stands beside a matrix; expected it only with "matrix": "lower"'),
+    ({**changed(("matrix",), "lower"), "triangle": [2]}, "triangle, line 0: found 2; expected a list"),
+    ({**changed(("matrix",), "lower"), "triangle": [[2, 1]]}, "triangle, line 0: found 2 values; expected 1, up to the row's own entry"),
+    ({**changed(("matrix",), "lower"), "triangle": [[2], [1, 2]]}, "matrix: found 2 lines; expected 1, one per row"),
+    ({**changed(("matrix",), "lower"), "triangle": [["x"]]}, 'matrix, line 0, value 0: found "x"; expected a number such as'),
     (changed(("motion",), [[1, 1]]), "motion, line 0: found 2 values; expected 1, one per row"),
     (changed(("motion",), [[1]] * 2049), "motion: 2049 coordinates of 1 values are 2049 values; expected at most 2048"),
     (changed(("motion",), [{"coordinate": "x"}]), "motion, line 0, values: missing; expected coordinate and values"),
@@ -270,6 +277,15 @@ class Descriptions(Folder):
             self.assertEqual([numbers.to_float(v[0]) for v in (made.lo, made.hi, made.scale)], [-2.5, 2.5, 2.5])
         made = describe.build(as_json.read(json.dumps(changed((*ROW, "hi"), "inf")).encode()))
         self.assertEqual((made.lo[0], made.hi[0]), (0, INF))
+
+    def test_lower_triangle(self):
+        """A triangle and the mirrored matrix make one file. Three rows: of two the lower and the upper triangle by rows are the same list."""
+        row = {"kind": "contact", "scale": 1, "free_motion": -1}
+        record = {"rows": [{"name": name, **row} for name in "abc"], "tolerance": 0}
+        lower = {**record, "matrix": "lower", "triangle": [[10], [1, 20], [2, 3, 30]]}
+        full = {**record, "matrix": [[10, 1, 2], [1, 20, 3], [2, 3, 30]]}
+        made = [describe.build(as_json.read(json.dumps(one).encode())) for one in (lower, full)]
+        self.assertEqual(*[binary.encode(one) for one in made])
 
     def test_numbers_in_json(self):
         """-0 keeps its sign; a number too large is not an infinity."""
@@ -391,6 +407,7 @@ REFUSAL_WORDS = {
     13: "sum of a count is above 4,294,967,295",
     14: "fewer than four bytes before a step's numbers, or a link above its own offset",
     15: "more than 40 steps, or none to write",
+    16: "lower triangle does not have rows times (rows + 1) / 2 values",
     17: "a number is NaN or infinite",
     18: "more than 32 products, or a second free motion",
 }

@@ -6,6 +6,7 @@
 
 use crate::bench_chain;
 use crate::bench_exact;
+use crate::bench_triangle;
 use crate::calls::sqrt;
 use crate::plot::{self, Series};
 use crate::port;
@@ -41,6 +42,7 @@ pub fn run(write: bool) -> Result<(), String> {
         let times = sqrt::times(call);
         text.push_str(&root_table(&times));
     }
+    text.push_str(&bench_triangle::table());
     text.push_str(&bench_chain::table());
     text.push_str(&bench_exact::table());
     if text.is_empty() {

@@ -4,6 +4,7 @@
 mod bench;
 mod bench_chain;
 mod bench_exact;
+mod bench_triangle;
 mod bendsolve;
 mod calls;
 mod cases;
@@ -25,6 +26,8 @@ mod run;
 mod stop_tests;
 #[cfg(test)]
 mod tests;
+#[cfg(test)]
+mod triangle_tests;
 mod vectors;
 
 use calls::bend::Bend;
@@ -39,6 +42,7 @@ use calls::least_norm::LeastNorm;
 use calls::nearest::Nearest;
 use calls::solve::Solve;
 use calls::tallied::Tallied;
+use calls::triangle::Triangle;
 use calls::Call;
 use run::{run, show, Totals};
 use std::process::ExitCode;
@@ -217,6 +221,7 @@ fn short(with_original: bool) -> ExitCode {
     square_root(&mut checks, 5_000_000);
     checks.totals::<LeastNorm>(&run::<LeastNorm>(1, 20_000), false);
     checks.totals::<Solve>(&run::<Solve>(1, 8_000), false);
+    checks.totals::<Triangle>(&run::<Triangle>(1, 4_000), false);
     checks.totals::<Joins>(&run::<Joins>(1, 50_000), false);
     checks.totals::<Tallied>(&run::<Tallied>(1, 15_000), false);
     checks.totals::<Bend>(&run::<Bend>(1, 10_000), false);
@@ -260,6 +265,11 @@ fn long(cases: u64) -> ExitCode {
         each(LeastNorm::families().len(), cases / 3),
     );
     differing += long_call::<Solve>(&mut checks, seed, each(Solve::families().len(), cases));
+    differing += long_call::<Triangle>(
+        &mut checks,
+        seed,
+        each(Triangle::families().len(), cases / 3),
+    );
     differing += long_call::<Joins>(&mut checks, seed, each(Joins::families().len(), cases / 3));
     differing += long_call::<Tallied>(
         &mut checks,
@@ -413,6 +423,7 @@ fn one(family: &str, seed: Option<u64>, index: Option<u64>) -> ExitCode {
     };
     let shown = show::<LeastNorm>(family, seed, index)
         || show::<Solve>(family, seed, index)
+        || show::<Triangle>(family, seed, index)
         || show::<Joins>(family, seed, index)
         || show::<Tallied>(family, seed, index)
         || show::<Bend>(family, seed, index)
@@ -433,6 +444,7 @@ fn families() -> ExitCode {
     let names = [
         LeastNorm::families(),
         Solve::families(),
+        Triangle::families(),
         Joins::families(),
         Tallied::families(),
         Bend::families(),

@@ -13,6 +13,7 @@ use crate::calls::least_norm::LeastNorm;
 use crate::calls::nearest::Nearest;
 use crate::calls::solve::Solve;
 use crate::calls::tallied::Tallied;
+use crate::calls::triangle::Triangle;
 use crate::calls::{Call, Zeros};
 use crate::cases::random::Rng;
 use crate::reference::rule::{Rule, RULES};
@@ -130,6 +131,7 @@ fn surveys(each: u64, name: Option<&str>) -> Vec<(Rule, Caught)> {
     let parts = [
         survey::<LeastNorm>(1, each, name),
         survey::<Solve>(1, each, name),
+        survey::<Triangle>(1, each, name),
         survey::<Joins>(1, each, name),
         survey::<Tallied>(1, each, name),
         survey::<Bend>(1, each, name),

@@ -31,6 +31,12 @@ pub const SOLVE: Option<Solve> = Some(piskorlu::calls::solve);
 #[cfg(not(port_solve))]
 pub const SOLVE: Option<Solve> = None;
 
+/// The solve of a triangle, which is lent in W's place.
+#[cfg(port_triangle)]
+pub const TRIANGLE: Option<Solve> = Some(piskorlu::calls::solve_triangle);
+#[cfg(not(port_triangle))]
+pub const TRIANGLE: Option<Solve> = None;
+
 /// The tallied solve; 0, or the number of the refusal.
 pub type Tallied = fn(Tally, Lent) -> u32;
 
@@ -38,6 +44,12 @@ pub type Tallied = fn(Tally, Lent) -> u32;
 pub const TALLIED: Option<Tallied> = Some(piskorlu::calls::tallied);
 #[cfg(not(port_tallied))]
 pub const TALLIED: Option<Tallied> = None;
+
+/// The tallied solve of a triangle.
+#[cfg(port_tallied_triangle)]
+pub const TALLIED_TRIANGLE: Option<Tallied> = Some(piskorlu::calls::tallied_triangle);
+#[cfg(not(port_tallied_triangle))]
+pub const TALLIED_TRIANGLE: Option<Tallied> = None;
 
 #[cfg(port_joins)]
 pub const JOINS: Option<Joins> = Some(Joins {

@@ -29,6 +29,7 @@ REFUSALS = {
     13: "joining reports: the sum of a count is above 4,294,967,295",
     14: "chained bend file: fewer than four bytes before a step's numbers, or a link above its own offset",
     15: "chained bend file: more than 40 steps, or none to write",
+    16: "triangle solve: the lower triangle does not have rows times (rows + 1) / 2 values",
     17: "exact row sum: a number is NaN or infinite",
     18: "exact row sum: more than 32 products, or a second free motion",
 }

@@ -3,10 +3,13 @@
 import json
 
 from . import numbers
-from .describe import ROW_FIELDS, Description, name
+from .describe import ROW_FIELDS, Description, mirrored, name
 from .problem import BadInput, Labels
 
-TOP_FIELDS = ("title", "note", "units", "rows", "matrix", "motion", "tolerance", "before_start")
+TOP_FIELDS = ("title", "note", "units", "rows", "matrix", "triangle", "motion", "tolerance", "before_start")
+
+# What `matrix` says where the matrix is symmetric and its lower triangle stands in `triangle`.
+LOWER = "lower"
 UNIT_FIELDS = ("load", "motion")
 MOTION_FIELDS = ("coordinate", "values")
 
@@ -36,7 +39,7 @@ def read(data):
     motion, labels.coordinates = _motion(_list(top.get("motion", []), "motion"))
     return Description(
         rows=[_row(row, i) for i, row in enumerate(_list(top["rows"], "rows"))],
-        matrix=[_numbers(line, f"matrix, line {i}") for i, line in enumerate(_list(top["matrix"], "matrix"))],
+        matrix=_matrix(top),
         motion=motion,
         tolerance=_number(top["tolerance"], "tolerance"),
         labels=labels,
@@ -103,6 +106,22 @@ def _row(value, index):
     _keys(value, where, ROW_FIELDS)
     read_one = {"name": _text, "kind": _text}
     return {key: read_one.get(key, _number)(v, f"{where}, {key}") for key, v in value.items()}
+
+
+def _matrix(top):
+    """The matrix's lines. Where `matrix` is "lower", `triangle` has the line of row i up to its own entry, i + 1 values, and the rest is mirrored."""
+    value = top["matrix"]
+    if value != LOWER or isinstance(value, Literal):
+        if "triangle" in top:
+            raise BadInput(f'triangle: stands beside a matrix; expected it only with "matrix": "{LOWER}"')
+        return _lines_of(value, "matrix")
+    if "triangle" not in top:
+        raise BadInput(f'triangle: missing; "matrix": "{LOWER}" needs it, line i with i + 1 values')
+    return mirrored(_lines_of(top["triangle"], "triangle"))
+
+
+def _lines_of(value, what):
+    return [_numbers(line, f"{what}, line {i}") for i, line in enumerate(_list(value, what))]
 
 
 def _motion(lines):

@@ -124,6 +124,14 @@ def _block(lines, what, many, width):
     return [[number(text, f"{what}, line {i}, value {j}") for j, text in enumerate(line)] for i, line in enumerate(lines)]
 
 
+def mirrored(lines):
+    """The symmetric matrix of a lower triangle by rows: entry (i, j) with j above i is entry (j, i)."""
+    for i, line in enumerate(lines):
+        if len(line) != i + 1:
+            raise BadInput(f"triangle, line {i}: found {len(line)} values; expected {i + 1}, up to the row's own entry")
+    return [line + [below[i] for below in lines[i + 1 :]] for i, line in enumerate(lines)]
+
+
 def _before(description):
     """The bytes before the numbers that a description asks for."""
     text = description.before_start

@@ -156,6 +156,30 @@ pub fn tallied(tally: Tally, lent: Lent) -> u32 {
     }
 }
 
+/// piskorlu_solve_triangle: `w` is the lower triangle by rows.
+#[inline]
+pub fn solve_triangle(lent: Lent) -> u32 {
+    // SAFETY: see the head of the module.
+    unsafe { with_lent!(piskorlu_solve_triangle, lent) }
+}
+
+/// piskorlu_tallied_triangle: `w` is the lower triangle by rows.
+#[inline]
+pub fn tallied_triangle(tally: Tally, lent: Lent) -> u32 {
+    let (counts, residual) = tally;
+    // SAFETY: see the head of the module.
+    unsafe {
+        with_lent!(
+            piskorlu_tallied_triangle,
+            lent,
+            counts.as_mut_ptr(),
+            counts.len(),
+            residual.as_mut_ptr(),
+            residual.len()
+        )
+    }
+}
+
 /// piskorlu_bend: how many bytes of `out` the lines take.
 pub fn bend(file: &[u8], out: &mut [u8]) -> usize {
     // SAFETY: see the head of the module.
@@ -317,7 +341,9 @@ mod c {
 
     solves! {
         piskorlu_solve();
+        piskorlu_solve_triangle();
         piskorlu_tallied(tally: *mut u32, tally_len: usize, tally_residual: *mut f64, tally_residual_len: usize);
+        piskorlu_tallied_triangle(tally: *mut u32, tally_len: usize, tally_residual: *mut f64, tally_residual_len: usize);
     }
 
     joins! { piskorlu_and piskorlu_continued }

@@ -16,6 +16,7 @@ pub mod nearest;
 pub mod solve;
 pub mod sqrt;
 pub mod tallied;
+pub mod triangle;
 
 use crate::cases::random::Rng;
 use crate::coverage::{Class, Coverage};

@@ -24,3 +24,4 @@ pub mod stop_examples;
 pub mod stops;
 pub mod sums;
 pub mod sweeps;
+pub mod triangles;

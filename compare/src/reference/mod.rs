@@ -27,6 +27,7 @@ pub mod report;
 pub mod rule;
 pub mod solve;
 pub mod state;
+pub mod triangle;
 pub mod whole;
 
 pub use rule::Rule;

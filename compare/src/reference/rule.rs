@@ -7,6 +7,7 @@ pub enum Place {
     Nowhere,
     LeastNorm,
     Solve,
+    Triangle,
     Joins,
     Tally,
     Bend,
@@ -209,6 +210,20 @@ rules! {
     NineBeforeEight, Solve, "9 tested before 8";
     TenBeforeNine, Solve, "10 tested before 9";
     RefusalClampsMultipliers, Solve, "10: multipliers clamped by a refused call";
+
+    TriangleUpper, Triangle, "triangle: taken for the upper triangle by rows";
+    TriangleRowsEarly, Triangle, "triangle: row i begins at i (i - 1) / 2";
+    TriangleDiagonalLast, Triangle, "triangle: the part below the diagonal first, then the diagonal";
+    TriangleBelowZero, Triangle, "triangle: the matrix left 0 below the diagonal";
+    TriangleAboveZero, Triangle, "triangle: the matrix left 0 above the diagonal";
+    TriangleBeforeFive, Triangle, "16 before 5";
+    TriangleAfterSeven, Triangle, "16 after 7";
+    TriangleAfterTen, Triangle, "16 after 10";
+    TriangleShort, Triangle, "16: a triangle that lacks a value taken";
+    TriangleLong, Triangle, "16: a triangle with a value too many taken";
+    TriangleSquare, Triangle, "16: the full matrix taken";
+    TriangleSix, Triangle, "6 for 16";
+    TriangleMirrorsBeyond, Triangle, "the mirrored matrix left in the workspace past its first 2,304 values";
 
     AndResidualFirst, Joins, "and: the first residual";
     AndResidualLast, Joins, "and: the last residual";

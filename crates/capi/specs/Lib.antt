@@ -1,4 +1,5 @@
 pub mod LeastNorm
 pub mod Reports
 pub mod Solves
+pub mod Triangles
 pub mod Tallies

@@ -18,6 +18,7 @@ mod bend;
 mod reports;
 mod solves;
 mod tallying;
+mod triangles;
 
 // The square root, rounded to nearest.
 #[no_mangle]

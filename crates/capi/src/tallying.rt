@@ -13,7 +13,7 @@ use crate::solves;
 use report::SolveReport;
 
 // Whether the slices hold ten counts and a residual of the tally, eight counts and a residual of the answer.
-fn taken(tally: &[u32], tally_residual: &[f64], counts: &[usize], residual: &[f64]) -> bool
+pub fn taken(tally: &[u32], tally_residual: &[f64], counts: &[usize], residual: &[f64]) -> bool
     ensures { λ r. ⌜ r ≡ def.taken (now (tally .entry)) (now («tally_residual» .entry))
         (now (counts .entry)) (now (residual .entry)) ⌝ }
 {
@@ -27,7 +27,7 @@ fn taken(tally: &[u32], tally_residual: &[f64], counts: &[usize], residual: &[f6
 }
 
 // The tally that a solve left, in the lent slices, unless a number refused it.
-fn keep(number: u32, t: SolveReport, tally: &mut [u32], tally_residual: &mut [f64]) -> u32
+pub fn keep(number: u32, t: SolveReport, tally: &mut [u32], tally_residual: &mut [f64]) -> u32
     requires { ⌜ (10 ≤ length (now tally)) × (1 ≤ length (now «tally_residual»)) ⌝ }
     ensures { λ r. ⌜ (r ≡ number) × (now (tally .exit) ≡ def.countsKept number t (now (tally .entry)))
         × (now («tally_residual» .exit) ≡ def.residualKept number t (now («tally_residual» .entry))) ⌝ }

@@ -18,6 +18,7 @@ use Rattle.box_rows.specs.Rows as box
 use Rattle.exact_pass.specs.Ray as rays
 use Rattle.exact_pass.specs.Pass as pass
 use Rattle.boxed.specs.Sweep as sweep
+use Rattle.triangle.specs.Triangle as triangle
 use Rattle.boxed.specs.Solve as solve
 use Rattle.boxed.specs.declared.BoxReport.{BoxReport}
 use Rattle.boxed.specs.declared.Cause.{Cause}
@@ -93,6 +94,8 @@ pub data Case : Type 0 where
   stopping : Input → List ℕ → ℕ → Case
   -- so many states, rows of the list and places of the workspace lent, and the number
   refusing : Input → List ℕ → ℕ → ℕ → ℕ → ℕ → Case
+  -- a triangle, the call's other lists, the multipliers lent, and how many states, rows of the list and places of the workspace; then what comes out, as of a solve
+  lower : List ℕ → Input → List ℕ → ℕ → ℕ → ℕ → Wanted → List ℕ → List ℕ → List ℕ → Case
   -- document 01's least-norm cases: rank, a, b and x
   least-norm : ℕ → ℕ → List ℕ → List ℕ → ℕ → List ℕ → List ℕ → List ℕ → Case
   square-root : ℕ → ℕ → Case
@@ -111,6 +114,11 @@ abbrev pub stoppedIn : solve.Outcome → ℕ → Bool
 stoppedIn (solve.refused i) k = false
 stoppedIn (solve.solved r) k = eqb (r .stopped) k
 stoppedIn (solve.infeasible c l r) k = eqb (r .stopped) k
+
+abbrev pub mirrored : List ℕ → Input → List ℕ → ℕ → ℕ → ℕ → solve.Result
+mirrored t i nu s l room =
+    let p = i .problem in
+    triangle.triangleReply (length t) (triangle.problem (floats t) (p .uFree) (p .lo) (p .hi) (p .scale)) (i .watch) (floats nu) (replicate s 9) (replicate l 7) room
 
 unfoldable pub passes : Case → Bool
 unfolding
@@ -138,10 +146,14 @@ unfolding
     sweep.coordinate sweep.moved sweep.change sweep.classifyRow sweep.classified
     solve.member solve.unless solve.passed solve.checked solve.tested solve.turn solve.run solve.reportOf solve.unfound
     solve.result solve.solve solve.goodScale solve.refusal solve.reply solve.solveReply
+    triangle.rowStart triangle.place triangle.mirrorRow triangle.rowsMirrored triangle.mirrored triangle.withinLimits
+    triangle.wrongLength
+    triangle.triangleRefusal triangle.triangleReply
     add sub mul div ofBits toBits lt le eq ne neg
 passes (solving i nu out st nu′ l) = sameResult (answered i nu (length nu) (length nu) 2304) out st nu′ l
 passes (stopping i nu k) = stoppedIn (answered i nu (length nu) (length nu) 2304 .outcome) k
 passes (refusing i nu s l room k) = sameResult (answered i nu s l room) (refuses k) (replicate s 9) nu (replicate l 7)
+passes (lower t i nu s l room out st nu′ l′) = sameResult (mirrored t i nu s l room) out st nu′ l′
 passes (least-norm m n a b rank a′ b′ x) = sameReply (promise.reply m n (floats a) (floats b) (replicate n nan) 1056) rank a′ b′ x
 passes (square-root v r) = eqb (toBits binary64 (root.sqrt (ofBits binary64 v))) r
 

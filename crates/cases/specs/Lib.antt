@@ -5,3 +5,4 @@ pub mod Further
 pub mod Refusals
 pub mod Errors
 pub mod Stopped
+pub mod Triangles

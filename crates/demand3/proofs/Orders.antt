@@ -134,7 +134,7 @@ same-number n = go (eqb n 0) refl
 
 -- on a tally that is not full a solve is answered as it is alone
 answer-is : (t : SolveReport) (c : Call) → full t ≡ false → answerOn t c ≡ alone c
-unfolding answerOn numberOn alone solveReply
+unfolding answerOn numberOn alone
 answer-is t c h =
     ap (reply SWEEP_CAP (c .problem) (c .watch) (c .nu) (c .states) (c .listed)) (ap (λ (b : Bool). cond (eqb (number c) 0) (cond b 11 0) (number c)) h ∙ same-number (number c))
 

@@ -31,6 +31,7 @@ use Rattle.boxed.proofs.Accepting.{Accepted, accepted}
 use Rattle.boxed.specs.declared.BoxReport.{BoxReport}
 use Rattle.boxed.specs.declared.Cause.{Cause}
 use Rattle.boxed.specs.declared.Cause.the-variants as cause
+use Rattle.triangle.proofs.Mirrored.{not-refused}
 use Rattle.tally.specs.Tally.{Call, number, alone}
 use Rattle.demand3.specs.Claims.{sweepsAlone, BoundsInOrder, NaNOrInBox, acting, NoneActs, notAbove, below, startOf, started, firstIterate, afterSweeps, goesOn, passesMade, passesIn, clampedTo, firstMultipliers, bySweeps, stoppedByLast, stoppedInLast, rowStates, ownResidual, OnBound, Sound, Reason, Listed, Claims}
 use Rattle.demand3.proofs.Words.{lt-abs, acts-above, diagonal, own-is, rising-at, gathered-few}
@@ -419,7 +420,9 @@ solve-claims c z fair ok =
 -- ---- a call
 
 is-accepted : (c : Call) → number c ≡ 0 → Accepted (c .problem) (c .nu) (c .states) (c .listed) (c .room)
-is-accepted c e = accepted (c .problem) (c .watch .motion) (c .nu) (c .states) (c .listed) (c .room) e
+is-accepted c e =
+    accepted (c .problem) (c .watch .motion) (c .nu) (c .states) (c .listed) (c .room)
+    (not-refused (c .sent) (c .problem) (c .watch .motion) (c .nu) (c .states) (c .listed) (c .room) e)
 
 reply-modest : (c : Call) (k : ℕ) → number c ≡ k → Reported Modest (reply SWEEP_CAP (c .problem) (c .watch) (c .nu) (c .states) (c .listed) k .outcome)
 unfolding reply
@@ -432,9 +435,9 @@ reply-claims c fair zero e = solve-claims c e (fair e) (is-accepted c e)
 reply-claims c fair (suc k) e = record { refusedBy = e; nuKept = refl; statesKept = refl; listKept = refl; workspaceKept = refl }
 
 pub modest : (c : Call) → Reported Modest (alone c .outcome)
-unfolding alone solveReply
+unfolding alone
 modest c = reply-modest c (number c) refl
 
 pub claims : (c : Call) → (number c ≡ 0 → BoundsInOrder (c .problem)) → Claims c (alone c)
-unfolding alone solveReply
+unfolding alone
 claims c fair = reply-claims c fair (number c) refl

@@ -48,8 +48,8 @@ module _ (t : SolveReport) (c : Call) where
   same-number (suc k) = rw (ne-eqb (suc k) 0 (λ e. omega (arith, e)))
 
   pub on-room : full t ≡ false → (s : SolveReport) (r : BoxAnswer) (nu : List Float) (st q : List ℕ) (w w′ : List Float)
-      → Left (solve.solveReply (c .problem) (c .watch) (c .nu) (c .states) (c .listed) (c .room)) r nu st q w w′ → s ≡ joinedBy t r
+      → Left (reply (number c)) r nu st q w w′ → s ≡ joinedBy t r
       → Entered (tallied t c) s r nu st q w w′
-  unfolding tallied def.answerOn def.numberOn def.with solve.solveReply
+  unfolding tallied def.answerOn def.numberOn def.with
   on-room f s r nu st q w w′ l e =
       rw (f, same-number (number c)) (record { tally = e ∙ ap (joinedBy t) (l .answer) ∙ joined-by t (reply (number c) .outcome); left = l })

@@ -6,12 +6,17 @@ use lib.Ieee.{Float}
 use Rattle.box_rows.specs.Rows.{Problem}
 use Rattle.boxed.specs.Solve.{Watch, Left}
 use Rattle.boxed.specs.declared.BoxAnswer.{BoxAnswer}
+use Rattle.triangle.specs.Triangle.{Sent, whole, triangle}
 use Rattle.report.specs.declared.SolveReport.{SolveReport}
 use Rattle.tally.specs.Tally.{Call, Tallied}
 
 -- what is lent to a call
 abbrev pub call : Problem → Watch → List Float → List ℕ → List ℕ → ℕ → Call
-call p m nu st l room = record { problem = p; watch = m; nu = nu; states = st; listed = l; room = room }
+call p m nu st l room = record { sent = whole; problem = p; watch = m; nu = nu; states = st; listed = l; room = room }
+
+-- of a triangle of k values; p has the mirrored matrix
+abbrev pub triangleCall : ℕ → Problem → Watch → List Float → List ℕ → List ℕ → ℕ → Call
+triangleCall k p m nu st l room = record { sent = triangle k; problem = p; watch = m; nu = nu; states = st; listed = l; room = room }
 
 -- The tally that a call leaves is that of the tallied solve x, and so are its answer and what it leaves in the multipliers, the states, the row list and the workspace, which
 -- held w before the call and w′ after it.

@@ -18,6 +18,7 @@ use Rattle.exact_pass.specs.Ray as rays
 use Rattle.exact_pass.specs.Pass as pass
 use Rattle.boxed.specs.Sweep as sweep
 use Rattle.boxed.specs.Solve as solve
+use Rattle.triangle.specs.Triangle.{whole}
 use Rattle.report.specs.Joins as report
 use Rattle.report.specs.declared.SolveReport.{SolveReport}
 use Rattle.tally.specs.Tally as def
@@ -31,6 +32,7 @@ floats l = map (ofBits binary64) l
 abbrev pub call : ℕ → List ℕ → List ℕ → List ℕ → List ℕ → List ℕ → List ℕ → def.Call
 call room w u lo hi s nu =
     record {
+      sent = whole;
       problem = box.problem (floats w) (floats u) (floats lo) (floats hi) (floats s);
       watch = record { motion = []; tolerance = ofBits binary64 0 };
       nu = floats nu;

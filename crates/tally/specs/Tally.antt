@@ -5,14 +5,16 @@ use mathlib.Core.List.{List, [], _∷_}
 use lib.Dec.{ltb, eqb}
 use lib.Ieee.{Float}
 use Rattle.box_rows.specs.Rows.{Problem}
-use Rattle.boxed.specs.Solve.{Watch, Outcome, refused, solved, infeasible, Result, refusal, reply, solveReply, SWEEP_CAP}
+use Rattle.boxed.specs.Solve.{Watch, Outcome, refused, solved, infeasible, Result, reply, SWEEP_CAP}
 use Rattle.boxed.specs.declared.BoxReport.{BoxReport}
+use Rattle.triangle.specs.Triangle.{Sent, refusalOf}
 use Rattle.report.specs.Joins as report
 use Rattle.report.specs.declared.SolveReport.{SolveReport}
 
--- What a solve is given: the problem with its watched motion, and what its buffers hold as lent. Of the workspace it is the length alone, since no answer depends on what
+-- What a solve is given: the problem with its watched motion, the form in which its matrix came (of a triangle the problem has the mirrored matrix), and what its buffers hold as lent. Of the workspace it is the length alone, since no answer depends on what
 -- the workspace held.
 pub record Call : Type 0 where
+  pub sent : Sent
   pub problem : Problem
   pub watch : Watch
   pub nu : List Float
@@ -20,13 +22,13 @@ pub record Call : Type 0 where
   pub listed : List ℕ
   pub room : ℕ
 
--- the number of the solve by itself, 5 to 10, or 0 where it is accepted
+-- the number of the solve by itself, 5 to 10 with 16 in the place of 6 for a triangle, or 0 where it is accepted
 abbrev pub number : Call → ℕ
-number c = refusal (c .problem) (c .watch .motion) (c .nu) (c .states) (c .listed) (c .room)
+number c = refusalOf (c .sent) (c .problem) (c .watch .motion) (c .nu) (c .states) (c .listed) (c .room)
 
 -- the answer of the solve by itself
 unfoldable pub alone : Call → Result
-alone c = solveReply (c .problem) (c .watch) (c .nu) (c .states) (c .listed) (c .room)
+alone c = reply SWEEP_CAP (c .problem) (c .watch) (c .nu) (c .states) (c .listed) (number c)
 
 -- ---- a report joined to the tally
 

@@ -1,0 +1,3 @@
+pub mod Mirrored
+pub mod Refusing
+pub mod Scratch
