@@ -34,7 +34,7 @@ fn both(rng: &mut Rng, n: usize) -> Both {
 fn time<'a>(problems: impl ExactSizeIterator<Item = &'a Owned>, call: Solve) -> f64 {
     let mut workspace = vec![0.0; 2_304];
     let (mut states, mut rows) = ([0; 32], [0; 32]);
-    let (mut counts, mut residual) = ([0; 7], [0.0]);
+    let (mut counts, mut residual) = ([0; 8], [0.0]);
     let mut made: Vec<(&Owned, Vec<f64>)> = problems.map(|p| (p, p.nu.clone())).collect();
     let start = Instant::now();
     for (p, nu) in &mut made {

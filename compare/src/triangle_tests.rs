@@ -7,7 +7,7 @@ use crate::reference::rule::Rule;
 use crate::reference::solve::{Cause, Outcome};
 use crate::reference::triangle::{mirrored, solve_triangle};
 
-const EXAMPLES: &str = include_str!("cases/triangle_examples.txt");
+const EXAMPLES: &str = include_str!("../examples/triangles.txt");
 
 struct Example {
     number: usize,
@@ -80,12 +80,13 @@ fn words(answer: &Answer) -> String {
     let nu: Vec<String> = answer.nu.iter().map(bits).collect();
     let rows: Vec<String> = answer.rows[..listed].iter().map(usize::to_string).collect();
     format!(
-        "out {name} sweeps {} passes {} converged {} exact {} idle {} residual {} states {} nu {} rows {}",
+        "out {name} sweeps {} passes {} converged {} exact {} idle {} stopped {} residual {} states {} nu {} rows {}",
         r.sweeps,
         r.exact_passes,
         u8::from(r.converged),
         u8::from(r.exact),
         r.idle,
+        r.stopped,
         bits(&r.residual),
         or_none(states),
         or_none(nu.join(" ")),

@@ -1,4 +1,5 @@
 pub mod LeastNorm
 pub mod Room
+pub mod Lower
 pub mod Solving
 pub mod Entering

@@ -1,4 +1,4 @@
--- The solve of a triangle by plain numbers: as a solve's, 10 too where there is no room for seven counts or the residual. Definitions only.
+-- The solve of a triangle by plain numbers: as a solve's, 10 too where there is no room for eight counts or the residual. Definitions only.
 use Prim.Native.Nat.{ℕ}
 use mathlib.Core.Bool.{Bool, true, false}
 use mathlib.Core.List.{List}

@@ -95,7 +95,7 @@ pub extern "C" fn piskorlu_tallied_triangle(
 {
     if tallying::taken(tally, tally_residual, counts, residual) {
         let held = reports::read(tally, tally_residual[0]);
-        let s = tallied::tallied_triangle(
+        let s = tallied::triangles::tallied_triangle(
             held,
             t,
             u_free,

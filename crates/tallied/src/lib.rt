@@ -7,7 +7,6 @@ ghost use lib.ListN.{length};
 ghost use Rattle.box_rows.specs.Rows as box;
 ghost use Rattle.boxed.specs.Solve as solve;
 ghost use Rattle.report.specs.Joins as join;
-ghost use Rattle.triangle.specs.Triangle as lower;
 ghost use Rattle.tally.specs.Tally as def;
 ghost use Rattle.tallied.specs.Joining as said;
 ghost use Rattle.tallied.specs.Private as private;
@@ -16,6 +15,8 @@ use boxed::BoxReport;
 use boxed::BoxSolver;
 use report::Joined;
 use report::SolveReport;
+
+pub mod triangles;
 
 // The tally that a solve leaves, and its answer.
 pub struct Tallied {
@@ -178,102 +179,6 @@ pub fn solve_into(
     let s = tallied_solve(
         t,
         w,
-        u_free,
-        lo,
-        hi,
-        scale,
-        motion,
-        tolerance,
-        nu,
-        states,
-        rows,
-        workspace,
-    );
-    *tally = s.tally;
-    s.answer
-}
-
-// The same solve of a triangle: 5, 16 and 7 to 10 are tested first, then 11.
-pub fn tallied_triangle(
-    tally: SolveReport,
-    t: &[f64],
-    u_free: &[f64],
-    lo: &[f64],
-    hi: &[f64],
-    scale: &[f64],
-    motion: &[f64],
-    tolerance: f64,
-    nu: &mut [f64],
-    states: &mut [u8],
-    rows: &mut [usize],
-    workspace: &mut [f64],
-) -> Tallied
-    ensures { λ r. ⌜
-        said.Entered
-        (def.tallied tally
-        (said.triangleCall (length (now (t .entry)))
-        (lower.problem (now (t .entry)) (now («u_free» .entry)) (now (lo .entry)) (now (hi .entry)) (now (scale .entry)))
-        (solve.watch (now (motion .entry)) tolerance)
-        (now (nu .entry)) (now (states .entry)) (now (rows .entry)) (length (now (workspace .entry)))))
-        (r .tally) (r .answer) (now (nu .exit)) (now (states .exit)) (now (rows .exit))
-        (now (workspace .entry)) (now (workspace .exit)) ⌝ }
-{
-    if full(tally) {
-        let room = workspace.len();
-        let number = triangle::refusal(t, u_free, lo, hi, scale, motion, nu, states, rows, room);
-        return Tallied {
-            tally,
-            answer: BoxAnswer::Refused(or_eleven(number)),
-        };
-    }
-    let answer = triangle::solve(
-        t,
-        u_free,
-        lo,
-        hi,
-        scale,
-        motion,
-        tolerance,
-        nu,
-        states,
-        rows,
-        workspace,
-    );
-    Tallied {
-        tally: joined_by(tally, answer),
-        answer,
-    }
-}
-
-// The same on a tally that is lent: it is updated in its place. One that is refused leaves it as it was.
-pub fn triangle_into(
-    tally: &mut SolveReport,
-    t: &[f64],
-    u_free: &[f64],
-    lo: &[f64],
-    hi: &[f64],
-    scale: &[f64],
-    motion: &[f64],
-    tolerance: f64,
-    nu: &mut [f64],
-    states: &mut [u8],
-    rows: &mut [usize],
-    workspace: &mut [f64],
-) -> BoxAnswer
-    ensures { λ r. ⌜
-        said.Entered
-        (def.tallied (now (tally .entry))
-        (said.triangleCall (length (now (t .entry)))
-        (lower.problem (now (t .entry)) (now («u_free» .entry)) (now (lo .entry)) (now (hi .entry)) (now (scale .entry)))
-        (solve.watch (now (motion .entry)) tolerance)
-        (now (nu .entry)) (now (states .entry)) (now (rows .entry)) (length (now (workspace .entry)))))
-        (now (tally .exit)) r (now (nu .exit)) (now (states .exit)) (now (rows .exit))
-        (now (workspace .entry)) (now (workspace .exit)) ⌝ }
-{
-    let held = *tally;
-    let s = tallied_triangle(
-        held,
-        t,
         u_free,
         lo,
         hi,

@@ -18,7 +18,7 @@ use Rattle.exact_pass.specs.Ray as rays
 use Rattle.exact_pass.specs.Pass as pass
 use Rattle.boxed.specs.Sweep as sweep
 use Rattle.boxed.specs.Solve as solve
-use Rattle.triangle.specs.Triangle.{whole}
+use Rattle.triangle.specs.Triangle.{whole, triangle, rowStart, withinLimits, wrongLength, triangleRefusal, refusalOf}
 use Rattle.report.specs.Joins as report
 use Rattle.report.specs.declared.SolveReport.{SolveReport}
 use Rattle.tally.specs.Tally as def
@@ -77,6 +77,11 @@ growsBeside =
 -- a scale of 0, which is number 8
 abbrev pub refuses : def.Call
 refuses = call 2304 (one ∷ []) (0 ∷ []) (0 ∷ []) (0 ∷ []) (0 ∷ []) (one ∷ [])
+
+-- the same with W sent as a triangle of k values
+abbrev pub lower : ℕ → def.Call → def.Call
+lower k c =
+    record { sent = triangle k; problem = c .problem; watch = c .watch; nu = c .nu; states = c .states; listed = c .listed; room = c .room }
 
 -- ---- what must come out
 
@@ -173,7 +178,11 @@ cases =
     (counts 4 4 3 3 false false 0) (0 ∷ 0 ∷ 8 ∷ 0 ∷ 0 ∷ []) ∷
     case "11 by rows stopped, though this solve would stop none" (tallyOf 0 0 0 4294967264) (exact 2304 ∷ []) (tallyOf 0 0 0 4294967264) (11 ∷ []) ∷
     case "one row stopped below, then 11" (tallyOf 0 0 0 4294967263) (stops ∷ empty ∷ []) (tallyOf 1 1 1 4294967264) (0 ∷ 11 ∷ []) ∷
-    case "10 and 8 before 11" (tallyOf 4294967295 0 0 0) (exact 2303 ∷ refuses ∷ empty ∷ []) (tallyOf 4294967295 0 0 0) (10 ∷ 8 ∷ 11 ∷ []) ∷ []
+    case "10 and 8 before 11" (tallyOf 4294967295 0 0 0) (exact 2303 ∷ refuses ∷ empty ∷ []) (tallyOf 4294967295 0 0 0) (10 ∷ 8 ∷ 11 ∷ []) ∷
+    case "a triangle is tallied as its mirrored matrix, and one of another length gets 16" report.NOTHING (lower 3 fights ∷ lower 4 fights ∷ grows ∷ [])
+    (counts 2 2 1 0 false false 0x4000000000000000) (0 ∷ 16 ∷ 0 ∷ []) ∷
+    case "16 before 8, and both before 11" (tallyOf 4294967295 0 0 0) (lower 2 refuses ∷ lower 1 refuses ∷ lower 3 fights ∷ []) (tallyOf 4294967295 0 0 0)
+    (16 ∷ 8 ∷ 11 ∷ []) ∷ []
 
 table : allPass cases ≡ true
 unfolding
@@ -199,7 +208,7 @@ unfolding
     sweep.startRow sweep.start sweep.sweepRow sweep.sweep sweep.stops sweep.stopped sweep.isGrown sweep.residualRow sweep.residual
     sweep.coordinate sweep.moved sweep.change sweep.classifyRow sweep.classified
     solve.member solve.unless solve.passed solve.checked solve.tested solve.turn solve.run solve.reportOf solve.unfound
-    solve.result solve.solve solve.goodScale solve.refusal solve.reply solve.solveReply
+    solve.result solve.solve solve.goodScale solve.refusal solve.reply rowStart withinLimits wrongLength triangleRefusal refusalOf
     add sub mul div ofBits toBits lt le eq ne neg
     report.sumFits report.sumsFit report.allSumsFit report.and
     def.alone def.turned def.full def.numberOn def.answerOn def.with def.tallied def.before def.all

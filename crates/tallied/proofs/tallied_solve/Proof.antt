@@ -1,5 +1,7 @@
 -- `tallied::tallied_solve` meets its contract. Assumes nothing.
 use mathlib.Core.Path.{refl, sym, _∙_}
+use Rattle.boxed.specs.Solve.{solveReply}
+use Rattle.triangle.specs.Triangle.{refusalOf}
 use Rattle.tallied.proofs.Entering.{on-full, on-room}
 use borrow.Author.Needs.{needs}
 use Rattle.tallied.proofs.tallied_solve.Statement.{statement}
@@ -24,6 +26,7 @@ same-length-3 : tie.Need-same-length-3
 same-length-3 c = search needs
 
 returns : tie.Need-returns
+unfolding refusalOf
 returns c =
     let full = c .before .before .before .before .before .before .full .ensures in
     on-full _ _ (sym full ∙ c .before .before .before .before .before .if1 .taken) _ (rw (← c .before .refusal .ensures) (c .or-eleven .ensures)) _
@@ -47,6 +50,7 @@ same-length-7 : tie.Need-same-length-7
 same-length-7 c = search needs
 
 returns-2 : tie.Need-returns-2
+unfolding refusalOf solveReply
 returns-2 c =
     let full = c .before .before .before .before .before .before .before .before .before .before .before .before .before .before .before .full .ensures in
     on-room _ _ (sym full ∙ c .before .before .before .before .before .before .before .before .before .before .before .before .before .before .if1 .left) _ _ _ _ _ _ _ (c .before .before .before .before .before .before .before .before .before .solve .ensures) (c .joined-by .ensures)

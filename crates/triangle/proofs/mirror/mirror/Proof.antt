@@ -58,7 +58,7 @@ mirror-row-requires : tie.Need-mirror-row-requires Inv-loop μ-loop
 mirror-row-requires c κs =
     let at-loop = c .before .before in
     let at-pre = at-loop .before .before .before in
-    let more = c .before .loop-test .taken in
+    let more : at-loop .loop .i < at-pre .args .n = omega (arith, c .before .loop-test .taken) in
     (at-pre .pre .0, at-pre .pre .1, more, part-length _ _ _ (at-loop .loop .inv .1 ∙ at-pre .pre .2) more)
 
 add-i : tie.Need-add-i Inv-loop μ-loop
