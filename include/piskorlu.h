@@ -366,6 +366,8 @@ static inline const char *piskorlu_number_in_words(uint32_t number)
         return "chained bend file: no link before a step's numbers, or one too high";
     case PISKORLU_REFUSED_STEPS:
         return "chained bend file: more than 40 steps, or none to write";
+    case PISKORLU_REFUSED_TRIANGLE:
+        return "triangle solve: the lower triangle has not n(n + 1)/2 values";
     case PISKORLU_REFUSED_NOT_FINITE:
         return "exact sum: a value that is NaN or infinite";
     case PISKORLU_REFUSED_EXACT_FULL:

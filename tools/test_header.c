@@ -61,6 +61,36 @@ static uint32_t tallied(Problem *p, uint32_t *tally, double *tally_residual)
                             PISKORLU_SOLVE_COUNTS, p->residual, 1);
 }
 
+/* The lower triangle of p's matrix, by rows; how many values. */
+static size_t lower(const Problem *p, double *t)
+{
+    size_t i, j, k = 0;
+    for (i = 0; i < p->n; i++)
+        for (j = 0; j <= i; j++)
+            t[k++] = p->w[i * p->n + j];
+    return k;
+}
+
+static uint32_t solve_triangle(Problem *p, const double *t, size_t values)
+{
+    size_t n = p->n;
+    return piskorlu_solve_triangle(t, values, p->u_free, n, p->lo, n, p->hi, n, p->scale, n,
+                                   p->motion, p->coords * n, p->tolerance, p->nu, n, p->states, n,
+                                   p->rows, n, p->workspace, PISKORLU_SOLVE_WORKSPACE, p->counts,
+                                   PISKORLU_SOLVE_COUNTS, p->residual, 1);
+}
+
+static uint32_t tallied_triangle(Problem *p, const double *t, size_t values, uint32_t *tally,
+                                 double *tally_residual)
+{
+    size_t n = p->n;
+    return piskorlu_tallied_triangle(tally, PISKORLU_REPORT_COUNTS, tally_residual, 1, t, values,
+                                     p->u_free, n, p->lo, n, p->hi, n, p->scale, n, p->motion,
+                                     p->coords * n, p->tolerance, p->nu, n, p->states, n, p->rows,
+                                     n, p->workspace, PISKORLU_SOLVE_WORKSPACE, p->counts,
+                                     PISKORLU_SOLVE_COUNTS, p->residual, 1);
+}
+
 /* One row: lo 0, hi infinite, scale 1, nothing watched. */
 static void one_row(Problem *p, double w, double u_free)
 {
@@ -164,6 +194,37 @@ static void refusals(void)
         for (j = 0; j < k; j++)
             check(strcmp(piskorlu_number_in_words(k), piskorlu_number_in_words(j)) != 0, "its own words");
     }
+}
+
+static void triangles(void)
+{
+    static Problem full, other;
+    static double t[1024];
+    size_t n, values;
+
+    for (n = 0; n <= 32; n++) {
+        uint32_t tally[] = PISKORLU_REPORT_OF_NO_SOLVE, same[] = PISKORLU_REPORT_OF_NO_SOLVE;
+        double residual[1] = {0.0}, same_residual[1] = {0.0};
+        random_problem(&full, n);
+        other = full;
+        values = lower(&full, t);
+        check(tallied(&full, tally, residual) == PISKORLU_ACCEPTED && solve_triangle(&other, t, values) == PISKORLU_ACCEPTED, "taken");
+        check(memcmp(&full, &other, sizeof full) == 0, "a triangle is solved as its mirrored matrix, the workspace too");
+        random_problem(&full, n);
+        other = full;
+        values = lower(&full, t);
+        check(tallied(&full, tally, residual) == tallied_triangle(&other, t, values, same, same_residual), "tallied");
+        check(memcmp(&full, &other, sizeof full) == 0, "a tallied one too");
+        check(same[PISKORLU_REPORT_INCREMENTS] == 1 && tally[PISKORLU_REPORT_INCREMENTS] == 2, "each joins its tally");
+        other = full;
+        check(solve_triangle(&other, t, values + 1) == PISKORLU_REFUSED_TRIANGLE, "16, a value more");
+        check(n == 0 || solve_triangle(&other, t, values - 1) == PISKORLU_REFUSED_TRIANGLE, "16, a value less");
+        check(n < 2 || solve_triangle(&other, t, n * n) == PISKORLU_REFUSED_TRIANGLE, "16, as many as a whole matrix");
+        check(tallied_triangle(&other, t, values + 1, same, same_residual) == PISKORLU_REFUSED_TRIANGLE && same[PISKORLU_REPORT_INCREMENTS] == 1,
+              "16, tallied");
+        check(memcmp(&full, &other, sizeof full) == 0, "and nothing written");
+    }
+    check(strcmp(piskorlu_number_in_words(PISKORLU_REFUSED_TRIANGLE), piskorlu_number_in_words(0xFFFFFFFFu)) != 0, "16 has words");
 }
 
 /* A bend file of one row, whose last 16 bytes are the trailer; its length. */
@@ -412,6 +473,17 @@ static void call_tallied(void)
     static double residual[1];
     tallied(&stack_problem, tally, residual);
 }
+static void call_triangle(void)
+{
+    static double t[528];
+    solve_triangle(&stack_problem, t, lower(&stack_problem, t));
+}
+static void call_tallied_triangle(void)
+{
+    static uint32_t tally[] = PISKORLU_REPORT_OF_NO_SOLVE;
+    static double residual[1], t[528];
+    tallied_triangle(&stack_problem, t, lower(&stack_problem, t), tally, residual);
+}
 static void call_least_norm(void)
 {
     static uint32_t rank[1];
@@ -482,6 +554,8 @@ static void stacks(void)
                  {"piskorlu_least_norm", call_least_norm, PISKORLU_LEAST_NORM_STACK},
                  {"piskorlu_solve", call_solve, PISKORLU_SOLVE_STACK},
                  {"piskorlu_tallied", call_tallied, PISKORLU_TALLIED_STACK},
+                 {"piskorlu_solve_triangle", call_triangle, PISKORLU_SOLVE_TRIANGLE_STACK},
+                 {"piskorlu_tallied_triangle", call_tallied_triangle, PISKORLU_TALLIED_TRIANGLE_STACK},
                  {"piskorlu_and, piskorlu_continued", call_joins, PISKORLU_JOIN_STACK},
                  {"piskorlu_bend", call_bend, PISKORLU_BEND_STACK}};
     const size_t page = (size_t)sysconf(_SC_PAGESIZE);
@@ -574,6 +648,7 @@ int main(void)
 {
     check(strcmp(PISKORLU_VERSION, "") != 0, "a version");
     refusals();
+    triangles();
     files();
     places();
     loads();

@@ -32,8 +32,10 @@ __all__ = [
     "environment_ok",
     "least_norm",
     "solve",
+    "solve_triangle",
     "sqrt",
     "tallied",
+    "tallied_triangle",
     "VERSION",
 ]
 
@@ -62,6 +64,7 @@ NUMBERS = {
     13: "joins: a count's sum too large, or a buffer too short",
     14: "chained bend file: no link before a step's numbers, or one too high",
     15: "chained bend file: more than 40 steps, or none to write",
+    16: "triangle solve: the lower triangle has not n(n + 1)/2 values",
     17: "exact sum: a value that is NaN or infinite",
     18: "exact sum: more than 32 products, or a second free motion",
 }
@@ -173,9 +176,11 @@ _CALLS = {
     "piskorlu_sqrt": ([_DOUBLE], _DOUBLE),
     "piskorlu_least_norm": (_LEAST_NORM, ctypes.c_uint32),
     "piskorlu_solve": (_SOLVE, ctypes.c_uint32),
+    "piskorlu_solve_triangle": (_SOLVE, ctypes.c_uint32),
     "piskorlu_and": (_JOIN, ctypes.c_uint32),
     "piskorlu_continued": (_JOIN, ctypes.c_uint32),
     "piskorlu_tallied": ([_COUNTS, _SIZE, _DOUBLES, _SIZE] + _SOLVE, ctypes.c_uint32),
+    "piskorlu_tallied_triangle": ([_COUNTS, _SIZE, _DOUBLES, _SIZE] + _SOLVE, ctypes.c_uint32),
     "piskorlu_bend": ([_BYTES, _SIZE, _BYTES, _SIZE], _SIZE),
     "piskorlu_exact_free": ([_DOUBLE] + _ACCUMULATOR, ctypes.c_uint32),
     "piskorlu_exact_product": ([_DOUBLE, _DOUBLE] + _ACCUMULATOR, ctypes.c_uint32),
@@ -234,6 +239,16 @@ def _flat(matrix, n, number):
     return [v for row in rows for v in row]
 
 
+def _lower(triangle):
+    """The lines of a lower triangle as one list, line i with i + 1 values; a flat list stays as it is."""
+    lines = list(triangle)
+    if not any(hasattr(line, "__len__") for line in lines):
+        return lines
+    if not all(hasattr(line, "__len__") and len(line) == i + 1 for i, line in enumerate(lines)):
+        raise Refused(16)
+    return [v for line in lines for v in line]
+
+
 # ---- the calls
 
 
@@ -255,13 +270,13 @@ def least_norm(a, b):
     return LeastNorm(list(x), rank[0], list(left), list(side))
 
 
-def _solve(call, before, w, u_free, lo, hi, scale, nu, motion, tolerance):
+def _solve(call, before, matrix, u_free, lo, hi, scale, nu, motion, tolerance):
     u_free = list(u_free)
     n = len(u_free)
     multipliers = _doubles([0.0] * n if nu is None else nu)
     states, rows = (ctypes.c_uint8 * n)(), (ctypes.c_size_t * n)()
     counts, residual = (ctypes.c_size_t * SOLVE_COUNTS)(), (ctypes.c_double * 1)()
-    given = [_doubles(v) for v in (_flat(w, n, 6), u_free, lo, hi, scale, _flat(motion, n, 9))]
+    given = [_doubles(v) for v in (matrix(n), u_free, lo, hi, scale, _flat(motion, n, 9))]
     workspace = _doubles([0.0] * SOLVE_WORKSPACE)
     number = call(*before, *_lent(*given), tolerance, *_lent(multipliers, states, rows, workspace, counts, residual))
     if number:
@@ -284,13 +299,27 @@ def _solve(call, before, w, u_free, lo, hi, scale, nu, motion, tolerance):
 
 def solve(w, u_free, lo, hi, scale, nu=None, motion=(), tolerance=0.0):
     """The multipliers for which W nu + u_free is the motion at each row. `w` and `motion` are lists of rows, or flat; `nu` is where to start."""
-    return _solve(_library().piskorlu_solve, (), w, u_free, lo, hi, scale, nu, motion, tolerance)
+    return _solve(_library().piskorlu_solve, (), lambda n: _flat(w, n, 6), u_free, lo, hi, scale, nu, motion, tolerance)
+
+
+def solve_triangle(t, u_free, lo, hi, scale, nu=None, motion=(), tolerance=0.0):
+    """`solve` of the symmetric matrix whose lower triangle is `t`: lines with 1, 2, .. n values, each up to its row's own entry, or these as one list."""
+    return _solve(_library().piskorlu_solve_triangle, (), lambda n: _lower(t), u_free, lo, hi, scale, nu, motion, tolerance)
 
 
 def tallied(tally, w, u_free, lo, hi, scale, nu=None, motion=(), tolerance=0.0):
     """A solve, and the tally joined with its report: (answer, tally). Begin with Report()."""
+    return _tallied(_library().piskorlu_tallied, tally, lambda n: _flat(w, n, 6), u_free, lo, hi, scale, nu, motion, tolerance)
+
+
+def tallied_triangle(tally, t, u_free, lo, hi, scale, nu=None, motion=(), tolerance=0.0):
+    """`tallied` of the symmetric matrix whose lower triangle is `t`, as `solve_triangle` takes it."""
+    return _tallied(_library().piskorlu_tallied_triangle, tally, lambda n: _lower(t), u_free, lo, hi, scale, nu, motion, tolerance)
+
+
+def _tallied(call, tally, *given):
     counts, residual = _report(tally)
-    answer = _solve(_library().piskorlu_tallied, tuple(_lent(counts, residual)), w, u_free, lo, hi, scale, nu, motion, tolerance)
+    answer = _solve(call, tuple(_lent(counts, residual)), *given)
     return answer, _read(counts, residual[0])
 
 

@@ -26,7 +26,7 @@ ARCHIVE = os.environ.get("PISKORLU_STATICLIB", os.path.join(ROOT, "target", "sta
 sys.dont_write_bytecode = True
 sys.path.insert(0, HERE)
 import piskorlu  # noqa: E402
-from piskorlu import Cause, ExactSum, Refused, Report, State, bend, least_norm, solve, sqrt, tallied  # noqa: E402
+from piskorlu import Cause, ExactSum, Refused, Report, State, bend, least_norm, solve, solve_triangle, sqrt, tallied, tallied_triangle  # noqa: E402
 
 INF, NAN = math.inf, math.nan
 
@@ -77,6 +77,15 @@ class Solve(unittest.TestCase):
         grown = pads([[2**-24, 0], [0, 1]], [-1, 4])
         self.assertEqual((grown.cause, grown.states, grown.stopped), (Cause.GROWTH, [State.INSIDE, State.INSIDE], 1))
         self.assertEqual(pads([1], [4], hi=[1], nu=[0.5]).stopped, 1)
+
+    def test_triangle(self):
+        """Three rows: of two the lower and the upper triangle by rows are one list."""
+        rest = {"u_free": [-7, -9, -11], "lo": [0] * 3, "hi": [INF] * 3, "scale": [1] * 3}
+        full = solve([[4, 1, 2], [1, 5, 3], [2, 3, 6]], **rest)
+        self.assertEqual([round(v, 9) for v in full.nu], [1, 1, 1])
+        lines = [[4], [1, 5], [2, 3, 6]]
+        self.assertEqual([solve_triangle(lines, **rest), solve_triangle(sum(lines, []), **rest)], [full, full])
+        self.assertEqual(tallied_triangle(Report(), lines, **rest), tallied(Report(), [[4, 1, 2], [1, 5, 3], [2, 3, 6]], **rest))
 
     def test_w_that_is_not_as_it_should_be(self):
         """docs/SPECIFICATION.md's table."""
@@ -159,6 +168,15 @@ class Refusals(unittest.TestCase):
         self.refused(9, pads, [[1, 0], [0, 1]], [0, 0], motion=[1])
         self.refused(9, pads, [[1, 0], [0, 1]], [0, 0], motion=[[1], [1, 2, 3]])
         self.refused(11, tallied, Report(increments=2**32 - 1), [1], [0], [0], [1], [1])
+
+    def test_triangle(self):
+        self.refused(16, solve_triangle, [1, 0, 0, 1], [0, 0], [0, 0], [1, 1], [1, 1])
+        self.refused(16, solve_triangle, [[1, 0], [1]], [0, 0], [0, 0], [1, 1], [1, 1])
+        self.refused(16, solve_triangle, [], [0], [], [1], [1])
+        self.refused(5, solve_triangle, [], [0] * 33, [], [], [])
+        self.refused(7, solve_triangle, [1], [0], [], [1], [1])
+        self.refused(16, tallied_triangle, Report(increments=2**32 - 1), [1, 2], [0], [0], [1], [1])
+        self.refused(11, tallied_triangle, Report(increments=2**32 - 1), [1], [0], [0], [1], [1])
 
     def test_others(self):
         self.refused(12, least_norm, [[1, 2], [3]], [1, 2])

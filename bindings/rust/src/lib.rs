@@ -49,7 +49,8 @@ pub const BEND_ROOM: usize = 2048;
 /// A problem of n rows, n being the length of `u_free`.
 #[derive(Clone, Copy, Debug)]
 pub struct Problem<'a> {
-    /// W by rows, n rows of n values: symmetric, positive semidefinite.
+    /// W by rows, n rows of n values: symmetric, positive semidefinite. For
+    /// [`solve_triangle`] and [`tallied_triangle`] its lower triangle alone.
     pub w: &'a [f64],
     /// The motion at each row without any load.
     pub u_free: &'a [f64],
@@ -139,6 +140,18 @@ pub fn solve<'a>(
     answered(problem, nu, states, rows, workspace, calls::solve)
 }
 
+/// [`solve`] of the symmetric matrix whose lower triangle by rows is
+/// `problem.w`, n(n + 1)/2 values: row i has i + 1, up to its own entry.
+pub fn solve_triangle<'a>(
+    problem: &Problem,
+    nu: &mut [f64],
+    states: &mut [u8],
+    rows: &'a mut [usize],
+    workspace: &mut [f64],
+) -> Answer<'a> {
+    answered(problem, nu, states, rows, workspace, calls::solve_triangle)
+}
+
 /// A solve whose report joins the tally. Begin with [`SolveReport::NOTHING`]; a
 /// refused solve joins nothing.
 pub fn tallied<'a>(
@@ -149,9 +162,34 @@ pub fn tallied<'a>(
     rows: &'a mut [usize],
     workspace: &mut [f64],
 ) -> Answer<'a> {
+    joined(tally, problem, nu, states, rows, workspace, calls::tallied)
+}
+
+/// [`tallied`] with the lower triangle by rows in `problem.w`.
+pub fn tallied_triangle<'a>(
+    tally: &mut SolveReport,
+    problem: &Problem,
+    nu: &mut [f64],
+    states: &mut [u8],
+    rows: &'a mut [usize],
+    workspace: &mut [f64],
+) -> Answer<'a> {
+    let call = calls::tallied_triangle;
+    joined(tally, problem, nu, states, rows, workspace, call)
+}
+
+fn joined<'a>(
+    tally: &mut SolveReport,
+    problem: &Problem,
+    nu: &mut [f64],
+    states: &mut [u8],
+    rows: &'a mut [usize],
+    workspace: &mut [f64],
+    call: fn(calls::Tally, calls::Lent) -> u32,
+) -> Answer<'a> {
     let (mut counts, mut residual) = (tally.counts(), [tally.residual]);
     let answer = answered(problem, nu, states, rows, workspace, |lent| {
-        calls::tallied((&mut counts, &mut residual), lent)
+        call((&mut counts, &mut residual), lent)
     });
     if !matches!(answer, Answer::Refused(_)) {
         *tally = SolveReport::of(&counts, residual[0]);

@@ -24,6 +24,8 @@ pub enum Refusal {
     LeastNorm,
     /// 13: a count's sum above 4,294,967,295.
     Join,
+    /// 16: the lower triangle has not n(n + 1)/2 values.
+    Triangle,
     /// 17: exact sums: a value that is NaN or infinite.
     NotFinite,
     /// 18: exact sums: more than 32 products, or a second free motion.
@@ -44,6 +46,7 @@ impl Refusal {
             11 => Refusal::Tally,
             12 => Refusal::LeastNorm,
             13 => Refusal::Join,
+            16 => Refusal::Triangle,
             17 => Refusal::NotFinite,
             18 => Refusal::ExactFull,
             other => Refusal::Other(other),
@@ -62,6 +65,7 @@ impl Refusal {
             Refusal::Tally => 11,
             Refusal::LeastNorm => 12,
             Refusal::Join => 13,
+            Refusal::Triangle => 16,
             Refusal::NotFinite => 17,
             Refusal::ExactFull => 18,
             Refusal::Other(number) => number,
@@ -83,6 +87,7 @@ impl fmt::Display for Refusal {
                 "least norm: lengths that do not agree, or too large or too small"
             }
             Refusal::Join => "joins: a count's sum too large, or a buffer too short",
+            Refusal::Triangle => "triangle solve: the lower triangle has not n(n + 1)/2 values",
             Refusal::NotFinite => "exact sum: a value that is NaN or infinite",
             Refusal::ExactFull => "exact sum: more than 32 products, or a second free motion",
             Refusal::Other(_) => "not a number of this library",

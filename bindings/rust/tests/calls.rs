@@ -2,8 +2,9 @@
 //! refusal, and what may be used as loads.
 
 use piskorlu::{
-    bend, float_environment_ok, least_norm, solve, sqrt, tallied, Answer, BoxReport, Cause,
-    Problem, Refusal, SolveReport, State, BEND_ROOM, LEAST_NORM_WORKSPACE, SOLVE_WORKSPACE,
+    bend, float_environment_ok, least_norm, solve, solve_triangle, sqrt, tallied, tallied_triangle,
+    Answer, BoxReport, Cause, Problem, Refusal, SolveReport, State, BEND_ROOM,
+    LEAST_NORM_WORKSPACE, SOLVE_WORKSPACE,
 };
 
 const LIMITLESS: [f64; 2] = [f64::INFINITY; 2];
@@ -169,6 +170,51 @@ fn refusals() {
     assert_eq!((nu, states, rows), ([7.0], [7], [7]));
 }
 
+/// Three rows: of two the lower and the upper triangle by rows are one list.
+#[test]
+fn triangles() {
+    let lower = Problem {
+        w: &[4.0, 1.0, 5.0, 2.0, 3.0, 6.0],
+        u_free: &[-7.0, -9.0, -11.0],
+        lo: &[0.0; 3],
+        hi: &[f64::INFINITY; 3],
+        scale: &[1.0; 3],
+        motion: &[],
+        tolerance: 0.0,
+    };
+    let full = Problem {
+        w: &[4.0, 1.0, 2.0, 1.0, 5.0, 3.0, 2.0, 3.0, 6.0],
+        ..lower
+    };
+    let mut workspace = [0.0; SOLVE_WORKSPACE];
+    let mut left = |problem: &Problem, triangle: bool| {
+        let (mut nu, mut states, mut rows) = ([0.0; 3], [9; 3], [9; 3]);
+        let mut tally = SolveReport::NOTHING;
+        let call = if triangle { tallied_triangle } else { tallied };
+        let made = call(
+            &mut tally,
+            problem,
+            &mut nu,
+            &mut states,
+            &mut rows,
+            &mut workspace,
+        );
+        let tallied = format!("{made:?} {nu:?} {states:?}");
+        let (mut nu, mut states, mut rows) = ([0.0; 3], [9; 3], [9; 3]);
+        let call = if triangle { solve_triangle } else { solve };
+        let made = call(problem, &mut nu, &mut states, &mut rows, &mut workspace);
+        assert_eq!(format!("{made:?} {nu:?} {states:?}"), tallied);
+        (tallied, tally)
+    };
+    let (whole, tally) = left(&full, false);
+    assert_eq!(left(&lower, true), (whole, tally));
+    assert_eq!(tally.increments, 1);
+    let (refused, untouched) = left(&full, true);
+    assert!(refused.starts_with("Refused(Triangle) [0.0, 0.0, 0.0] [9, 9, 9]"));
+    assert_eq!(untouched, SolveReport::NOTHING);
+    assert!(left(&lower, false).0.starts_with("Refused(NotSquare)"));
+}
+
 #[test]
 fn numbers_and_words() {
     let all = [
@@ -181,10 +227,11 @@ fn numbers_and_words() {
         Refusal::Tally,
         Refusal::LeastNorm,
         Refusal::Join,
+        Refusal::Triangle,
         Refusal::NotFinite,
         Refusal::ExactFull,
     ];
-    for (refusal, number) in all.into_iter().zip((5..14).chain(17..)) {
+    for (refusal, number) in all.into_iter().zip((5..14).chain(16..)) {
         assert_eq!(refusal.number(), number);
         assert!(refusal
             .to_string()

@@ -6,17 +6,53 @@ use super::solve::{self, Answer as SolveAnswer};
 use super::{Call, Zeros};
 use crate::cases::random::Rng;
 use crate::cases::solve as cases;
+use crate::cases::triangles::{self, Pair};
 use crate::coverage::{Class, Coverage};
 use crate::port;
 use crate::reference::report::{tallied, SolveReport, NOTHING};
 use crate::reference::rule::{Place, Rule};
+use crate::reference::triangle::tallied_triangle;
 
 pub struct Tallied;
+
+/// A solve of a list, its matrix whole or as its lower triangle.
+enum One {
+    Whole(cases::Case),
+    Lower(Pair),
+}
+
+impl One {
+    /// The call as it is lent.
+    fn sent(&self) -> &cases::Case {
+        match self {
+            One::Whole(case) => case,
+            One::Lower(pair) => &pair.sent,
+        }
+    }
+
+    /// The call with the whole matrix, which is the original's.
+    #[cfg(original)]
+    fn whole(&self) -> &cases::Case {
+        match self {
+            One::Whole(case) => case,
+            One::Lower(pair) => &pair.mirrored,
+        }
+    }
+
+    fn reference(&self, tally: &mut SolveReport, rule: Rule) -> SolveAnswer {
+        let sent = self.sent();
+        let call = match self {
+            One::Whole(_) => tallied,
+            One::Lower(_) => tallied_triangle,
+        };
+        solve::lend(sent, |lent| call(&sent.problem.lend(), lent, tally, rule))
+    }
+}
 
 /// A tally and the solves that join it.
 pub struct Case {
     tally: SolveReport,
-    solves: Vec<cases::Case>,
+    solves: Vec<One>,
     /// The order in which they are made.
     order: Vec<usize>,
     /// Whether the tally starts as NOTHING.
@@ -36,7 +72,7 @@ const FULL: &str = "tallied/full";
 fn run(
     case: &Case,
     order: &[usize],
-    mut make: impl FnMut(&cases::Case, &mut SolveReport) -> SolveAnswer,
+    mut make: impl FnMut(&One, &mut SolveReport) -> SolveAnswer,
 ) -> Answer {
     let mut tally = case.tally;
     let mut answers: Vec<Option<SolveAnswer>> = case.solves.iter().map(|_| None).collect();
@@ -122,7 +158,7 @@ impl Call for Tallied {
     const CLASSES: &'static [Class] = &[
         Class {
             group: "number",
-            names: &["0", "5", "6", "7", "8", "9", "10", "11"],
+            names: &["0", "5", "6", "7", "8", "9", "10", "11", "16"],
         },
         Class {
             group: "solves",
@@ -154,7 +190,7 @@ impl Call for Tallied {
         let tally = if empty { NOTHING } else { full_tally(rng) };
         let families = cases::families();
         let count = 1 + rng.below(5);
-        let solves: Vec<cases::Case> = (0..count)
+        let solves: Vec<One> = (0..count)
             .filter_map(|_| {
                 let lengths = rng.chance(25);
                 let family = if lengths {
@@ -162,7 +198,10 @@ impl Call for Tallied {
                 } else {
                     rng.pick(&families)
                 };
-                cases::case(family, rng)
+                if rng.chance(50) {
+                    return Some(One::Lower(triangles::of_family(family, rng)?));
+                }
+                Some(One::Whole(cases::case(family, rng)?))
             })
             .collect();
         let order = rng.permutation(solves.len());
@@ -175,9 +214,7 @@ impl Call for Tallied {
     }
 
     fn reference(case: &Case, rule: Rule) -> Answer {
-        run(case, &case.order, |one, tally| {
-            solve::lend(one, |lent| tallied(&one.problem.lend(), lent, tally, rule))
-        })
+        run(case, &case.order, |one, tally| one.reference(tally, rule))
     }
 
     #[cfg(not(original))]
@@ -199,7 +236,10 @@ impl Call for Tallied {
         let mut places = order.iter();
         Some(run(case, order, |one, tally| {
             let known = &reference.answers[*places.next().unwrap_or(&0)];
-            let Some(answer) = solve::original(one, known) else {
+            if known.number == 16 {
+                return known.clone();
+            }
+            let Some(answer) = solve::original(one.whole(), known) else {
                 return known.clone();
             };
             if let Some((_, report)) = &answer.ending {
@@ -223,8 +263,13 @@ impl Call for Tallied {
     /// In the case's order, and from an empty tally front to back and back to
     /// front as well; where one of these differs, that one.
     fn port(case: &Case) -> Option<Answer> {
-        let call = port::TALLIED?;
-        let made = |order: &[usize]| run(case, order, |one, tally| ported(one, tally, call));
+        let (whole, lower) = (port::TALLIED?, port::TALLIED_TRIANGLE?);
+        let made = |order: &[usize]| {
+            run(case, order, |one, tally| match one {
+                One::Whole(sent) => ported(sent, tally, whole),
+                One::Lower(pair) => ported(&pair.sent, tally, lower),
+            })
+        };
         let first = made(&case.order);
         if !case.empty {
             return Some(first);
@@ -250,12 +295,16 @@ impl Call for Tallied {
     fn cover(case: &Case, answer: &Answer, coverage: &mut Coverage) {
         coverage.number("solves", case.solves.len());
         for (one, answer) in case.solves.iter().zip(&answer.answers) {
-            solve::cover(one, answer, coverage);
+            solve::cover(one.sent(), answer, coverage);
         }
     }
 
     fn show_case(case: &Case) -> String {
-        let solves: String = case.solves.iter().map(solve::Solve::show_case).collect();
+        let solves: String = case
+            .solves
+            .iter()
+            .map(|one| solve::Solve::show_case(one.sent()))
+            .collect();
         format!(
             "tally {:?}, empty {}\norder {:?}\n{solves}",
             case.tally, case.empty, case.order

@@ -54,6 +54,11 @@ fn lower(w: &[f64], n: usize) -> Vec<f64> {
 
 pub fn case(family: &str, rng: &mut Rng) -> Option<Pair> {
     let &(_, name) = names().iter().find(|&&(name, _)| name == family)?;
+    of_family(name, rng)
+}
+
+/// A triangle from a family of the solve's.
+pub fn of_family(name: &str, rng: &mut Rng) -> Option<Pair> {
     let case = solve::case(name, rng)?;
     let n = case.problem.n();
     let mut t = lower(&case.problem.w, n);

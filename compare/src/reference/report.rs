@@ -214,10 +214,22 @@ pub fn tallied(
     tally: &mut SolveReport,
     rule: Rule,
 ) -> Result<(Outcome, BoxReport), u32> {
+    let number = p.refused(lent, rule);
+    tallied_by(number, lent, tally, rule, |lent| solve(p, lent, rule))
+}
+
+/// The same of any solve that is refused by `number`, or by none.
+pub fn tallied_by(
+    number: Option<u32>,
+    lent: &mut Lent,
+    tally: &mut SolveReport,
+    rule: Rule,
+    make: impl FnOnce(&mut Lent) -> Result<(Outcome, BoxReport), u32>,
+) -> Result<(Outcome, BoxReport), u32> {
     if rule.is(Rule::ElevenBeforeFive) && tally_full(tally, rule) {
         return Err(TALLY_FULL);
     }
-    if let Some(number) = p.refused(lent, rule) {
+    if let Some(number) = number {
         if rule.is(Rule::TallyCountsRefused) {
             tally.increments = tally.increments.saturating_add(1);
         }
@@ -226,7 +238,7 @@ pub fn tallied(
     if tally_full(tally, rule) && !rule.is(Rule::ElevenAfterSolve) {
         return Err(TALLY_FULL);
     }
-    let (outcome, report) = solve(p, lent, rule)?;
+    let (outcome, report) = make(lent)?;
     if tally_full(tally, rule) {
         return Err(TALLY_FULL);
     }

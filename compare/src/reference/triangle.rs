@@ -2,6 +2,7 @@
 //! the solve of the mirrored matrix.
 
 use super::problem::{Lent, Problem};
+use super::report::{tallied_by, SolveReport};
 use super::rule::Rule;
 use super::solve::{solve, BoxReport, Outcome};
 
@@ -51,25 +52,33 @@ fn wrong(len: usize, n: usize, rule: Rule) -> bool {
     len != right && !taken
 }
 
-/// The solve with `p.w` a triangle: 16 stands in the place of 6.
+/// The number with which a call whose triangle is `t` is refused: that of the
+/// mirrored problem `whole`, with 16 in the place of 6.
+fn refused(t: &[f64], whole: &Problem, lent: &Lent, rule: Rule) -> Option<u32> {
+    let other = whole.refused(lent, rule);
+    if !wrong(t.len(), whole.n(), rule) {
+        return other;
+    }
+    let first = match rule {
+        Rule::TriangleBeforeFive => None,
+        Rule::TriangleAfterSeven => other.filter(|&k| k <= 7),
+        Rule::TriangleAfterTen => other,
+        _ => other.filter(|&k| k == 5),
+    };
+    let sixteen = if rule.is(Rule::TriangleSix) { 6 } else { 16 };
+    Some(first.unwrap_or(sixteen))
+}
+
+/// The solve with `p.w` a triangle.
 pub fn solve_triangle(
     p: &Problem,
     lent: &mut Lent,
     rule: Rule,
 ) -> Result<(Outcome, BoxReport), u32> {
-    let n = p.n();
-    let w = mirrored(p.w, n, rule);
+    let w = mirrored(p.w, p.n(), rule);
     let whole = Problem { w: &w, ..*p };
-    let other = whole.refused(lent, rule);
-    let sixteen = if rule.is(Rule::TriangleSix) { 6 } else { 16 };
-    if wrong(p.w.len(), n, rule) {
-        let first = match rule {
-            Rule::TriangleBeforeFive => None,
-            Rule::TriangleAfterSeven => other.filter(|&k| k <= 7),
-            Rule::TriangleAfterTen => other,
-            _ => other.filter(|&k| k == 5),
-        };
-        return Err(first.unwrap_or(sixteen));
+    if let Some(number) = refused(p.w, &whole, lent, rule) {
+        return Err(number);
     }
     let answer = solve(&whole, lent, rule);
     if answer.is_ok() && rule.is(Rule::TriangleMirrorsBeyond) {
@@ -78,4 +87,19 @@ pub fn solve_triangle(
         }
     }
     answer
+}
+
+/// The same joining a tally: its refusals first, then 11.
+pub fn tallied_triangle(
+    p: &Problem,
+    lent: &mut Lent,
+    tally: &mut SolveReport,
+    rule: Rule,
+) -> Result<(Outcome, BoxReport), u32> {
+    let w = mirrored(p.w, p.n(), rule);
+    let whole = Problem { w: &w, ..*p };
+    let number = refused(p.w, &whole, lent, rule);
+    tallied_by(number, lent, tally, rule, |lent| {
+        solve_triangle(p, lent, rule)
+    })
 }
