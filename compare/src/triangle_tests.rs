@@ -27,7 +27,12 @@ fn example(lines: &[&str]) -> Example {
     let number = lines[0].split_once(' ').expect("a number").0;
     let t = lines[1].split_once(" : ").map_or("", |(_, words)| words);
     let (head, words) = lines[2].split_once(" numbers ").expect("numbers");
-    let n: usize = head.split_whitespace().nth(2).expect("n").parse().expect("n");
+    let n: usize = head
+        .split_whitespace()
+        .nth(2)
+        .expect("n")
+        .parse()
+        .expect("n");
     let numbers = values(words);
     let lo = numbers.len() - 4 * n - 1;
     let mut rest = numbers.into_iter();
@@ -50,13 +55,17 @@ fn example(lines: &[&str]) -> Example {
             states_len: n,
             rows_len: n,
             fill: f64::NAN,
+            example: None,
         },
         out: lines[3].trim().to_string(),
     }
 }
 
 fn examples() -> Vec<Example> {
-    let lines: Vec<&str> = EXAMPLES.lines().filter(|l| !l.starts_with("mistake")).collect();
+    let lines: Vec<&str> = EXAMPLES
+        .lines()
+        .filter(|l| !l.starts_with("mistake"))
+        .collect();
     lines.chunks(4).map(example).collect()
 }
 
@@ -71,12 +80,26 @@ fn words(answer: &Answer) -> String {
         Outcome::Infeasible(Cause::Pass, k) => ("pass", *k),
         Outcome::Infeasible(Cause::Sweep, k) => ("sweep", *k),
     };
-    let or_none = |text: String| if text.is_empty() { "-".to_string() } else { text };
+    let or_none = |text: String| {
+        if text.is_empty() {
+            "-".to_string()
+        } else {
+            text
+        }
+    };
     let bits = |v: &f64| {
-        let bits = if v.is_nan() { 0x7FF8 << 48 } else { v.to_bits() };
+        let bits = if v.is_nan() {
+            0x7FF8 << 48
+        } else {
+            v.to_bits()
+        };
         format!("{bits:016X}")
     };
-    let states: String = answer.states.iter().map(|&s| ['I', 'L', 'H', 'Z'][usize::from(s)]).collect();
+    let states: String = answer
+        .states
+        .iter()
+        .map(|&s| ['I', 'L', 'H', 'Z'][usize::from(s)])
+        .collect();
     let nu: Vec<String> = answer.nu.iter().map(bits).collect();
     let rows: Vec<String> = answer.rows[..listed].iter().map(usize::to_string).collect();
     format!(

@@ -15,37 +15,29 @@ use crate::reference::triangle::tallied_triangle;
 
 pub struct Tallied;
 
-/// A solve of a list, its matrix whole or as its lower triangle.
-enum One {
-    Whole(cases::Case),
-    Lower(Pair),
+/// A solve of a list.
+struct One {
+    /// The call as it is lent.
+    sent: cases::Case,
+    /// The same with the mirrored matrix, where a triangle is lent.
+    mirrored: Option<cases::Case>,
 }
 
 impl One {
-    /// The call as it is lent.
-    fn sent(&self) -> &cases::Case {
-        match self {
-            One::Whole(case) => case,
-            One::Lower(pair) => &pair.sent,
-        }
-    }
-
     /// The call with the whole matrix, which is the original's.
     #[cfg(original)]
     fn whole(&self) -> &cases::Case {
-        match self {
-            One::Whole(case) => case,
-            One::Lower(pair) => &pair.mirrored,
-        }
+        self.mirrored.as_ref().unwrap_or(&self.sent)
     }
 
     fn reference(&self, tally: &mut SolveReport, rule: Rule) -> SolveAnswer {
-        let sent = self.sent();
-        let call = match self {
-            One::Whole(_) => tallied,
-            One::Lower(_) => tallied_triangle,
+        let call = match self.mirrored {
+            Some(_) => tallied_triangle,
+            None => tallied,
         };
-        solve::lend(sent, |lent| call(&sent.problem.lend(), lent, tally, rule))
+        solve::lend(&self.sent, |lent| {
+            call(&self.sent.problem.lend(), lent, tally, rule)
+        })
     }
 }
 
@@ -199,9 +191,13 @@ impl Call for Tallied {
                     rng.pick(&families)
                 };
                 if rng.chance(50) {
-                    return Some(One::Lower(triangles::of_family(family, rng)?));
+                    let Pair { sent, mirrored } = triangles::of_family(family, rng)?;
+                    let mirrored = Some(mirrored);
+                    return Some(One { sent, mirrored });
                 }
-                Some(One::Whole(cases::case(family, rng)?))
+                let sent = cases::case(family, rng)?;
+                let mirrored = None;
+                Some(One { sent, mirrored })
             })
             .collect();
         let order = rng.permutation(solves.len());
@@ -265,9 +261,9 @@ impl Call for Tallied {
     fn port(case: &Case) -> Option<Answer> {
         let (whole, lower) = (port::TALLIED?, port::TALLIED_TRIANGLE?);
         let made = |order: &[usize]| {
-            run(case, order, |one, tally| match one {
-                One::Whole(sent) => ported(sent, tally, whole),
-                One::Lower(pair) => ported(&pair.sent, tally, lower),
+            run(case, order, |one, tally| {
+                let call = one.mirrored.as_ref().map_or(whole, |_| lower);
+                ported(&one.sent, tally, call)
             })
         };
         let first = made(&case.order);
@@ -295,7 +291,7 @@ impl Call for Tallied {
     fn cover(case: &Case, answer: &Answer, coverage: &mut Coverage) {
         coverage.number("solves", case.solves.len());
         for (one, answer) in case.solves.iter().zip(&answer.answers) {
-            solve::cover(one.sent(), answer, coverage);
+            solve::cover(&one.sent, answer, coverage);
         }
     }
 
@@ -303,7 +299,7 @@ impl Call for Tallied {
         let solves: String = case
             .solves
             .iter()
-            .map(|one| solve::Solve::show_case(one.sent()))
+            .map(|one| solve::Solve::show_case(&one.sent))
             .collect();
         format!(
             "tally {:?}, empty {}\norder {:?}\n{solves}",

@@ -13,8 +13,8 @@ use crate::reports;
 use crate::solves;
 use crate::tallying;
 
-// triangle::solve: what piskorlu_solve answers and leaves of the mirrored matrix; or 5, 16 in the place of 6, or 7 to 10,
-// and nothing is written.
+// triangle::solve: what piskorlu_solve answers and leaves of the mirrored matrix; or 5, 16 in the place of 6, or 7 to
+// 10, and nothing is written.
 #[no_mangle]
 pub extern "C" fn piskorlu_solve_triangle(
     t: &[f64],
@@ -34,7 +34,8 @@ pub extern "C" fn piskorlu_solve_triangle(
     ensures { λ r. ⌜
         plain.Answered
         (def.reply (plain.taken (now (counts .entry)) (now (residual .entry))) (length (now (t .entry)))
-        (lower.problem (now (t .entry)) (now («u_free» .entry)) (now (lo .entry)) (now (hi .entry)) (now (scale .entry)))
+        (lower.problem (now (t .entry)) (now («u_free» .entry)) (now (lo .entry)) (now (hi .entry))
+        (now (scale .entry)))
         (solve.watch (now (motion .entry)) tolerance)
         (now (nu .entry)) (now (states .entry)) (now (rows .entry)) (length (now (workspace .entry))))
         r (now (nu .exit)) (now (states .exit)) (now (rows .exit))
@@ -82,10 +83,12 @@ pub extern "C" fn piskorlu_tallied_triangle(
     ensures { λ r. ⌜
         tallies.Answered
         (tallies.reply
-        (tallies.taken (now (tally .entry)) (now («tally_residual» .entry)) (now (counts .entry)) (now (residual .entry)))
+        (tallies.taken (now (tally .entry)) (now («tally_residual» .entry)) (now (counts .entry))
+        (now (residual .entry)))
         (report.read (now (tally .entry)) (float.at (now («tally_residual» .entry)) 0))
         (lent.triangleCall (length (now (t .entry)))
-        (lower.problem (now (t .entry)) (now («u_free» .entry)) (now (lo .entry)) (now (hi .entry)) (now (scale .entry)))
+        (lower.problem (now (t .entry)) (now («u_free» .entry)) (now (lo .entry)) (now (hi .entry))
+        (now (scale .entry)))
         (solve.watch (now (motion .entry)) tolerance)
         (now (nu .entry)) (now (states .entry)) (now (rows .entry)) (length (now (workspace .entry)))))
         r (now (tally .entry)) (now (tally .exit)) (now («tally_residual» .entry)) (now («tally_residual» .exit))

@@ -12,7 +12,7 @@ use borrow.Author.Tests.{le-ltb, ltb-false, ne-eqb, eqb-true, eqb-false}
 use Rattle.report.specs.Joins.{NOTHING, both, most, joined, and, AllSummable}
 use Rattle.report.specs.declared.SolveReport.{SolveReport}
 use Rattle.report.proofs.Joins.{Held, both-held, both-comm, both-assoc, and-joins}
-use Rattle.boxed.specs.Solve.{Outcome, refused, solved, infeasible, reply, solveReply, SWEEP_CAP}
+use Rattle.boxed.specs.Solve.{Outcome, refused, solved, infeasible, reply, SWEEP_CAP}
 use Rattle.boxed.specs.declared.BoxReport.{BoxReport}
 use Rattle.tally.specs.Tally.{Call, number, alone, turned, kept, joinedTo, full, numberOn, answerOn, Tallied, with, tallied, before, all}
 use Rattle.demand3.specs.Demand.{reportIn, reported, sumOf}

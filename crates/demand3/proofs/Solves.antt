@@ -26,7 +26,7 @@ use Rattle.floats.proofs.Bound.{nil, above, nil-lo, nil-hi, nil-abs, nil-div, n
 use Rattle.box_rows.specs.Rows.{Problem, size, rowOf, state, acts, isIdle, rowSum, update, naturalResidual, residualAt}
 use Rattle.exact_pass.specs.Pass.{pushed}
 use Rattle.boxed.specs.Sweep as sweep
-use Rattle.boxed.specs.Solve.{Ending, exact, converged, Iterate, counts, Run, going, ended, Watch, run, Outcome, refused, solved, infeasible, Result, left, reportOf, unfound, result, nothing, solve, reply, solveReply, SWEEP_CAP}
+use Rattle.boxed.specs.Solve.{Ending, exact, converged, Iterate, counts, Run, going, ended, Watch, run, Outcome, refused, solved, infeasible, Result, left, reportOf, unfound, result, nothing, solve, reply, SWEEP_CAP}
 use Rattle.boxed.proofs.Accepting.{Accepted, accepted}
 use Rattle.boxed.specs.declared.BoxReport.{BoxReport}
 use Rattle.boxed.specs.declared.Cause.{Cause}

@@ -3,20 +3,15 @@ use Prim.Native.Nat.{ℕ, zero, suc, _+_, _*_, _≤_, _<_}
 use mathlib.Core.Path.{_≡_, refl, sym, _∙_, ap}
 use mathlib.Core.Logic.{inl}
 use mathlib.Core.Bool.{Bool, true, false, not, cond, _||_, true≢false}
-use mathlib.Core.List.{List, [], _∷_, _++_}
+use mathlib.Core.List.{List, [], _∷_}
 use native.Mathlib.Omega.{arith}
 use native.Mathlib.Nat.{mul-pos, zero-mul, zero-lt-suc, not-suc-le-zero, le-of-suc-le-suc, le-of-eq, le-refl}
 use native.Mathlib.Numerals.{add-one}
 use lib.IntN.{ℤ}
-use lib.Arith.{lt-of-le-ne}
-use lib.Dec.{eqb}
-use lib.ListN.{length, getD, List·getD-append}
-use lib.Seq.{getD-at}
+use lib.ListN.{length, getD}
 use lib.Ieee.{Float, nan, inf, fin, binary64, up, down, ofBits, neg, lt, le, eq, ne, level}
 use lib.Ieee.Fits.{up-pos, down-pos, sub-fits}
-use borrow.Author.Tests.{lt-ltb, le-ltb, eqb-true, eqb-false}
-use Rattle.loops.specs.Loops.{turns, tab}
-use Rattle.loops.proofs.Fill.{tab-length}
+use borrow.Author.Tests.{lt-ltb, le-ltb}
 use Rattle.loops.proofs.Gather.{Each, From, Gathered}
 use Rattle.floats.specs.Ops.{_⊖_, _⊘_, at, 0ᶠ}
 use Rattle.floats.specs.Helpers.{abs, clamp, isNaN}
@@ -26,6 +21,7 @@ use Rattle.floats.proofs.Order.{total, not-above, lt-right}
 use Rattle.box_rows.specs.Rows.{Problem, size, entry, row, rowOf, isIdle, rowSum, update, naturalResidual, residualAt}
 use Rattle.box_rows.proofs.Matrix.{row-length}
 use Rattle.box_rows.proofs.Sums.{Summing, sum-start, sum-again, sum-done}
+use Rattle.triangle.proofs.Mirrored.{tab-at}
 use Rattle.demand3.specs.Claims.{magnitude, cell, sumTo, distance, ownResidual}
 
 -- ---- a magnitude
@@ -116,18 +112,6 @@ unfolding distance naturalResidual update clamp
 distance-is v u d lo hi s =
     let x = v ⊖ cond (lt (v ⊖ u ⊘ d) lo) lo (cond (lt hi (v ⊖ u ⊘ d)) hi (v ⊖ u ⊘ d)) in
     ap (λ (z : Float). z ⊘ s) (magnitude-is x ∙ sym (abs-is x (sub-fits binary64 v (cond (lt (v ⊖ u ⊘ d) lo) lo (cond (lt hi (v ⊖ u ⊘ d)) hi (v ⊖ u ⊘ d))))))
-
--- place j of a table is its value at j
-tab-at : {A : Type 0} (f : ℕ → A) (n j : ℕ) (d : A) → j < n → getD (tab f n) j d ≡ f j
-unfolding tab turns
-tab-at f zero j d h = absurd (not-suc-le-zero h)
-tab-at f (suc n) j d h = go (eqb j n) refl (λ c. tab-at f n j d c)
-  where
-    go : (b : Bool) → eqb j n ≡ b → (j < n → getD (tab f n) j d ≡ f j) → getD (tab f n ++ (f n ∷ [])) j d ≡ f j
-    go true e before = rw (eqb-true j n e) (getD-at (tab f n) (f n) [] d n (tab-length f n))
-    go false e before =
-        let c : j < n = lt-of-le-ne (le-of-suc-le-suc h) (eqb-false j n e) in
-        List·getD-append (tab f n) (f n ∷ []) d j (rw (tab-length f n) c) ∙ before c
 
 module _ (p : Problem) (i : ℕ) where
   row-at : (j : ℕ) → j < size p → at (rowOf p i) j ≡ cell p i j

@@ -28,7 +28,8 @@ pub fn tallied_triangle(
         said.Entered
         (def.tallied tally
         (said.triangleCall (length (now (t .entry)))
-        (lower.problem (now (t .entry)) (now («u_free» .entry)) (now (lo .entry)) (now (hi .entry)) (now (scale .entry)))
+        (lower.problem (now (t .entry)) (now («u_free» .entry)) (now (lo .entry)) (now (hi .entry))
+        (now (scale .entry)))
         (solve.watch (now (motion .entry)) tolerance)
         (now (nu .entry)) (now (states .entry)) (now (rows .entry)) (length (now (workspace .entry)))))
         (r .tally) (r .answer) (now (nu .exit)) (now (states .exit)) (now (rows .exit))
@@ -80,7 +81,8 @@ pub fn triangle_into(
         said.Entered
         (def.tallied (now (tally .entry))
         (said.triangleCall (length (now (t .entry)))
-        (lower.problem (now (t .entry)) (now («u_free» .entry)) (now (lo .entry)) (now (hi .entry)) (now (scale .entry)))
+        (lower.problem (now (t .entry)) (now («u_free» .entry)) (now (lo .entry)) (now (hi .entry))
+        (now (scale .entry)))
         (solve.watch (now (motion .entry)) tolerance)
         (now (nu .entry)) (now (states .entry)) (now (rows .entry)) (length (now (workspace .entry)))))
         (now (tally .exit)) r (now (nu .exit)) (now (states .exit)) (now (rows .exit))
