@@ -18,11 +18,11 @@ use Rattle.tallied.specs.Joining.{Entered}
 use Rattle.tallied.specs.Private.{added, joinedBy}
 
 -- the code's way to join, by the answer in place of the outcome
-joined-by : (t : SolveReport) (x : Outcome) → joinedBy t (answerOf x) ≡ joinedTo t x
+joined-by : (t : SolveReport) (x : Outcome) (nu : List Float) → joinedBy t (answerOf x) nu ≡ joinedTo t x nu
 unfolding added
-joined-by t (refused k) = refl
-joined-by t (solved r) = refl
-joined-by t (infeasible c l r) = refl
+joined-by t (refused k) nu = refl
+joined-by t (solved r) nu = refl
+joined-by t (infeasible c l r) nu = refl
 
 module _ (t : SolveReport) (c : Call) where
   abbrev reply : ℕ → solve.Result
@@ -48,8 +48,8 @@ module _ (t : SolveReport) (c : Call) where
   same-number (suc k) = rw (ne-eqb (suc k) 0 (λ e. omega (arith, e)))
 
   pub on-room : full t ≡ false → (s : SolveReport) (r : BoxAnswer) (nu : List Float) (st q : List ℕ) (w w′ : List Float)
-      → Left (reply (number c)) r nu st q w w′ → s ≡ joinedBy t r
+      → Left (reply (number c)) r nu st q w w′ → s ≡ joinedBy t r nu
       → Entered (tallied t c) s r nu st q w w′
   unfolding tallied def.answerOn def.numberOn def.with
   on-room f s r nu st q w w′ l e =
-      rw (f, same-number (number c)) (record { tally = e ∙ ap (joinedBy t) (l .answer) ∙ joined-by t (reply (number c) .outcome); left = l })
+      rw (f, same-number (number c)) (record { tally = e ∙ rw (l .answer, l .multipliers) (joined-by t (reply (number c) .outcome) (reply (number c) .nu)); left = l })

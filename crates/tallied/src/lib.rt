@@ -40,10 +40,26 @@ pub fn full(tally: SolveReport) -> bool
     tally.stopped > 4294967263
 }
 
-// The SolveReport that a BoxReport is turned into.
-pub fn turned(report: BoxReport) -> SolveReport
-    ensures { λ r. ⌜ r ≡ def.turned report ⌝ }
+// Whether no multiplier is NaN.
+pub fn no_nan(nu: &[f64]) -> bool
+    ensures { λ r. ⌜ r ≡ def.noNaN (now (nu .entry)) ⌝ }
 {
+    let n = nu.len();
+    let mut none = true;
+    let mut i = 0;
+    while i < n {
+        none = none & !floats::is_nan(nu[i]);
+        i += 1;
+    }
+    none
+}
+
+// What the tally takes a report as, nu being the multipliers that its solve left: it is converged, or exact, only if
+// the report says so and none of them is NaN. The report itself stays as the solve gave it.
+pub fn taken(report: BoxReport, nu: &[f64]) -> SolveReport
+    ensures { λ r. ⌜ r ≡ def.taken report (now (nu .entry)) ⌝ }
+{
+    let none = no_nan(nu);
     SolveReport {
         increments: 1,
         iterations: 0,
@@ -53,8 +69,8 @@ pub fn turned(report: BoxReport) -> SolveReport
         sweeps: report.sweeps,
         exact_passes: report.exact_passes,
         stopped: report.stopped,
-        converged: report.converged,
-        exact: report.exact,
+        converged: report.converged & none,
+        exact: report.exact & none,
         residual: report.residual,
     }
 }
@@ -69,21 +85,21 @@ fn kept(tally: SolveReport, joined: Joined) -> SolveReport
     }
 }
 
-// A solve's report joined to the tally.
-fn added(tally: SolveReport, report: BoxReport) -> SolveReport
-    ensures { λ r. ⌜ r ≡ private.added tally report ⌝ }
+// A solve's report, as the tally takes it, joined to the tally.
+fn added(tally: SolveReport, report: BoxReport, nu: &[f64]) -> SolveReport
+    ensures { λ r. ⌜ r ≡ private.added tally report (now (nu .entry)) ⌝ }
 {
-    kept(tally, tally.and(turned(report)))
+    kept(tally, tally.and(taken(report, nu)))
 }
 
-// The tally after such an answer.
-fn joined_by(tally: SolveReport, answer: BoxAnswer) -> SolveReport
-    ensures { λ r. ⌜ r ≡ private.joinedBy tally answer ⌝ }
+// The tally after such an answer, with the multipliers that it left.
+fn joined_by(tally: SolveReport, answer: BoxAnswer, nu: &[f64]) -> SolveReport
+    ensures { λ r. ⌜ r ≡ private.joinedBy tally answer (now (nu .entry)) ⌝ }
 {
     match answer {
         BoxAnswer::Refused(_) => tally,
-        BoxAnswer::Solved(report) => added(tally, report),
-        BoxAnswer::Infeasible(_, _, report) => added(tally, report),
+        BoxAnswer::Solved(report) => added(tally, report, nu),
+        BoxAnswer::Infeasible(_, _, report) => added(tally, report, nu),
     }
 }
 
@@ -97,8 +113,9 @@ fn or_eleven(number: u32) -> u32
     number
 }
 
-// BoxSolver::solve on a tally, which goes in and comes back with the solve's report joined to it. 5 to 10 are tested
-// first, then 11; a refused solve joins nothing and changes nothing.
+// BoxSolver::solve on a tally, which goes in and comes back with the solve's report joined to it, not converged and
+// not exact where a multiplier is left NaN. The answer has the report as `solve` gives it. 5 to 10 are tested first,
+// then 11; a refused solve joins nothing and changes nothing.
 pub fn tallied_solve(
     tally: SolveReport,
     w: &[f64],
@@ -145,7 +162,7 @@ pub fn tallied_solve(
         workspace,
     );
     Tallied {
-        tally: joined_by(tally, answer),
+        tally: joined_by(tally, answer, nu),
         answer,
     }
 }

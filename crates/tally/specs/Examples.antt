@@ -74,6 +74,74 @@ abbrev pub growsBeside : def.Call
 growsBeside =
     call 2304 (0x3E70000000000000 ∷ 0 ∷ 0 ∷ one ∷ []) (0xBFF0000000000000 ∷ 0x4010000000000000 ∷ []) (0 ∷ 0 ∷ []) (∞ ∷ ∞ ∷ []) (one ∷ one ∷ []) (0 ∷ 0 ∷ [])
 
+-- ---- torn wires: what they leave as a multiplier may be NaN
+
+abbrev pub nan : ℕ
+nan = 0x7FF8000000000000
+
+-- one row whose cell is dead: NaN is left
+abbrev pub dead : def.Call
+dead = call 2304 (one ∷ []) (nan ∷ []) (0 ∷ []) (∞ ∷ []) (one ∷ []) (0 ∷ [])
+
+-- two rows that do not act on each other: row 0 is left on its bound, 0, and row 1 is NaN
+abbrev pub deadLast : def.Call
+deadLast = call 2304 (one ∷ 0 ∷ 0 ∷ one ∷ []) (one ∷ nan ∷ []) (0 ∷ 0 ∷ []) (∞ ∷ ∞ ∷ []) (one ∷ one ∷ []) (0 ∷ 0 ∷ [])
+
+-- row 0 NaN, and row 1 with it although its box is 0 alone: 0 times NaN is NaN
+abbrev pub deadFirst : def.Call
+deadFirst = call 2304 (one ∷ 0 ∷ 0 ∷ one ∷ []) (nan ∷ one ∷ []) (0 ∷ 0 ∷ []) (∞ ∷ 0 ∷ []) (one ∷ one ∷ []) (0 ∷ 0 ∷ [])
+
+-- row 0 NaN beside an Idle row, which is left 0
+abbrev pub deadBesideIdle : def.Call
+deadBesideIdle = call 2304 (one ∷ 0 ∷ 0 ∷ 0 ∷ []) (nan ∷ one ∷ []) (0 ∷ 0 ∷ []) (∞ ∷ ∞ ∷ []) (one ∷ one ∷ []) (0 ∷ 0 ∷ [])
+
+-- an Idle row whose free motion is u and whose multiplier starts from x, beside a row that is found
+abbrev pub idleBeside : ℕ → ℕ → def.Call
+idleBeside u x =
+    call 2304 (0 ∷ 0 ∷ 0 ∷ 0x4000000000000000 ∷ []) (u ∷ 0xC010000000000000 ∷ []) (0 ∷ 0 ∷ []) (∞ ∷ ∞ ∷ []) (one ∷ one ∷ []) (x ∷ 0 ∷ [])
+
+-- the same call, its watched motion within a tolerance of NaN
+abbrev pub withinNaN : def.Call → def.Call
+withinNaN c =
+    record {
+      problem = c .problem;
+      watch = record { motion = []; tolerance = ofBits binary64 nan };
+      nu = c .nu;
+      states = c .states;
+      listed = c .listed;
+      room = c .room;
+    }
+
+-- one row whose multiplier starts as NaN, and stays so
+abbrev pub deadStart : def.Call
+deadStart = call 2304 (0x4000000000000000 ∷ []) (0xC010000000000000 ∷ []) (0 ∷ []) (∞ ∷ []) (one ∷ []) (nan ∷ [])
+
+-- an infinite multiplier is left, which is no NaN
+abbrev pub infinite : def.Call
+infinite = call 2304 (one ∷ []) (0xFFF0000000000000 ∷ []) (0 ∷ []) (∞ ∷ []) (0x7ED754E31CD072DA ∷ []) (0 ∷ [])
+
+-- a lower bound of NaN, which no multiplier meets
+abbrev pub boundless : def.Call
+boundless = call 2304 (one ∷ []) (0xBFF0000000000000 ∷ []) (nan ∷ []) (∞ ∷ []) (one ∷ []) (0 ∷ [])
+
+-- growth of row 0 beside a row that is NaN
+abbrev pub growsBesideDead : def.Call
+growsBesideDead =
+    call 2304 (0x3E70000000000000 ∷ 0 ∷ 0 ∷ one ∷ []) (0xBFF0000000000000 ∷ nan ∷ []) (0 ∷ 0 ∷ []) (∞ ∷ ∞ ∷ []) (one ∷ one ∷ []) (0 ∷ 0 ∷ [])
+
+-- all rows Idle
+abbrev pub deadIdle : def.Call
+deadIdle = call 2304 (0 ∷ []) (nan ∷ []) (0 ∷ []) (∞ ∷ []) (one ∷ []) (0 ∷ [])
+
+-- converged by a sweep, not exact, with NaN left in both rows
+abbrev pub deadBySweeps : def.Call
+deadBySweeps =
+    call 2304 (one ∷ 0 ∷ 0 ∷ one ∷ []) (nan ∷ 0xFFE1CCF385EBC8A0 ∷ []) (∞ ∷ 0xFFF0000000000000 ∷ []) (0xC000000000000000 ∷ nan ∷ []) (one ∷ 0x7FEFFFFFFFFFFFFF ∷ []) (∞ ∷ ∞ ∷ [])
+
+-- NaN in the matrix, the free motion and the multiplier, and a scale of 0, which is number 8
+abbrev pub refusesDead : def.Call
+refusesDead = call 2304 (nan ∷ []) (nan ∷ []) (0 ∷ []) (∞ ∷ []) (0 ∷ []) (nan ∷ [])
+
 -- a scale of 0, which is number 8
 abbrev pub refuses : def.Call
 refuses = call 2304 (one ∷ []) (0 ∷ []) (0 ∷ []) (0 ∷ []) (0 ∷ []) (one ∷ [])
@@ -176,6 +244,11 @@ cases =
     case "one pass below, then 11" (tallyOf 0 0 4294967286 0) (exact 2304 ∷ empty ∷ []) (tallyOf 1 1 4294967287 0) (0 ∷ 11 ∷ []) ∷
     case "rows stopped are summed, those of every accepted solve" report.NOTHING (stops ∷ exact 2304 ∷ refuses ∷ growsBeside ∷ stops ∷ [])
     (counts 4 4 3 3 false false 0) (0 ∷ 0 ∷ 8 ∷ 0 ∷ 0 ∷ []) ∷
+    case "a dead cell between two solves that end well: neither flag is won back" report.NOTHING (exact 2304 ∷ dead ∷ exact 2304 ∷ []) (counts 3 3 3 0 false false 0)
+    (0 ∷ 0 ∷ 0 ∷ []) ∷
+    case "the same in another order" report.NOTHING (dead ∷ exact 2304 ∷ exact 2304 ∷ []) (counts 3 3 3 0 false false 0) (0 ∷ 0 ∷ 0 ∷ []) ∷
+    case "a refused solve joins nothing, NaN or not" report.NOTHING (refusesDead ∷ []) report.NOTHING (8 ∷ []) ∷
+    case "a dead cell on a full tally" (tallyOf 4294967295 0 0 0) (dead ∷ []) (tallyOf 4294967295 0 0 0) (11 ∷ []) ∷
     case "11 by rows stopped, though this solve would stop none" (tallyOf 0 0 0 4294967264) (exact 2304 ∷ []) (tallyOf 0 0 0 4294967264) (11 ∷ []) ∷
     case "one row stopped below, then 11" (tallyOf 0 0 0 4294967263) (stops ∷ empty ∷ []) (tallyOf 1 1 1 4294967264) (0 ∷ 11 ∷ []) ∷
     case "10 and 8 before 11" (tallyOf 4294967295 0 0 0) (exact 2303 ∷ refuses ∷ empty ∷ []) (tallyOf 4294967295 0 0 0) (10 ∷ 8 ∷ 11 ∷ []) ∷
@@ -184,7 +257,49 @@ cases =
     case "16 before 8, and both before 11" (tallyOf 4294967295 0 0 0) (lower 2 refuses ∷ lower 1 refuses ∷ lower 3 fights ∷ []) (tallyOf 4294967295 0 0 0)
     (16 ∷ 8 ∷ 11 ∷ []) ∷ []
 
-table : allPass cases ≡ true
+-- ---- what a report says, and what the tally takes it as
+
+-- its name, the call, the flags that its report has, the multipliers that it leaves, and the tally, which was empty
+pub record Taking : Type 0 where
+  name : String
+  call : def.Call
+  converged : Bool
+  exact : Bool
+  left : List ℕ
+  tally : SolveReport
+
+taking : String → def.Call → Bool → Bool → List ℕ → SolveReport → Taking
+taking m x c e l t = record { name = m; call = x; converged = c; exact = e; left = l; tally = t }
+
+says : Bool → Bool → solve.Outcome → Bool
+says c e (solve.refused k) = false
+says c e (solve.solved r) = Bool·beq (r .converged) c && Bool·beq (r .exact) e
+says c e (solve.infeasible f l r) = Bool·beq (r .converged) c && Bool·beq (r .exact) e
+
+isTaken : Taking → def.Tallied → Bool
+isTaken k t = says (k .converged) (k .exact) (t .answer .outcome) && same (map (toBits binary64) (t .answer .nu)) (k .left) && sameTally (t .tally) (k .tally)
+
+allTaken : List Taking → Bool
+allTaken [] = true
+allTaken (k ∷ l) = isTaken k (def.tallied report.NOTHING (k .call)) && allTaken l
+
+takings : List Taking
+takings =
+    taking "a solve that ends well" (exact 2304) true true (0x4000000000000000 ∷ []) (tallyOf 1 1 1 0) ∷
+    taking "a dead cell: the report says converged and exact, the tally neither" dead true true (nan ∷ []) (counts 1 1 1 0 false false 0) ∷
+    taking "NaN in the last row alone" deadLast true true (0 ∷ nan ∷ []) (counts 1 1 1 1 false false 0) ∷
+    taking "NaN in every row" deadFirst true true (nan ∷ nan ∷ []) (counts 1 1 1 0 false false 0) ∷
+    taking "NaN in the first row alone" deadBesideIdle true true (nan ∷ 0 ∷ []) (counts 1 1 1 0 false false 0) ∷
+    taking "an Idle row's NaN motion and a NaN tolerance reach no multiplier" (withinNaN (idleBeside nan 0)) true true (0 ∷ 0x4000000000000000 ∷ []) (tallyOf 1 1 1 0) ∷
+    taking "an Idle row's start of NaN is not left" (idleBeside 0 nan) true true (0 ∷ 0x4000000000000000 ∷ []) (tallyOf 1 1 1 0) ∷
+    taking "an acting row's start of NaN is" deadStart true true (nan ∷ []) (counts 1 1 1 0 false false 0) ∷
+    taking "an infinite multiplier is no NaN" infinite true false (∞ ∷ []) (counts 1 1 1 0 true false 0) ∷
+    taking "a NaN bound" boundless true true (one ∷ []) (tallyOf 1 1 1 0) ∷
+    taking "growth beside a dead cell" growsBesideDead false false (0x4170000000000000 ∷ nan ∷ []) (counts 1 1 0 0 false false 0) ∷
+    taking "all rows Idle" deadIdle true true (0 ∷ []) (tallyOf 1 0 0 0) ∷
+    taking "converged by a sweep" deadBySweeps true false (nan ∷ nan ∷ []) (counts 1 1 1 0 false false 0) ∷ []
+
+table : allPass cases && allTaken takings ≡ true
 unfolding
     loops.turns loops.between loops.downward loops.swap loops.tab loops.those loops.every loops.noted loops.counted
     updates.updated
@@ -211,6 +326,7 @@ unfolding
     solve.result solve.solve solve.goodScale solve.refusal solve.reply rowStart withinLimits wrongLength triangleRefusal refusalOf
     add sub mul div ofBits toBits lt le eq ne neg
     report.sumFits report.sumsFit report.allSumsFit report.and
-    def.alone def.turned def.full def.numberOn def.answerOn def.with def.tallied def.before def.all
+    def.alone def.noNaN def.taken def.full def.numberOn def.answerOn def.with def.tallied def.before def.all
     counts tallyOf case sameTally same numberIn unless sameBuffers answersAre comesTo passes allPass cases
+    taking says isTaken allTaken takings
 table = refl

@@ -1,9 +1,13 @@
 -- The tallied solve of document 01: a solve whose report is joined to a tally, and a list of them. Definitions only.
 use Prim.Native.Nat.{ℕ}
-use mathlib.Core.Bool.{Bool, cond, _||_}
+use mathlib.Core.Bool.{Bool, not, cond, _&&_, _||_}
 use mathlib.Core.List.{List, [], _∷_}
 use lib.Dec.{ltb, eqb}
+use lib.ListN.{length}
 use lib.Ieee.{Float}
+use Rattle.loops.specs.Loops.{every}
+use Rattle.floats.specs.Ops.{at}
+use Rattle.floats.specs.Helpers.{isNaN}
 use Rattle.box_rows.specs.Rows.{Problem}
 use Rattle.boxed.specs.Solve.{Watch, Outcome, refused, solved, infeasible, Result, reply, SWEEP_CAP}
 use Rattle.boxed.specs.declared.BoxReport.{BoxReport}
@@ -32,9 +36,17 @@ alone c = reply SWEEP_CAP (c .problem) (c .watch) (c .nu) (c .states) (c .listed
 
 -- ---- a report joined to the tally
 
--- the SolveReport that a BoxReport is turned into
-unfoldable pub turned : BoxReport → SolveReport
-turned r =
+-- whether no multiplier is NaN
+abbrev pub notNaNAt : List Float → ℕ → Bool
+notNaNAt nu i = not (isNaN (at nu i))
+
+unfoldable pub noNaN : List Float → Bool
+noNaN nu = every (notNaNAt nu) (length nu)
+
+-- What the tally takes a report as, nu being the multipliers that its solve left: it is converged, or exact, only if the report says so and none of them is NaN. All else is as
+-- reported.
+unfoldable pub taken : BoxReport → List Float → SolveReport
+taken r nu =
     record {
       increments = 1;
       iterations = 0;
@@ -44,8 +56,8 @@ turned r =
       sweeps = r .sweeps;
       «exact_passes» = r .«exact_passes»;
       stopped = r .stopped;
-      converged = r .converged;
-      exact = r .exact;
+      converged = r .converged && noNaN nu;
+      exact = r .exact && noNaN nu;
       residual = r .residual;
     }
 
@@ -54,11 +66,11 @@ abbrev pub kept : SolveReport → report.Answer → SolveReport
 kept t (report.refused k) = t
 kept t (report.joined s) = s
 
--- a refused solve joins nothing
-abbrev pub joinedTo : SolveReport → Outcome → SolveReport
-joinedTo t (refused k) = t
-joinedTo t (solved r) = kept t (report.and t (turned r))
-joinedTo t (infeasible c l r) = kept t (report.and t (turned r))
+-- the tally after a solve that left the multipliers nu; a refused one joins nothing
+abbrev pub joinedTo : SolveReport → Outcome → List Float → SolveReport
+joinedTo t (refused k) nu = t
+joinedTo t (solved r) nu = kept t (report.and t (taken r nu))
+joinedTo t (infeasible c l r) nu = kept t (report.and t (taken r nu))
 
 -- ---- the tallied solve
 
@@ -79,7 +91,7 @@ pub record Tallied : Type 0 where
   pub answer : Result
 
 unfoldable pub with : SolveReport → Result → Tallied
-with t a = record { tally = joinedTo t (a .outcome); answer = a }
+with t a = record { tally = joinedTo t (a .outcome) (a .nu); answer = a }
 
 unfoldable pub tallied : SolveReport → Call → Tallied
 tallied t c = with t (answerOn t c)

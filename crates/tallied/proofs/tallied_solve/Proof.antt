@@ -52,8 +52,9 @@ same-length-7 c = search needs
 returns-2 : tie.Need-returns-2
 unfolding refusalOf solveReply
 returns-2 c =
-    let full = c .before .before .before .before .before .before .before .before .before .before .before .before .before .before .before .full .ensures in
-    on-room _ _ (sym full ∙ c .before .before .before .before .before .before .before .before .before .before .before .before .before .before .if1 .left) _ _ _ _ _ _ _ (c .before .before .before .before .before .before .before .before .before .solve .ensures) (c .joined-by .ensures)
+    let at-solve = c .before .before .before .before .before .before .before .before .before .before in
+    let at-if1 = at-solve .before .before .before .before .before in
+    on-room _ _ (sym (at-if1 .before .full .ensures) ∙ at-if1 .if1 .left) _ _ _ _ _ _ _ (at-solve .solve .ensures) (c .joined-by .ensures)
 
 pub tallied-solve-spec : {M : Type 1} → statement M
 tallied-solve-spec =
