@@ -11,6 +11,7 @@ pub mod Made
 pub mod Solves
 pub mod Decided
 pub mod Orders
+pub mod Flags
 pub mod Theorem
 pub mod Instance
 pub mod Called

@@ -10,11 +10,11 @@ use lib.Ieee.Bits.{ofBits-fits}
 use Rattle.report.specs.Joins.{NOTHING, both}
 use Rattle.report.specs.declared.SolveReport.{SolveReport}
 use Rattle.boxed.specs.Solve.{Result}
-use Rattle.boxed.specs.declared.BoxReport.{BoxReport}
-use Rattle.tally.specs.Tally.{Call, number, alone, turned, Tallies}
+use Rattle.tally.specs.Tally.{Call, number, alone, taken, Tallies}
 use Rattle.demand3.specs.Claims.{BoundsInOrder, Claims}
-use Rattle.demand3.specs.Demand.{Every, EachAnswer, beside, reported, sumOf, turnedInto, Sums, Demand}
-use Rattle.demand3.proofs.Orders.{total, total-sum, total-most, within-nothing, all-is, total-perm}
+use Rattle.demand3.specs.Demand.{Every, EachAnswer, beside, Accepted, accepted, sumOf, takenAs, turnedInto, Sums, convergedWithoutNaN, exactWithoutNaN, Flags, Demand}
+use Rattle.demand3.proofs.Orders.{total, total-sum, total-most, total-flag, within-nothing, all-is, total-perm}
+use Rattle.demand3.proofs.Flags.{all-same, converged-is, exact-is}
 use Rattle.demand3.proofs.Solves.{modest, claims}
 
 perm-length : {l k : List Call} → List·Permᴰ l k → length l ≡ length k
@@ -48,45 +48,54 @@ from-nothing : (f : SolveReport → ℕ) → ((a b : SolveReport) → f (both a 
 from-nothing f adds z l =
     total-sum f adds l NOTHING ∙ ap (λ (x : ℕ). x + sumOf f (turnedInto (map alone l))) z ∙ zero-add (sumOf f (turnedInto (map alone l)))
 
-one-each : (l : List BoxReport) → sumOf (λ (r : SolveReport). r .increments) (map turned l) ≡ length l
-unfolding turned
+one-each : (l : List Accepted) → sumOf (λ (r : SolveReport). r .increments) (map takenAs l) ≡ length l
+unfolding taken
 one-each [] = refl
 one-each (r ∷ l) = rw (one-each l) (omega arith)
 
-none-each : (l : List BoxReport) → sumOf (λ (r : SolveReport). r .«most_iterations») (map turned l) ≡ 0
-unfolding turned
+none-each : (l : List Accepted) → sumOf (λ (r : SolveReport). r .«most_iterations») (map takenAs l) ≡ 0
+unfolding taken
 none-each [] = refl
 none-each (r ∷ l) = rw (none-each l)
 
-sweeps-each : (l : List BoxReport) → sumOf (λ (r : SolveReport). r .sweeps) (map turned l) ≡ sumOf (λ (r : BoxReport). r .sweeps) l
-unfolding turned
+sweeps-each : (l : List Accepted) → sumOf (λ (r : SolveReport). r .sweeps) (map takenAs l) ≡ sumOf (λ (a : Accepted). a .report .sweeps) l
+unfolding taken
 sweeps-each [] = refl
 sweeps-each (r ∷ l) = rw (sweeps-each l)
 
-passes-each : (l : List BoxReport) → sumOf (λ (r : SolveReport). r .«exact_passes») (map turned l) ≡ sumOf (λ (r : BoxReport). r .«exact_passes») l
-unfolding turned
+passes-each : (l : List Accepted) → sumOf (λ (r : SolveReport). r .«exact_passes») (map takenAs l) ≡ sumOf (λ (a : Accepted). a .report .«exact_passes») l
+unfolding taken
 passes-each [] = refl
 passes-each (r ∷ l) = rw (passes-each l)
 
-stopped-each : (l : List BoxReport) → sumOf (λ (r : SolveReport). r .stopped) (map turned l) ≡ sumOf (λ (r : BoxReport). r .stopped) l
-unfolding turned
+stopped-each : (l : List Accepted) → sumOf (λ (r : SolveReport). r .stopped) (map takenAs l) ≡ sumOf (λ (a : Accepted). a .report .stopped) l
+unfolding taken
 stopped-each [] = refl
 stopped-each (r ∷ l) = rw (stopped-each l)
 
 sums-of : (l : List Call) → Sums (record { tally = total NOTHING l; answers = map alone l })
 sums-of l =
     record {
-      increments = from-nothing (λ r. r .increments) (λ a b. refl) refl l ∙ one-each (reported (map alone l));
+      increments = from-nothing (λ r. r .increments) (λ a b. refl) refl l ∙ one-each (accepted (map alone l));
       iterations = from-nothing (λ r. r .iterations) (λ a b. refl) refl l;
-      «most_iterations» = total-most l NOTHING refl ∙ sym (none-each (reported (map alone l)));
+      «most_iterations» = total-most l NOTHING refl ∙ sym (none-each (accepted (map alone l)));
       rejected = from-nothing (λ r. r .rejected) (λ a b. refl) refl l;
       anchors = from-nothing (λ r. r .anchors) (λ a b. refl) refl l;
       sweeps = from-nothing (λ r. r .sweeps) (λ a b. refl) refl l;
       «exact_passes» = from-nothing (λ r. r .«exact_passes») (λ a b. refl) refl l;
       stopped = from-nothing (λ r. r .stopped) (λ a b. refl) refl l;
-      sweepsReported = from-nothing (λ r. r .sweeps) (λ a b. refl) refl l ∙ sweeps-each (reported (map alone l));
-      passesReported = from-nothing (λ r. r .«exact_passes») (λ a b. refl) refl l ∙ passes-each (reported (map alone l));
-      stoppedReported = from-nothing (λ r. r .stopped) (λ a b. refl) refl l ∙ stopped-each (reported (map alone l));
+      sweepsReported = from-nothing (λ r. r .sweeps) (λ a b. refl) refl l ∙ sweeps-each (accepted (map alone l));
+      passesReported = from-nothing (λ r. r .«exact_passes») (λ a b. refl) refl l ∙ passes-each (accepted (map alone l));
+      stoppedReported = from-nothing (λ r. r .stopped) (λ a b. refl) refl l ∙ stopped-each (accepted (map alone l));
+    }
+
+-- ---- flags
+
+flags-of : (l : List Call) → Flags (record { tally = total NOTHING l; answers = map alone l })
+flags-of l =
+    record {
+      converged = total-flag (λ r. r .converged) (λ a b. refl) l NOTHING ∙ all-same (λ a. takenAs a .converged) convergedWithoutNaN converged-is (accepted (map alone l));
+      exact = total-flag (λ r. r .exact) (λ a b. refl) l NOTHING ∙ all-same (λ a. takenAs a .exact) exactWithoutNaN exact-is (accepted (map alone l));
     }
 
 -- ---- the theorem
@@ -102,5 +111,6 @@ demand3 l k d b fair =
       aloneOne = ap (λ (t : Tallies). t .answers) e;
       aloneOther = ap (λ (t : Tallies). t .answers) g;
       sums = rw e (sums-of l);
+      flags = rw e (flags-of l);
       claims = rw e (each-claims l fair);
     }

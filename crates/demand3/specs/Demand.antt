@@ -4,13 +4,15 @@
 -- call (`Call`), so they go with the solve when the order changes.
 use Prim.Native.Nat.{ℕ, _+_, _≤_}
 use mathlib.Core.Path.{_≡_}
+use mathlib.Core.Bool.{Bool, true, not, _&&_}
 use mathlib.Core.List.{List, [], _∷_, map, List·Permᴰ}
 use lib.ListN.{length}
+use lib.Ieee.{Float, ne}
 use Rattle.report.specs.Joins.{NOTHING}
 use Rattle.report.specs.declared.SolveReport.{SolveReport}
 use Rattle.boxed.specs.Solve.{Outcome, refused, solved, infeasible, Result}
 use Rattle.boxed.specs.declared.BoxReport.{BoxReport}
-use Rattle.tally.specs.Tally.{Call, number, alone, turned, all, Tallies}
+use Rattle.tally.specs.Tally.{Call, number, alone, taken, all, Tallies}
 use Rattle.demand3.specs.Claims.{BoundsInOrder, Claims}
 
 -- of each solve of a list
@@ -33,27 +35,34 @@ beside (c ∷ l) (a ∷ r) = (c, a) ∷ beside l r
 
 -- ---- sums
 
--- the reports of the solves accepted
-abbrev pub reportIn : Outcome → List BoxReport → List BoxReport
-reportIn (refused k) l = l
-reportIn (solved r) l = r ∷ l
-reportIn (infeasible c s r) l = r ∷ l
+-- of a solve accepted, its report and the multipliers that it left
+pub record Accepted : Type 0 where
+  pub report : BoxReport
+  pub nu : List Float
 
-abbrev pub reported : List Result → List BoxReport
-reported [] = []
-reported (a ∷ r) = reportIn (a .outcome) (reported r)
+abbrev pub acceptedIn : Outcome → List Float → List Accepted → List Accepted
+acceptedIn (refused k) nu l = l
+acceptedIn (solved r) nu l = record { report = r; nu = nu } ∷ l
+acceptedIn (infeasible c s r) nu l = record { report = r; nu = nu } ∷ l
+
+abbrev pub accepted : List Result → List Accepted
+accepted [] = []
+accepted (a ∷ r) = acceptedIn (a .outcome) (a .nu) (accepted r)
 
 abbrev pub sumOf : {A : Type 0} → (A → ℕ) → List A → ℕ
 sumOf f [] = 0
 sumOf f (r ∷ l) = f r + sumOf f l
 
 -- the SolveReports that they were turned into
+abbrev pub takenAs : Accepted → SolveReport
+takenAs a = taken (a .report) (a .nu)
+
 abbrev pub turnedInto : List Result → List SolveReport
-turnedInto r = map turned (reported r)
+turnedInto r = map takenAs (accepted r)
 
 -- the tally's increments are the number of accepted solves, each other count the sum of that count over the SolveReports they were turned into
 pub record Sums (t : Tallies) : Type 0 where
-  pub increments : t .tally .increments ≡ length (reported (t .answers))
+  pub increments : t .tally .increments ≡ length (accepted (t .answers))
   pub iterations : t .tally .iterations ≡ sumOf (λ r. r .iterations) (turnedInto (t .answers))
   pub «most_iterations» : t .tally .«most_iterations» ≡ sumOf (λ r. r .«most_iterations») (turnedInto (t .answers))
   pub rejected : t .tally .rejected ≡ sumOf (λ r. r .rejected) (turnedInto (t .answers))
@@ -62,9 +71,31 @@ pub record Sums (t : Tallies) : Type 0 where
   pub «exact_passes» : t .tally .«exact_passes» ≡ sumOf (λ r. r .«exact_passes») (turnedInto (t .answers))
   pub stopped : t .tally .stopped ≡ sumOf (λ r. r .stopped) (turnedInto (t .answers))
   -- the sweeps, passes and rows stopped that the solves themselves reported
-  pub sweepsReported : t .tally .sweeps ≡ sumOf (λ r. r .sweeps) (reported (t .answers))
-  pub passesReported : t .tally .«exact_passes» ≡ sumOf (λ r. r .«exact_passes») (reported (t .answers))
-  pub stoppedReported : t .tally .stopped ≡ sumOf (λ r. r .stopped) (reported (t .answers))
+  pub sweepsReported : t .tally .sweeps ≡ sumOf (λ a. a .report .sweeps) (accepted (t .answers))
+  pub passesReported : t .tally .«exact_passes» ≡ sumOf (λ a. a .report .«exact_passes») (accepted (t .answers))
+  pub stoppedReported : t .tally .stopped ≡ sumOf (λ a. a .report .stopped) (accepted (t .answers))
+
+-- ---- flags
+
+abbrev pub allOf : {A : Type 0} → (A → Bool) → List A → Bool
+allOf f [] = true
+allOf f (x ∷ l) = f x && allOf f l
+
+-- a NaN alone differs from itself
+abbrev pub notNaN : Float → Bool
+notNaN x = not (ne x x)
+
+-- the report says so, and no multiplier left is NaN
+abbrev pub convergedWithoutNaN : Accepted → Bool
+convergedWithoutNaN a = a .report .converged && allOf notNaN (a .nu)
+
+abbrev pub exactWithoutNaN : Accepted → Bool
+exactWithoutNaN a = a .report .exact && allOf notNaN (a .nu)
+
+-- the tally is converged, or exact, exactly if the report of every accepted solve says so and no multiplier that it left is NaN
+pub record Flags (t : Tallies) : Type 0 where
+  pub converged : t .tally .converged ≡ allOf convergedWithoutNaN (accepted (t .answers))
+  pub exact : t .tally .exact ≡ allOf exactWithoutNaN (accepted (t .answers))
 
 -- ---- two orders of one list
 
@@ -77,6 +108,7 @@ pub record Demanded (l k : List Call) : Type 0 where
   pub aloneOne : all NOTHING l .answers ≡ map alone l
   pub aloneOther : all NOTHING k .answers ≡ map alone k
   pub sums : Sums (all NOTHING l)
+  pub flags : Flags (all NOTHING l)
   pub claims : EachAnswer Claims l (all NOTHING l .answers)
 
 -- every list of at most 20,000,000 tallied solves from an empty tally, refused ones included, with every lower bound at most its upper where accepted, and every order of it
