@@ -27,6 +27,8 @@ mod stop_tests;
 #[cfg(test)]
 mod tests;
 #[cfg(test)]
+mod torn_tests;
+#[cfg(test)]
 mod triangle_tests;
 mod vectors;
 
@@ -41,10 +43,10 @@ use calls::joins::Joins;
 use calls::least_norm::LeastNorm;
 use calls::nearest::Nearest;
 use calls::solve::Solve;
-use calls::tallied::Tallied;
+use calls::tallied::{Tallied, TORN};
 use calls::triangle::Triangle;
 use calls::Call;
-use run::{run, show, Totals};
+use run::{run, run_families, show, Totals};
 use std::process::ExitCode;
 use std::time::Instant;
 
@@ -62,6 +64,7 @@ compare COMMAND
                           as many roundings to the nearest
   trees [TREES]           row sums without rounding in several orders and groupings: at least TREES (1,000,000) sets
                           of terms, and as many joins of two
+  torn [LISTS]            lists of tallied solves, some with a torn cell wire: LISTS (1,000,000), each in several orders
   vectors DIR             writes the original's answers for replay
   files DIR               writes bend files with what bendsolve must print for each
   bench [--write]         times of port and original; --write: docs/PERFORMANCE.md and performance.svg
@@ -174,6 +177,8 @@ fn main() -> ExitCode {
         ["exact", rows] => number(rows).map_or_else(usage, exact),
         ["trees"] => trees(1_000_000),
         ["trees", sets] => number(sets).map_or_else(usage, trees),
+        ["torn"] => torn(1_000_000),
+        ["torn", lists] => number(lists).map_or_else(usage, torn),
         ["files", folder] => outcome(bendsolve::write(folder.as_ref())),
         ["bench"] => outcome(bench::run(false)),
         ["bench", "--write"] => outcome(bench::run(true)),
@@ -381,9 +386,33 @@ fn tree_calls(checks: &mut Checks, seed: u64, sets: u64) -> u64 {
     long_call::<ExactJoin>(checks, seed, joins) + long_call::<ExactTrees>(checks, seed, trees)
 }
 
+/// Lists of tallied solves, some with a torn cell wire.
+fn torn(lists: u64) -> ExitCode {
+    let mut checks = Checks::default();
+    if port::TALLIED.is_none() {
+        let name = Tallied::NAME;
+        checks.note(
+            false,
+            &format!("{name}: the static library has no such call"),
+        );
+    }
+    let differing = long_families::<Tallied>(&mut checks, &[TORN], 3, lists);
+    println!("differing {differing}");
+    checks.end()
+}
+
 fn long_call<C: Call>(checks: &mut Checks, seed: u64, each: u64) -> u64 {
+    long_families::<C>(checks, &C::families(), seed, each)
+}
+
+fn long_families<C: Call>(
+    checks: &mut Checks,
+    families: &[&'static str],
+    seed: u64,
+    each: u64,
+) -> u64 {
     let start = Instant::now();
-    let totals = run::<C>(seed, each);
+    let totals = run_families::<C>(families, seed, each);
     println!(
         "{}: {} cases, {:.0} s",
         C::NAME,

@@ -59,10 +59,15 @@ impl Totals {
 
 /// Runs `each` cases of every family of a call.
 pub fn run<C: Call>(seed: u64, each: u64) -> Totals {
+    run_families::<C>(&C::families(), seed, each)
+}
+
+/// Runs `each` cases of these families of a call.
+pub fn run_families<C: Call>(families: &[&'static str], seed: u64, each: u64) -> Totals {
     let mut totals = Totals::default();
     thread::scope(|scope| {
         let parts: Vec<_> = (0..THREADS)
-            .map(|part| scope.spawn(move || run_part::<C>(seed, each, part)))
+            .map(|part| scope.spawn(move || run_part::<C>(families, seed, each, part)))
             .collect();
         for part in parts {
             match part.join() {
@@ -77,9 +82,9 @@ pub fn run<C: Call>(seed: u64, each: u64) -> Totals {
 }
 
 /// Every THREADS-th case, so that the parts take about as long.
-fn run_part<C: Call>(seed: u64, each: u64, part: u64) -> Totals {
+fn run_part<C: Call>(families: &[&'static str], seed: u64, each: u64, part: u64) -> Totals {
     let mut totals = Totals::default();
-    for family in C::families() {
+    for &family in families {
         for index in (part..each).step_by(THREADS as usize) {
             let Some(case) = C::case(family, &mut Rng::of_case(family, seed, index)) else {
                 continue;

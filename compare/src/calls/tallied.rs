@@ -6,8 +6,10 @@ use super::solve::{self, Answer as SolveAnswer};
 use super::{Call, Zeros};
 use crate::cases::random::Rng;
 use crate::cases::solve as cases;
+use crate::cases::torn;
+use crate::cases::torn_examples::{examples, Example};
 use crate::cases::triangles::{self, Pair};
-use crate::coverage::{Class, Coverage};
+use crate::coverage::{Class, Coverage, EXAMPLES};
 use crate::port;
 use crate::reference::report::{tallied, SolveReport, NOTHING};
 use crate::reference::rule::{Place, Rule};
@@ -24,9 +26,23 @@ struct One {
 }
 
 impl One {
+    fn whole(sent: cases::Case) -> Self {
+        One {
+            sent,
+            mirrored: None,
+        }
+    }
+
+    fn lower(pair: Pair) -> Self {
+        One {
+            sent: pair.sent,
+            mirrored: Some(pair.mirrored),
+        }
+    }
+
     /// The call with the whole matrix, which is the original's.
     #[cfg(original)]
-    fn whole(&self) -> &cases::Case {
+    fn with_matrix(&self) -> &cases::Case {
         self.mirrored.as_ref().unwrap_or(&self.sent)
     }
 
@@ -49,16 +65,35 @@ pub struct Case {
     order: Vec<usize>,
     /// Whether the tally starts as NOTHING.
     empty: bool,
+    /// The worked example that it is.
+    example: Option<usize>,
+}
+
+#[cfg(test)]
+impl Case {
+    /// The list's first solves alone, in their own order.
+    pub fn first(mut self, solves: usize) -> Self {
+        self.solves.truncate(solves);
+        self.order = (0..solves).collect();
+        self
+    }
 }
 
 /// The tally at the end and each solve's answer, in the list's order.
 pub struct Answer {
-    tally: SolveReport,
-    answers: Vec<SolveAnswer>,
+    pub tally: SolveReport,
+    pub answers: Vec<SolveAnswer>,
 }
 
 const LISTS: &str = "tallied/lists";
 const FULL: &str = "tallied/full";
+/// Lists of solves, some with a torn cell wire.
+pub const TORN: &str = "tallied/torn";
+
+/// Whether a solve left a NaN multiplier.
+fn left_nan(answer: &SolveAnswer) -> bool {
+    answer.nu.iter().any(|v| v.is_nan())
+}
 
 /// Makes the solves in the given order.
 fn run(
@@ -141,6 +176,65 @@ fn full_tally(rng: &mut Rng) -> SolveReport {
     tally
 }
 
+/// Solves of any family, some of them refused for their lengths; half of them
+/// have their matrix as its lower triangle.
+fn any_solve(rng: &mut Rng) -> Option<One> {
+    let families = cases::families();
+    let lengths = rng.chance(25);
+    let family = if lengths {
+        "solve/lengths"
+    } else {
+        rng.pick(&families)
+    };
+    if rng.chance(50) {
+        return Some(One::lower(triangles::of_family(family, rng)?));
+    }
+    Some(One::whole(cases::case(family, rng)?))
+}
+
+/// Solves some of which have a torn wire, a third of them as triangles.
+fn torn_solve(rng: &mut Rng) -> Option<One> {
+    let case = torn::solve(rng)?;
+    Some(if rng.chance(33) {
+        One::lower(triangles::of_case(case))
+    } else {
+        One::whole(case)
+    })
+}
+
+/// A worked list as a case, in its own order.
+pub fn worked(example: &Example) -> Case {
+    let solves = example.steps.iter().map(|step| {
+        let n = step.problem.n();
+        One::whole(cases::Case {
+            problem: step.problem.clone(),
+            workspace_len: 2_304,
+            states_len: n,
+            rows_len: n,
+            fill: 0.5,
+            example: None,
+        })
+    });
+    Case {
+        tally: example.from,
+        solves: solves.collect(),
+        order: (0..example.steps.len()).collect(),
+        empty: example.from.stopped == 0,
+        example: Some(example.number),
+    }
+}
+
+/// What one solve of a list left, for the classes.
+fn left(answer: &SolveAnswer) -> Option<&'static str> {
+    let (_, report) = answer.ending.as_ref()?;
+    Some(match (left_nan(answer), report.exact, report.converged) {
+        (false, _, _) => "no NaN",
+        (true, true, _) => "NaN, reported exact",
+        (true, false, true) => "NaN, reported converged by sweeps",
+        (true, false, false) => "NaN, reported neither",
+    })
+}
+
 impl Call for Tallied {
     type Case = Case;
     type Answer = Answer;
@@ -167,45 +261,46 @@ impl Call for Tallied {
                 "infeasible sweep",
             ],
         },
+        Class {
+            group: "left",
+            names: &[
+                "no NaN",
+                "NaN, reported exact",
+                "NaN, reported converged by sweeps",
+                "NaN, reported neither",
+            ],
+        },
+        Class {
+            group: "worked list",
+            names: EXAMPLES.split_at(20).0,
+        },
     ];
 
     fn families() -> Vec<&'static str> {
-        vec![LISTS, FULL]
+        vec![LISTS, FULL, TORN]
     }
 
     fn case(family: &str, rng: &mut Rng) -> Option<Case> {
-        let empty = match family {
-            LISTS => true,
-            FULL => false,
+        let lists = &examples().lists;
+        if family == TORN && rng.chance(5) {
+            return Some(worked(&lists[rng.below(lists.len())]));
+        }
+        let (empty, solve): (bool, fn(&mut Rng) -> Option<One>) = match family {
+            LISTS => (true, any_solve),
+            FULL => (false, any_solve),
+            TORN => (true, torn_solve),
             _ => return None,
         };
         let tally = if empty { NOTHING } else { full_tally(rng) };
-        let families = cases::families();
         let count = 1 + rng.below(5);
-        let solves: Vec<One> = (0..count)
-            .filter_map(|_| {
-                let lengths = rng.chance(25);
-                let family = if lengths {
-                    "solve/lengths"
-                } else {
-                    rng.pick(&families)
-                };
-                if rng.chance(50) {
-                    let Pair { sent, mirrored } = triangles::of_family(family, rng)?;
-                    let mirrored = Some(mirrored);
-                    return Some(One { sent, mirrored });
-                }
-                let sent = cases::case(family, rng)?;
-                let mirrored = None;
-                Some(One { sent, mirrored })
-            })
-            .collect();
+        let solves: Vec<One> = (0..count).filter_map(|_| solve(rng)).collect();
         let order = rng.permutation(solves.len());
         Some(Case {
             tally,
             solves,
             order,
             empty,
+            example: None,
         })
     }
 
@@ -235,17 +330,18 @@ impl Call for Tallied {
             if known.number == 16 {
                 return known.clone();
             }
-            let Some(answer) = solve::original(one.whole(), known) else {
+            let Some(answer) = solve::original(one.with_matrix(), known) else {
                 return known.clone();
             };
             if let Some((_, report)) = &answer.ending {
+                let no_nan = !left_nan(&answer);
                 let joined = SolveReport {
                     increments: 1,
                     sweeps: report.sweeps,
                     exact_passes: report.exact_passes,
                     stopped: report.stopped,
-                    converged: report.converged,
-                    exact: report.exact,
+                    converged: report.converged && no_nan,
+                    exact: report.exact && no_nan,
                     residual: report.residual,
                     ..NOTHING
                 };
@@ -290,7 +386,13 @@ impl Call for Tallied {
 
     fn cover(case: &Case, answer: &Answer, coverage: &mut Coverage) {
         coverage.number("solves", case.solves.len());
+        if let Some(number) = case.example {
+            coverage.count("worked list", EXAMPLES[number - 1]);
+        }
         for (one, answer) in case.solves.iter().zip(&answer.answers) {
+            if let Some(left) = left(answer) {
+                coverage.count("left", left);
+            }
             solve::cover(&one.sent, answer, coverage);
         }
     }

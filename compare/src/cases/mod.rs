@@ -24,4 +24,6 @@ pub mod stop_examples;
 pub mod stops;
 pub mod sums;
 pub mod sweeps;
+pub mod torn;
+pub mod torn_examples;
 pub mod triangles;

@@ -63,7 +63,7 @@ fn values(text: &str) -> Option<Vec<f64>> {
     Some(values)
 }
 
-fn problem(text: &str) -> Option<Owned> {
+pub(super) fn problem(text: &str) -> Option<Owned> {
     let (sizes, numbers) = text.split_once(" numbers ")?;
     let sizes: Vec<&str> = sizes.split(' ').collect();
     let ["n", n, "coords", coords] = sizes[..] else {
@@ -87,7 +87,7 @@ fn problem(text: &str) -> Option<Owned> {
     (problem.motion.len() == coords * n && rest.next().is_none()).then_some(problem)
 }
 
-fn example(number: usize, problem: Owned, text: &str) -> Option<Example> {
+pub(super) fn example(number: usize, problem: Owned, text: &str) -> Option<Example> {
     let (report, rest) = text.split_once(" states ")?;
     let (states, rest) = rest.split_once(" nu ")?;
     let (nu, rows) = rest.split_once(" rows ")?;

@@ -57,6 +57,12 @@ pub fn case(family: &str, rng: &mut Rng) -> Option<Pair> {
     of_family(name, rng)
 }
 
+/// The lower triangle of a case's matrix.
+pub fn of_case(case: Case) -> Pair {
+    let t = lower(&case.problem.w, case.problem.n());
+    Pair::of(case, t)
+}
+
 /// A triangle from a family of the solve's.
 pub fn of_family(name: &str, rng: &mut Rng) -> Option<Pair> {
     let case = solve::case(name, rng)?;

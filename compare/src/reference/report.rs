@@ -183,8 +183,31 @@ fn tally_full(tally: &SolveReport, rule: Rule) -> bool {
     counted || tally.sweeps > sweeps || tally.exact_passes > passes || tally.stopped > stopped
 }
 
-/// The report of one solve as the tally takes it.
-fn as_solve_report(report: &BoxReport, rule: Rule) -> SolveReport {
+fn any_nan(values: &[f64]) -> bool {
+    values.iter().any(|v| v.is_nan())
+}
+
+/// Whether a solve of `p` that started from `start` and left `nu` left no NaN.
+fn no_nan(p: &Problem, start: &[f64], nu: &[f64], rule: Rule) -> bool {
+    let nan = match rule {
+        Rule::TakenAsReported => false,
+        Rule::TakenByFirstRow => nu.first().is_some_and(|v| v.is_nan()),
+        Rule::TakenByLastRow => nu.last().is_some_and(|v| v.is_nan()),
+        Rule::TakenByAllRows => !nu.is_empty() && nu.iter().all(|v| v.is_nan()),
+        Rule::TakenByInfinite => nu.iter().any(|v| !v.is_finite()),
+        Rule::TakenByInput => {
+            let slices = [p.w, p.u_free, p.lo, p.hi, p.motion, start];
+            p.tolerance.is_nan() || slices.iter().any(|slice| any_nan(slice))
+        }
+        Rule::TakenByStart => any_nan(start),
+        _ => any_nan(nu),
+    };
+    !nan
+}
+
+/// The report of one solve as the tally takes it; `no_nan` says whether no
+/// multiplier that it left is NaN.
+fn taken(report: &BoxReport, no_nan: bool, rule: Rule) -> SolveReport {
     SolveReport {
         increments: 1,
         iterations: if rule.is(Rule::TallyIterationsOfSweeps) {
@@ -199,8 +222,8 @@ fn as_solve_report(report: &BoxReport, rule: Rule) -> SolveReport {
         } else {
             report.stopped
         },
-        converged: report.converged,
-        exact: report.exact,
+        converged: report.converged && (no_nan || rule.is(Rule::TakenConvergedKept)),
+        exact: report.exact && (no_nan || rule.is(Rule::TakenExactKept)),
         residual: report.residual,
         ..NOTHING
     }
@@ -215,11 +238,12 @@ pub fn tallied(
     rule: Rule,
 ) -> Result<(Outcome, BoxReport), u32> {
     let number = p.refused(lent, rule);
-    tallied_by(number, lent, tally, rule, |lent| solve(p, lent, rule))
+    tallied_by(p, number, lent, tally, rule, |lent| solve(p, lent, rule))
 }
 
-/// The same of any solve that is refused by `number`, or by none.
+/// The same of any solve of p that is refused by `number`, or by none.
 pub fn tallied_by(
+    p: &Problem,
     number: Option<u32>,
     lent: &mut Lent,
     tally: &mut SolveReport,
@@ -233,18 +257,26 @@ pub fn tallied_by(
         if rule.is(Rule::TallyCountsRefused) {
             tally.increments = tally.increments.saturating_add(1);
         }
+        if rule.is(Rule::TakenOfRefused) && any_nan(lent.nu) {
+            (tally.converged, tally.exact) = (false, false);
+        }
         return Err(number);
     }
     if tally_full(tally, rule) && !rule.is(Rule::ElevenAfterSolve) {
         return Err(TALLY_FULL);
     }
-    let (outcome, report) = make(lent)?;
+    let start = lent.nu.to_vec();
+    let (outcome, mut report) = make(lent)?;
     if tally_full(tally, rule) {
         return Err(TALLY_FULL);
     }
     if rule.is(Rule::TallyWithoutInfeasible) && outcome != Outcome::Solved {
         return Ok((outcome, report));
     }
-    *tally = tally.and(as_solve_report(&report, rule), rule)?;
+    let joined = taken(&report, no_nan(p, &start, lent.nu, rule), rule);
+    *tally = tally.and(joined, rule)?;
+    if rule.is(Rule::TakenInReport) {
+        (report.converged, report.exact) = (joined.converged, joined.exact);
+    }
     Ok((outcome, report))
 }

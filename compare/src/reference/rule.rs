@@ -263,6 +263,17 @@ rules! {
     TallyStoppedLost, Tally, "the tally: without the rows stopped";
     TallyIterationsOfSweeps, Tally, "iterations taken from sweeps";
     TallyWithoutInfeasible, Tally, "an infeasible solve joins nothing";
+    TakenAsReported, Tally, "taken: the flags as reported, NaN or not";
+    TakenConvergedKept, Tally, "taken: converged as reported";
+    TakenExactKept, Tally, "taken: exact as reported";
+    TakenByFirstRow, Tally, "taken: the first multiplier looked at alone";
+    TakenByLastRow, Tally, "taken: the last multiplier looked at alone";
+    TakenByAllRows, Tally, "taken: false only where every multiplier is NaN";
+    TakenByInfinite, Tally, "taken: an infinite multiplier for a NaN";
+    TakenByInput, Tally, "taken: false where anything lent is NaN";
+    TakenByStart, Tally, "taken: the multipliers as lent, not as left";
+    TakenOfRefused, Tally, "a refused solve's NaN multipliers taken";
+    TakenInReport, Tally, "the report handed back as it is taken";
 
     BendShortest, Bend, "1: 16 bytes refused";
     BendLongestLow, Bend, "1: 65,536 bytes refused";

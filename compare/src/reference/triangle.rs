@@ -99,7 +99,7 @@ pub fn tallied_triangle(
     let w = mirrored(p.w, p.n(), rule);
     let whole = Problem { w: &w, ..*p };
     let number = refused(p.w, &whole, lent, rule);
-    tallied_by(number, lent, tally, rule, |lent| {
+    tallied_by(&whole, number, lent, tally, rule, |lent| {
         solve_triangle(p, lent, rule)
     })
 }

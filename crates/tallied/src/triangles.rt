@@ -57,7 +57,7 @@ pub fn tallied_triangle(
         workspace,
     );
     Tallied {
-        tally: crate::joined_by(tally, answer),
+        tally: crate::joined_by(tally, answer, nu),
         answer,
     }
 }
