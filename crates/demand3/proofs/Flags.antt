@@ -7,7 +7,7 @@ use lib.ListN.{length}
 use lib.Ieee.{Float, ne}
 use Rattle.loops.specs.Loops.{every}
 use Rattle.floats.specs.Helpers.{isNaN}
-use Rattle.tally.specs.Tally.{notNaNAt, noNaN, taken}
+use Rattle.tally.specs.Tally.{notNaNAt, noNaN, turned, taken}
 use Rattle.demand3.specs.Demand.{Accepted, takenAs, allOf, notNaN, convergedWithoutNaN, exactWithoutNaN}
 
 -- every number below k + 1 passes: 0 does, and every other
@@ -26,9 +26,9 @@ all-same f g e [] = refl
 all-same f g e (a ∷ l) = rw (e a, all-same f g e l)
 
 pub converged-is : (a : Accepted) → takenAs a .converged ≡ convergedWithoutNaN a
-unfolding taken
+unfolding taken turned
 converged-is a = ap (λ (b : Bool). a .report .converged && b) (no-nan-is (a .nu))
 
 pub exact-is : (a : Accepted) → takenAs a .exact ≡ exactWithoutNaN a
-unfolding taken
+unfolding taken turned
 exact-is a = ap (λ (b : Bool). a .report .exact && b) (no-nan-is (a .nu))

@@ -15,7 +15,7 @@ use Rattle.report.specs.declared.SolveReport.{SolveReport}
 use Rattle.report.proofs.Joins.{Held, both-held, both-comm, both-assoc, and-joins}
 use Rattle.boxed.specs.Solve.{Outcome, refused, solved, infeasible, reply, SWEEP_CAP}
 use Rattle.boxed.specs.declared.BoxReport.{BoxReport}
-use Rattle.tally.specs.Tally.{Call, number, alone, taken, kept, joinedTo, full, numberOn, answerOn, Tallied, with, tallied, before, all}
+use Rattle.tally.specs.Tally.{Call, number, alone, turned, taken, kept, joinedTo, full, numberOn, answerOn, Tallied, with, tallied, before, all}
 use Rattle.demand3.specs.Demand.{Accepted, acceptedIn, accepted, takenAs, sumOf, allOf}
 use Rattle.demand3.proofs.Solves.{Modest, Reported}
 use Rattle.boxed.proofs.Accepting.{or-false}
@@ -39,7 +39,7 @@ both-swap : (t a b : SolveReport) → Held t → Held a → Held b → both (bot
 both-swap t a b p q r = both-assoc t a b p q r ∙ ap (both t) (both-comm a b q r) ∙ sym (both-assoc t b a p r q)
 
 taken-held : (r : BoxReport) (nu : List Float) → Modest r → Held (taken r nu)
-unfolding taken
+unfolding taken turned
 taken-held r nu h = h .held
 
 plus-held : (t : SolveReport) (o : Outcome) (nu : List Float) → Reported Modest o → Held t → Held (plus t o nu)
@@ -78,7 +78,7 @@ module _ (f : SolveReport → ℕ) (adds : (a b : SolveReport) → f (both a b) 
 
 -- `most_iterations` is the larger of two, and of solves it is 0
 plus-most : (t : SolveReport) (o : Outcome) (nu : List Float) → t .«most_iterations» ≡ 0 → plus t o nu .«most_iterations» ≡ 0
-unfolding taken
+unfolding taken turned
 plus-most t (refused k) nu h = h
 plus-most t (solved r) nu h = rw h
 plus-most t (infeasible c l r) nu h = rw h
@@ -130,7 +130,7 @@ not-full k t b w =
 
 module _ (k : ℕ) (t : SolveReport) (b : k < enough) (w : Within k t) (r : BoxReport) (nu : List Float) (m : Modest r) where
   summable : AllSummable t (taken r nu)
-  unfolding taken
+  unfolding taken turned
   summable =
       record {
         increments = omega arith;
@@ -141,7 +141,7 @@ module _ (k : ℕ) (t : SolveReport) (b : k < enough) (w : Within k t) (r : BoxR
   joined-one = rw (and-joins t (taken r nu) summable)
 
   within-one : Within (suc k) (both t (taken r nu))
-  unfolding taken
+  unfolding taken turned
   within-one = record { increments = omega arith; sweeps = omega arith; passes = omega arith; stopped = omega arith; iterations = omega arith; rejected = omega arith; anchors = omega arith }
 
 within-more : (k : ℕ) (t : SolveReport) → Within k t → Within (suc k) t
@@ -216,7 +216,7 @@ never-refused t r nu u h m =
   where
     room-for : t .increments < 4294967295 → t .sweeps ≤ 4294967095 → t .«exact_passes» ≤ 4294967286 → t .stopped ≤ 4294967263 → AllSummable t (taken r nu)
     room-for i s p k =
-        unfold taken in
+        unfold taken turned in
         record {
           increments = omega arith;
           others = record {

@@ -10,7 +10,7 @@ use lib.Ieee.Bits.{ofBits-fits}
 use Rattle.report.specs.Joins.{NOTHING, both}
 use Rattle.report.specs.declared.SolveReport.{SolveReport}
 use Rattle.boxed.specs.Solve.{Result}
-use Rattle.tally.specs.Tally.{Call, number, alone, taken, Tallies}
+use Rattle.tally.specs.Tally.{Call, number, alone, turned, taken, Tallies}
 use Rattle.demand3.specs.Claims.{BoundsInOrder, Claims}
 use Rattle.demand3.specs.Demand.{Every, EachAnswer, beside, Accepted, accepted, sumOf, takenAs, turnedInto, Sums, convergedWithoutNaN, exactWithoutNaN, Flags, Demand}
 use Rattle.demand3.proofs.Orders.{total, total-sum, total-most, total-flag, within-nothing, all-is, total-perm}
@@ -49,27 +49,27 @@ from-nothing f adds z l =
     total-sum f adds l NOTHING ∙ ap (λ (x : ℕ). x + sumOf f (turnedInto (map alone l))) z ∙ zero-add (sumOf f (turnedInto (map alone l)))
 
 one-each : (l : List Accepted) → sumOf (λ (r : SolveReport). r .increments) (map takenAs l) ≡ length l
-unfolding taken
+unfolding taken turned
 one-each [] = refl
 one-each (r ∷ l) = rw (one-each l) (omega arith)
 
 none-each : (l : List Accepted) → sumOf (λ (r : SolveReport). r .«most_iterations») (map takenAs l) ≡ 0
-unfolding taken
+unfolding taken turned
 none-each [] = refl
 none-each (r ∷ l) = rw (none-each l)
 
 sweeps-each : (l : List Accepted) → sumOf (λ (r : SolveReport). r .sweeps) (map takenAs l) ≡ sumOf (λ (a : Accepted). a .report .sweeps) l
-unfolding taken
+unfolding taken turned
 sweeps-each [] = refl
 sweeps-each (r ∷ l) = rw (sweeps-each l)
 
 passes-each : (l : List Accepted) → sumOf (λ (r : SolveReport). r .«exact_passes») (map takenAs l) ≡ sumOf (λ (a : Accepted). a .report .«exact_passes») l
-unfolding taken
+unfolding taken turned
 passes-each [] = refl
 passes-each (r ∷ l) = rw (passes-each l)
 
 stopped-each : (l : List Accepted) → sumOf (λ (r : SolveReport). r .stopped) (map takenAs l) ≡ sumOf (λ (a : Accepted). a .report .stopped) l
-unfolding taken
+unfolding taken turned
 stopped-each [] = refl
 stopped-each (r ∷ l) = rw (stopped-each l)
 

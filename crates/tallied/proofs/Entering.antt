@@ -13,13 +13,13 @@ use Rattle.boxed.specs.declared.BoxAnswer.{BoxAnswer}
 use Rattle.boxed.specs.declared.BoxAnswer.the-variants.{Refused}
 use Rattle.report.specs.declared.SolveReport.{SolveReport}
 use Rattle.tally.specs.Tally as def
-use Rattle.tally.specs.Tally.{Call, number, full, joinedTo, tallied}
+use Rattle.tally.specs.Tally.{Call, number, noNaN, taken, full, joinedTo, tallied}
 use Rattle.tallied.specs.Joining.{Entered}
 use Rattle.tallied.specs.Private.{added, joinedBy}
 
 -- the code's way to join, by the answer in place of the outcome
-joined-by : (t : SolveReport) (x : Outcome) (nu : List Float) → joinedBy t (answerOf x) nu ≡ joinedTo t x nu
-unfolding added
+joined-by : (t : SolveReport) (x : Outcome) (nu : List Float) → joinedBy t (answerOf x) (noNaN nu) ≡ joinedTo t x nu
+unfolding added taken
 joined-by t (refused k) nu = refl
 joined-by t (solved r) nu = refl
 joined-by t (infeasible c l r) nu = refl
@@ -48,7 +48,7 @@ module _ (t : SolveReport) (c : Call) where
   same-number (suc k) = rw (ne-eqb (suc k) 0 (λ e. omega (arith, e)))
 
   pub on-room : full t ≡ false → (s : SolveReport) (r : BoxAnswer) (nu : List Float) (st q : List ℕ) (w w′ : List Float)
-      → Left (reply (number c)) r nu st q w w′ → s ≡ joinedBy t r nu
+      → Left (reply (number c)) r nu st q w w′ → s ≡ joinedBy t r (noNaN nu)
       → Entered (tallied t c) s r nu st q w w′
   unfolding tallied def.answerOn def.numberOn def.with
   on-room f s r nu st q w w′ l e =

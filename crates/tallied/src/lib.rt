@@ -54,12 +54,11 @@ pub fn no_nan(nu: &[f64]) -> bool
     none
 }
 
-// What the tally takes a report as, nu being the multipliers that its solve left: it is converged, or exact, only if
-// the report says so and none of them is NaN. The report itself stays as the solve gave it.
-pub fn taken(report: BoxReport, nu: &[f64]) -> SolveReport
-    ensures { λ r. ⌜ r ≡ def.taken report (now (nu .entry)) ⌝ }
+// The SolveReport that a report is turned into: converged, or exact, only if the report says so and none of the
+// multipliers left is NaN.
+fn turned(report: BoxReport, none: bool) -> SolveReport
+    ensures { λ r. ⌜ r ≡ def.turned report none ⌝ }
 {
-    let none = no_nan(nu);
     SolveReport {
         increments: 1,
         iterations: 0,
@@ -75,6 +74,14 @@ pub fn taken(report: BoxReport, nu: &[f64]) -> SolveReport
     }
 }
 
+// What the tally takes a report as, nu being the multipliers that its solve left. The report itself stays as the solve
+// gave it.
+pub fn taken(report: BoxReport, nu: &[f64]) -> SolveReport
+    ensures { λ r. ⌜ r ≡ def.taken report (now (nu .entry)) ⌝ }
+{
+    turned(report, no_nan(nu))
+}
+
 // What a join leaves of the tally: a refused one all. Number 11 is there so that none is.
 fn kept(tally: SolveReport, joined: Joined) -> SolveReport
     ensures { λ r. ⌜ r ≡ def.kept tally (join.answer joined) ⌝ }
@@ -85,21 +92,22 @@ fn kept(tally: SolveReport, joined: Joined) -> SolveReport
     }
 }
 
-// A solve's report, as the tally takes it, joined to the tally.
-fn added(tally: SolveReport, report: BoxReport, nu: &[f64]) -> SolveReport
-    ensures { λ r. ⌜ r ≡ private.added tally report (now (nu .entry)) ⌝ }
+// A solve's report joined to the tally. It is told whether no multiplier left is NaN, and does not look for itself:
+// with the loop in it, it would be called and not inlined, some 20 ns a solve.
+fn added(tally: SolveReport, report: BoxReport, none: bool) -> SolveReport
+    ensures { λ r. ⌜ r ≡ private.added tally report none ⌝ }
 {
-    kept(tally, tally.and(taken(report, nu)))
+    kept(tally, tally.and(turned(report, none)))
 }
 
-// The tally after such an answer, with the multipliers that it left.
-fn joined_by(tally: SolveReport, answer: BoxAnswer, nu: &[f64]) -> SolveReport
-    ensures { λ r. ⌜ r ≡ private.joinedBy tally answer (now (nu .entry)) ⌝ }
+// The tally after such an answer, none of whose multipliers is NaN, or some.
+fn joined_by(tally: SolveReport, answer: BoxAnswer, none: bool) -> SolveReport
+    ensures { λ r. ⌜ r ≡ private.joinedBy tally answer none ⌝ }
 {
     match answer {
         BoxAnswer::Refused(_) => tally,
-        BoxAnswer::Solved(report) => added(tally, report, nu),
-        BoxAnswer::Infeasible(_, _, report) => added(tally, report, nu),
+        BoxAnswer::Solved(report) => added(tally, report, none),
+        BoxAnswer::Infeasible(_, _, report) => added(tally, report, none),
     }
 }
 
@@ -161,8 +169,9 @@ pub fn tallied_solve(
         rows,
         workspace,
     );
+    let none = no_nan(nu);
     Tallied {
-        tally: joined_by(tally, answer, nu),
+        tally: joined_by(tally, answer, none),
         answer,
     }
 }

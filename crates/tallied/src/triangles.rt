@@ -56,8 +56,9 @@ pub fn tallied_triangle(
         rows,
         workspace,
     );
+    let none = crate::no_nan(nu);
     Tallied {
-        tally: crate::joined_by(tally, answer, nu),
+        tally: crate::joined_by(tally, answer, none),
         answer,
     }
 }

@@ -104,6 +104,7 @@ idleBeside u x =
 abbrev pub withinNaN : def.Call → def.Call
 withinNaN c =
     record {
+      sent = c .sent;
       problem = c .problem;
       watch = record { motion = []; tolerance = ofBits binary64 nan };
       nu = c .nu;
@@ -326,7 +327,7 @@ unfolding
     solve.result solve.solve solve.goodScale solve.refusal solve.reply rowStart withinLimits wrongLength triangleRefusal refusalOf
     add sub mul div ofBits toBits lt le eq ne neg
     report.sumFits report.sumsFit report.allSumsFit report.and
-    def.alone def.noNaN def.taken def.full def.numberOn def.answerOn def.with def.tallied def.before def.all
+    def.alone def.noNaN def.turned def.taken def.full def.numberOn def.answerOn def.with def.tallied def.before def.all
     counts tallyOf case sameTally same numberIn unless sameBuffers answersAre comesTo passes allPass cases
     taking says isTaken allTaken takings
 table = refl

@@ -43,10 +43,9 @@ notNaNAt nu i = not (isNaN (at nu i))
 unfoldable pub noNaN : List Float → Bool
 noNaN nu = every (notNaNAt nu) (length nu)
 
--- What the tally takes a report as, nu being the multipliers that its solve left: it is converged, or exact, only if the report says so and none of them is NaN. All else is as
--- reported.
-unfoldable pub taken : BoxReport → List Float → SolveReport
-taken r nu =
+-- the SolveReport that a BoxReport is turned into: converged, or exact, only if the report says so and none of the multipliers left is NaN; all else is as reported
+unfoldable pub turned : BoxReport → Bool → SolveReport
+turned r none =
     record {
       increments = 1;
       iterations = 0;
@@ -56,10 +55,14 @@ taken r nu =
       sweeps = r .sweeps;
       «exact_passes» = r .«exact_passes»;
       stopped = r .stopped;
-      converged = r .converged && noNaN nu;
-      exact = r .exact && noNaN nu;
+      converged = r .converged && none;
+      exact = r .exact && none;
       residual = r .residual;
     }
+
+-- what the tally takes a report as, nu being the multipliers that its solve left
+unfoldable pub taken : BoxReport → List Float → SolveReport
+taken r nu = turned r (noNaN nu)
 
 -- a join that is refused leaves the tally as it was; number 11 is there so that none is
 abbrev pub kept : SolveReport → report.Answer → SolveReport

@@ -4,8 +4,8 @@ use borrow.Author.Needs.{needs}
 use Rattle.tallied.proofs.added.Statement.{statement}
 use Rattle.tallied.proofs.added.Tie as tie
 
-taken-requires : tie.Need-taken-requires
-taken-requires c κs = search needs
+turned-requires : tie.Need-turned-requires
+turned-requires c κs = search needs
 
 and-requires : tie.Need-and-requires
 and-requires c κs = search needs
@@ -15,13 +15,13 @@ kept-requires c κs = search needs
 
 returns : tie.Need-returns
 unfolding private.added
-returns c = rw (c .kept .ensures, c .before .and .ensures, c .before .before .taken .ensures)
+returns c = rw (c .kept .ensures, c .before .and .ensures, c .before .before .turned .ensures)
 
 pub added-spec : {M : Type 1} → statement M
 added-spec =
     tie.close
     (tie.spec
-    taken-requires
+    turned-requires
     and-requires
     kept-requires
     returns)

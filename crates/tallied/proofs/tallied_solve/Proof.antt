@@ -34,6 +34,9 @@ returns c =
 solve-requires : tie.Need-solve-requires
 solve-requires c κs = search needs
 
+no-nan-requires : tie.Need-no-nan-requires
+no-nan-requires c κs = search needs
+
 joined-by-requires : tie.Need-joined-by-requires
 joined-by-requires c κs = search needs
 
@@ -52,9 +55,9 @@ same-length-7 c = search needs
 returns-2 : tie.Need-returns-2
 unfolding refusalOf solveReply
 returns-2 c =
-    let at-solve = c .before .before .before .before .before .before .before .before .before .before in
+    let at-solve = c .before .before .before .before .before .before .before .before .before .before .before in
     let at-if1 = at-solve .before .before .before .before .before in
-    on-room _ _ (sym (at-if1 .before .full .ensures) ∙ at-if1 .if1 .left) _ _ _ _ _ _ _ (at-solve .solve .ensures) (c .joined-by .ensures)
+    on-room _ _ (sym (at-if1 .before .full .ensures) ∙ at-if1 .if1 .left) _ _ _ _ _ _ _ (at-solve .solve .ensures) (rw (← c .before .no-nan .ensures) (c .joined-by .ensures))
 
 pub tallied-solve-spec : {M : Type 1} → statement M
 tallied-solve-spec =
@@ -68,6 +71,7 @@ tallied-solve-spec =
     same-length-3
     returns
     solve-requires
+    no-nan-requires
     joined-by-requires
     same-length-4
     same-length-5

@@ -33,6 +33,9 @@ returns c =
 solve-requires : tie.Need-solve-requires
 solve-requires c κs = search needs
 
+no-nan-requires : tie.Need-no-nan-requires
+no-nan-requires c κs = search needs
+
 joined-by-requires : tie.Need-joined-by-requires
 joined-by-requires c κs = search needs
 
@@ -51,8 +54,9 @@ same-length-7 c = search needs
 returns-2 : tie.Need-returns-2
 unfolding refusalOf triangleReply
 returns-2 c =
-    let full = c .before .before .before .before .before .before .before .before .before .before .before .before .before .before .before .full .ensures in
-    on-room _ _ (sym full ∙ c .before .before .before .before .before .before .before .before .before .before .before .before .before .before .if1 .left) _ _ _ _ _ _ _ (c .before .before .before .before .before .before .before .before .before .solve .ensures) (c .joined-by .ensures)
+    let at-solve = c .before .before .before .before .before .before .before .before .before .before .before in
+    let at-if1 = at-solve .before .before .before .before .before in
+    on-room _ _ (sym (at-if1 .before .full .ensures) ∙ at-if1 .if1 .left) _ _ _ _ _ _ _ (at-solve .solve .ensures) (rw (← c .before .no-nan .ensures) (c .joined-by .ensures))
 
 pub tallied-triangle-spec : {M : Type 1} → statement M
 tallied-triangle-spec =
@@ -66,6 +70,7 @@ tallied-triangle-spec =
     same-length-3
     returns
     solve-requires
+    no-nan-requires
     joined-by-requires
     same-length-4
     same-length-5
