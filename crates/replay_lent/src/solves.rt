@@ -124,6 +124,15 @@ fn print_count(n: u32) {
     io::print_decimal(STDOUT_FILENO, n as u64);
 }
 
+fn print_flag(flag: bool) {
+    if flag {
+        io::write_all(STDOUT_FILENO, b" 1");
+    } else {
+        io::write_all(STDOUT_FILENO, b" 0");
+    }
+}
+
+// The answer; of the tally increments, sweeps, passes, and whether it is converged and exact.
 fn print_tallied(tallied: Tallied) {
     let answer = tallied.answer;
     let tally = tallied.tally;
@@ -132,6 +141,8 @@ fn print_tallied(tallied: Tallied) {
     print_count(tally.increments);
     print_count(tally.sweeps);
     print_count(tally.exact_passes);
+    print_flag(tally.converged);
+    print_flag(tally.exact);
 }
 
 // Both forms of a solve; the tally that the lent form leaves.
@@ -170,12 +181,12 @@ pub fn replay() {
     let soft = [0.000000059604644775390625f64, 0.0, 0.0, 1.0];
     let mut t = solve(SolveReport::NOTHING, &apart, &down, &unit, &mut workspace);
     t = solve(t, &apart, &down, &none, &mut workspace);
+    t = solve(t, &apart, &nan, &unit, &mut workspace);
     t = solve(t, &against, &down, &unit, &mut workspace);
     t = solve(t, &unit, &down, &unit, &mut workspace);
     t = solve(t, &alike, &down, &unit, &mut workspace);
     t = solve(t, &alike, &down, &unit, &mut short);
     t = solve(t, &soft, &down, &unit, &mut workspace);
-    t = solve(t, &apart, &nan, &unit, &mut workspace);
     t = solve(full(t), &apart, &down, &unit, &mut workspace);
     solve(t, &apart, &down, &none, &mut workspace);
 }
