@@ -60,7 +60,7 @@
 extern "C" {
 #endif
 
-#define PISKORLU_VERSION "2.1.0"
+#define PISKORLU_VERSION "3.0.0"
 
 /* The most stack of a call that has no number of its own. */
 #define PISKORLU_CALL_STACK 4096
@@ -462,7 +462,15 @@ uint32_t piskorlu_continued(const uint32_t *a, size_t a_len, double a_residual,
 
 /*
  * A solve whose report joins a tally, as one increment with its sweeps, exact
- * passes, converged, exact and residual. Begin with the report of no solve.
+ * passes, rows stopped, converged, exact and residual. Begin with the report of
+ * no solve.
+ *
+ * Where the solve leaves a NaN in nu, such as from a torn cell wire, it joins
+ * as neither converged nor exact, whatever its own report says, and the tally
+ * has both flags 0 from then on. counts keeps the report as piskorlu_solve
+ * gives it: converged and exact may be 1 there. Infinite multipliers change
+ * nothing, and neither does a NaN that reaches no multiplier. piskorlu_and and
+ * piskorlu_continued are not given multipliers and join flags as they are.
  *
  * tally           the tally's counts, at least PISKORLU_REPORT_COUNTS; they
  *                 are read, and receive the counts with this solve's.
@@ -471,8 +479,9 @@ uint32_t piskorlu_continued(const uint32_t *a, size_t a_len, double a_residual,
  * The others are those of piskorlu_solve. Returns PISKORLU_ACCEPTED, or one of
  * the numbers 5 to 10 as piskorlu_solve (10 at once where tally or
  * tally_residual is too short, too), or else PISKORLU_REFUSED_TALLY where the
- * tally has 4,294,967,295 increments, more than 4,294,967,095 sweeps or more
- * than 4,294,967,286 exact passes; and then nothing is written.
+ * tally has 4,294,967,295 increments, more than 4,294,967,095 sweeps, more than
+ * 4,294,967,286 exact passes or more than 4,294,967,263 rows stopped; and then
+ * nothing is written.
  */
 #define PISKORLU_TALLIED_STACK 14336
 uint32_t piskorlu_tallied(uint32_t *tally, size_t tally_len,
