@@ -1,6 +1,6 @@
 -- What a call that is not refused was lent.
 use Prim.Native.Nat.{ℕ, suc, _*_, _%_, _≤_}
-use mathlib.Core.Path.{_≡_, refl}
+use mathlib.Core.Path.{_≡_, refl, sym, _∙_}
 use mathlib.Core.Bool.{Bool, true, false, not, _&&_, _||_, true≢false}
 use mathlib.Core.List.{List, [], _∷_}
 use native.Mathlib.Omega.{arith}
@@ -66,3 +66,6 @@ accepted p motion nu st l room h =
       states = ltb-false (length st) n (lent .1);
       listed = ltb-false (length l) n (ten .1);
     }
+
+pub accepted-by : (p : Problem) (motion nu : List Float) (st l : List ℕ) (room number : ℕ) → number ≡ refusal p motion nu st l room → number ≡ 0 → Accepted p nu st l room
+accepted-by p motion nu st l room number e h = accepted p motion nu st l room (sym e ∙ h)

@@ -1,7 +1,6 @@
 use Rattle.boxed.proofs.Solving.{all-idle, some-act}
 use mathlib.Core.Path.{refl, _∙_}
 use native.Mathlib.Omega.{arith}
-use borrow.Author.Needs.{needs}
 use Rattle.boxed.proofs.solve_rows.Statement.{statement}
 use Rattle.boxed.proofs.solve_rows.Tie as tie
 
@@ -11,16 +10,16 @@ start-requires c κs =
     rw (at-pre .pre .2) ((at-pre .pre .0 .0, at-pre .pre .0 .1), at-pre .pre .0 .2, at-pre .pre .0 .3, at-pre .pre .1)
 
 cast-nothing : tie.Need-cast-nothing
-cast-nothing c = search needs
+cast-nothing c = omega arith
 
 nothing-requires : tie.Need-nothing-requires
-nothing-requires c κs = search needs
+nothing-requires c κs = tt
 
 same-length : tie.Need-same-length
-same-length c = search needs
+same-length c = c .before .before .before .before .before .before .start .kept .1 .1 .1 .1 .0
 
 same-length-2 : tie.Need-same-length-2
-same-length-2 c = search needs
+same-length-2 c = c .before .before .before .before .before .before .start .kept .1 .1 .1 .0
 
 returns : tie.Need-returns
 returns c =
@@ -32,7 +31,7 @@ returns c =
     (all-idle _ _ _ (at-args .args .nu .now) _ _ (at-pre .pre .2) _ _ _ (at-start .start .ensures .0) (at-if1 .if1 .taken) _ (at-nothing .nothing .ensures), refl)
 
 run-requires : tie.Need-run-requires
-run-requires c κs = search needs
+run-requires c κs = omega arith
 
 cast-answer : tie.Need-cast-answer
 cast-answer c =
@@ -47,17 +46,23 @@ answer-requires c κs =
     let at-pre = at-start .before .before .before .before .before .before .before .before .before .before .before .before .before in
     (at-pre .pre .0, at-run .run .kept .1 .1 .1 .1 .1 .1 .1 .0 ∙ at-start .start .kept .1 .1 .1 .0 ∙ at-pre .pre .1, at-run .run .kept .1 .1 .1 .1 .1 .1 .1 .1 .0 ∙ at-start .start .kept .1 .1 .1 .1 .0 ∙ at-pre .pre .2)
 
+abbrev to-run : tie.After-slice-known11 → tie.After-run
+to-run c = c .before .before .before .before .before .before .before .before .before .before .before .before .before
+
+abbrev to-start-2 : tie.After-slice-known11 → tie.After-start
+to-start-2 c = c .before .before .before .before .before .before .before .before .before .before .before .before .before .before .before .before .before .before .before .before .before .before .before
+
 same-length-3 : tie.Need-same-length-3
-same-length-3 c = search needs
+same-length-3 c = to-run c .run .kept .1 .1 .1 .1 .1 .1 .1 .1 .0 ∙ to-start-2 c .start .kept .1 .1 .1 .1 .0
 
 same-length-4 : tie.Need-same-length-4
-same-length-4 c = search needs
+same-length-4 c = c .before .before .answer .kept .1 .1 .1 .1 .1 .0 ∙ to-run c .run .kept .1 .1 .1 .1 .1 .1 .1 .0 ∙ to-start-2 c .start .kept .1 .1 .1 .0
 
 same-length-5 : tie.Need-same-length-5
-same-length-5 c = search needs
+same-length-5 c = to-run c .run .kept .1 .1 .1 .1 .1 .1 .1 .1 .1 .0
 
 same-length-6 : tie.Need-same-length-6
-same-length-6 c = search needs
+same-length-6 c = to-run c .run .kept .1 .1 .1 .1 .1 .1 .1 .1 .1 .1 .0
 
 returns-2 : tie.Need-returns-2
 returns-2 c =

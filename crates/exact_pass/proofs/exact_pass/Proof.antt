@@ -3,7 +3,6 @@ use lib.ListN.{length}
 use mathlib.Core.Path.{_≡_, refl, sym, ap, _∙_}
 use Rattle.exact_pass.proofs.Replies.{Fitting, fits-lengths, left-short, left-unfit, left-passed, ray-fits, ray-unfit}
 use native.Mathlib.Omega.{arith}
-use borrow.Author.Needs.{needs}
 use Rattle.exact_pass.proofs.exact_pass.Statement.{statement}
 use Rattle.exact_pass.proofs.exact_pass.Tie as tie
 
@@ -11,7 +10,7 @@ returns : tie.Need-returns
 returns c = left-short _ _ _ _ _ (c .if1 .taken)
 
 fits-requires : tie.Need-fits-requires
-fits-requires c κs = search needs
+fits-requires c κs = tt
 
 pass-requires : tie.Need-pass-requires
 pass-requires c κs =
@@ -27,17 +26,20 @@ pass-requires c κs =
       omega (arith, at-if1 .if1 .left),
     )
 
+abbrev to-pass : tie.After-slice-known8 → tie.After-pass
+to-pass c = c .before .before .before .before .before .before .before .before
+
 same-length : tie.Need-same-length
-same-length c = search needs
+same-length c = to-pass c .pass .kept .1 .1 .1 .1 .1 .0
 
 same-length-2 : tie.Need-same-length-2
-same-length-2 c = search needs
+same-length-2 c = to-pass c .pass .kept .1 .1 .1 .1 .1 .1 .0
 
 same-length-3 : tie.Need-same-length-3
-same-length-3 c = search needs
+same-length-3 c = to-pass c .pass .kept .1 .1 .1 .1 .1 .1 .1 .0
 
 same-length-4 : tie.Need-same-length-4
-same-length-4 c = search needs
+same-length-4 c = to-pass c .pass .kept .1 .1 .1 .1 .1 .1 .1 .1 .0
 
 returns-2 : tie.Need-returns-2
 returns-2 c =

@@ -1,6 +1,5 @@
 use Rattle.loops.proofs.Index.{product}
 use borrow.Author.Tests.{le-leb, lt-leb, eq-eqb, ne-eqb}
-use borrow.Author.Needs.{needs}
 use native.Mathlib.Omega.{arith}
 use Rattle.exact_pass.proofs.fits.Statement.{statement}
 use Rattle.exact_pass.proofs.fits.Tie as tie

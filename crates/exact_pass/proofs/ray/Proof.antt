@@ -2,13 +2,11 @@ use Rattle.box_rows.specs.Rows as box
 use lib.ListN.{length}
 use mathlib.Core.Path.{_≡_, refl, sym, ap, _∙_}
 use Rattle.exact_pass.proofs.Replies.{Fitting, fits-lengths, left-short, left-unfit, left-passed, ray-fits, ray-unfit}
-use native.Mathlib.Omega.{arith}
-use borrow.Author.Needs.{needs}
 use Rattle.exact_pass.proofs.ray.Statement.{statement}
 use Rattle.exact_pass.proofs.ray.Tie as tie
 
 fits-requires : tie.Need-fits-requires
-fits-requires c κs = search needs
+fits-requires c κs = tt
 
 ray-requires : tie.Need-ray-requires
 ray-requires c κs =
@@ -18,7 +16,7 @@ ray-requires c κs =
     let g = fits-lengths (box.problem (at-args .args .w .now) (at-args .args .u-free .now) (at-args .args .lo .now) (at-args .args .hi .now) (at-args .args .scale .now)) (at-args .args .states .now) (at-args .args .y .now) (at-args .args .rows .now) (sym (at-fits2 .fits2 .ensures) ∙ at-if1 .if1 .taken) in (g .sized, g .states, g .values, g .listed)
 
 same-length : tie.Need-same-length
-same-length c = search needs
+same-length c = c .before .before .ray .kept .1 .1 .1 .1 .1 .1 .1 .0
 
 returns : tie.Need-returns
 returns c =

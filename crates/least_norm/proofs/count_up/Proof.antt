@@ -3,7 +3,7 @@ use Prim.Native.Nat.{ℕ, _-_, _≤_}
 use borrow.Author.Needs.{needs}
 use lib.ListN.{length, length-set, drop}
 use mathlib.Core.List.{_++_}
-use mathlib.Core.Path.{_≡_}
+use mathlib.Core.Path.{_≡_, refl}
 use native.Mathlib.Omega.{arith}
 use Rattle.loops.proofs.Fill.{tab-start, tab-again, tab-done}
 use Rattle.loops.specs.Loops.{tab}
@@ -17,25 +17,25 @@ abbrev μ-loop : tie.MeasureT-loop
 μ-loop perm₀ i₀ perm i = length perm₀ - i
 
 loop-holds : tie.Need-loop-holds Inv-loop μ-loop
-loop-holds c = search (tab-start, needs)
+loop-holds c = (omega arith, refl, search (tab-start, needs))
 
 cast-perm : tie.Need-cast-perm Inv-loop μ-loop
-cast-perm c = search needs
+cast-perm c = omega arith
 
 slice-write-perm : tie.Need-slice-write-perm Inv-loop μ-loop
-slice-write-perm c = search needs
+slice-write-perm c = omega arith
 
 add-i : tie.Need-add-i Inv-loop μ-loop
-add-i c = search needs
+add-i c = omega arith
 
 loop-less : tie.Need-loop-less Inv-loop μ-loop
-loop-less c = search needs
+loop-less c = omega arith
 
 loop-again : tie.Need-loop-again Inv-loop μ-loop
 loop-again c = (omega arith, simp length-set (c .before .loop .inv .1), tab-again (λ (i : ℕ). i) _ _ _ (c .before .loop .inv .2) (c .before .loop .inv .1) (omega arith))
 
 same-length : tie.Need-same-length Inv-loop μ-loop
-same-length c = search needs
+same-length c = c .before .loop .inv .1
 
 returns : tie.Need-returns Inv-loop μ-loop
 returns c = search (tab-done, needs)

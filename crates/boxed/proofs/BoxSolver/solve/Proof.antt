@@ -1,7 +1,9 @@
-use Rattle.boxed.proofs.Accepting.{accepted}
+use Rattle.box_rows.specs.Rows as box
+use lib.ListN.{length}
+use Rattle.boxed.proofs.Accepting.{accepted-by}
 use Rattle.boxed.proofs.Solving.{is-refused, is-solved}
-use lib.Seq.{length-take-le}
-use mathlib.Core.Path.{sym, _∙_}
+use lib.Seq.{length-take-le, length-front}
+use mathlib.Core.Path.{sym, _∙_, refl}
 use native.Mathlib.Omega.{arith}
 use borrow.Author.Needs.{needs}
 use Rattle.boxed.proofs.BoxSolver.solve.Statement.{statement}
@@ -26,35 +28,38 @@ slice-relend-prefix-solve-rows : tie.Need-slice-relend-prefix-solve-rows
 slice-relend-prefix-solve-rows c =
     let at-if1 = c .before in
     let at-refusal = at-if1 .before in
-    let at-args = at-refusal .before .before .before .before .before .before .before .before .before .before .before .before .before .before in
-    accepted _ (at-args .args .motion .now) _ _ _ _ (sym (at-refusal .refusal .ensures) ∙ at-if1 .if1 .left) .states
+    let a = at-refusal .before .before .before .before .before .before .before .before .before .before .before .before .before .before .args in
+    accepted-by (box.problem (a .w .now) (a .u-free .now) (a .lo .now) (a .hi .now) (a .scale .now)) (a .motion .now) (a .nu .now) (a .states .now) (a .rows .now) (length (a .workspace .now)) (at-refusal .refusal .result) (at-refusal .refusal .ensures) (at-if1 .if1 .left) .states
 
 slice-aggregate-solve-rows : tie.Need-slice-aggregate-solve-rows
 slice-aggregate-solve-rows c =
     let at-if1 = c .before .before in
     let at-refusal = at-if1 .before in
-    let at-args = at-refusal .before .before .before .before .before .before .before .before .before .before .before .before .before .before in
-    sym (length-take-le _ _ (accepted _ (at-args .args .motion .now) _ _ _ _ (sym (at-refusal .refusal .ensures) ∙ at-if1 .if1 .left) .states))
+    let a = at-refusal .before .before .before .before .before .before .before .before .before .before .before .before .before .before .args in
+    sym (length-take-le _ _ (accepted-by (box.problem (a .w .now) (a .u-free .now) (a .lo .now) (a .hi .now) (a .scale .now)) (a .motion .now) (a .nu .now) (a .states .now) (a .rows .now) (length (a .workspace .now)) (at-refusal .refusal .result) (at-refusal .refusal .ensures) (at-if1 .if1 .left) .states))
 
 solve-rows-requires : tie.Need-solve-rows-requires
 solve-rows-requires c κs =
     let at-if1 = c .before .before .before .before in
     let at-refusal = at-if1 .before in
-    let at-args = at-refusal .before .before .before .before .before .before .before .before .before .before .before .before .before .before in
-    let a = accepted _ (at-args .args .motion .now) _ _ _ _ (sym (at-refusal .refusal .ensures) ∙ at-if1 .if1 .left) in
-    (a .sized, length-take-le _ _ (a .states), a .values, a .listed, omega (arith, a .work))
+    let a = at-refusal .before .before .before .before .before .before .before .before .before .before .before .before .before .before .args in
+    let b = accepted-by (box.problem (a .w .now) (a .u-free .now) (a .lo .now) (a .hi .now) (a .scale .now)) (a .motion .now) (a .nu .now) (a .states .now) (a .rows .now) (length (a .workspace .now)) (at-refusal .refusal .result) (at-refusal .refusal .ensures) (at-if1 .if1 .left) in
+    (b .sized, length-take-le _ _ (b .states), b .values, b .listed, omega (arith, b .work))
 
 same-length-4 : tie.Need-same-length-4
-same-length-4 c = search needs
+same-length-4 c = c .before .before .before .before .before .before .before .before .solve-rows .kept .1 .1 .1 .1 .1 .1 .1 .0
 
 same-length-5 : tie.Need-same-length-5
-same-length-5 c = search needs
+same-length-5 c =
+    let at-solve-rows = c .before .before .before .before .before .before .before .before in
+    let a = c .before .before .before .before .before .before .before .before .before .before .before .before .before .before .before .before .before .before .before .before .before .before .before .before .before .before .before .before .args in
+    length-front (a .states .now) (at-solve-rows .solve-rows .last .1 .1 .1 .1 .1 .1 .1 .1 .0) (length (a .u-free .now)) (at-solve-rows .solve-rows .kept .1 .1 .1 .1 .1 .1 .1 .1 .0)
 
 same-length-6 : tie.Need-same-length-6
-same-length-6 c = search needs
+same-length-6 c = c .before .before .before .before .before .before .before .before .solve-rows .kept .1 .1 .1 .1 .1 .1 .1 .1 .1 .0
 
 same-length-7 : tie.Need-same-length-7
-same-length-7 c = search needs
+same-length-7 c = c .before .before .before .before .before .before .before .before .solve-rows .kept .1 .1 .1 .1 .1 .1 .1 .1 .1 .1 .0
 
 returns-2 : tie.Need-returns-2
 returns-2 c =

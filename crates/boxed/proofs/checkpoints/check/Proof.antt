@@ -1,30 +1,32 @@
 use Rattle.boxed.proofs.Checks.{one-tried, check-tried, check-not}
 use mathlib.Core.Path.{refl}
 use native.Mathlib.Omega.{arith}
-use borrow.Author.Needs.{needs}
 use Rattle.boxed.proofs.checkpoints.check.Statement.{statement}
 use Rattle.boxed.proofs.checkpoints.check.Tie as tie
 
 checkpoint-requires : tie.Need-checkpoint-requires
-checkpoint-requires c κs = search needs
+checkpoint-requires c κs = tt
 
 attempt-requires : tie.Need-attempt-requires
-attempt-requires c κs = search needs
+attempt-requires c κs = omega arith
 
 add-t22 : tie.Need-add-t22
-add-t22 c = search needs
+add-t22 c = omega arith
+
+abbrev to-attempt : tie.After-struct-known → tie.After-attempt
+to-attempt c = c .before .before .before .before .before .before .before .before .before
 
 same-length : tie.Need-same-length
-same-length c = search needs
+same-length c = to-attempt c .attempt .kept .1 .1 .1 .1 .1 .0
 
 same-length-2 : tie.Need-same-length-2
-same-length-2 c = search needs
+same-length-2 c = to-attempt c .attempt .kept .1 .1 .1 .1 .1 .1 .0
 
 same-length-3 : tie.Need-same-length-3
-same-length-3 c = search needs
+same-length-3 c = to-attempt c .attempt .kept .1 .1 .1 .1 .1 .1 .1 .0
 
 same-length-4 : tie.Need-same-length-4
-same-length-4 c = search needs
+same-length-4 c = to-attempt c .attempt .kept .1 .1 .1 .1 .1 .1 .1 .1 .0
 
 returns : tie.Need-returns
 returns c =

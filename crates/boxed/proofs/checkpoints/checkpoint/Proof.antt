@@ -1,3 +1,4 @@
+use native.Mathlib.Omega.{arith}
 use Rattle.boxed.proofs.Checks.{member-skip, member-hit, member-end}
 use Rattle.boxed.specs.Solve as def
 use lib.ListN.{drop}
@@ -18,19 +19,19 @@ loop-holds : tie.Need-loop-holds Inv-loop μ-loop
 loop-holds c = (search needs, refl)
 
 mul-if1 : tie.Need-mul-if1 Inv-loop μ-loop
-mul-if1 c = search needs
+mul-if1 c = omega arith
 
 array-read-if1 : tie.Need-array-read-if1 Inv-loop μ-loop
-array-read-if1 c = search needs
+array-read-if1 c = omega arith
 
 returns : tie.Need-returns Inv-loop μ-loop
 returns c = member-hit _ def.table _ _ (c .before .before .loop .i) (c .before .loop-test .taken) (c .if1 .taken) (c .before .before .loop .inv .1)
 
 add-i : tie.Need-add-i Inv-loop μ-loop
-add-i c = search needs
+add-i c = omega arith
 
 loop-less : tie.Need-loop-less Inv-loop μ-loop
-loop-less c = search needs
+loop-less c = omega arith
 
 loop-again : tie.Need-loop-again Inv-loop μ-loop
 loop-again c = (search needs, member-skip _ def.table _ _ (c .before .before .loop .i) (c .before .loop-test .taken) (c .if1 .left) (c .before .before .loop .inv .1))

@@ -1,43 +1,45 @@
+use native.Mathlib.Omega.{arith}
+use mathlib.Core.Path.{refl}
 use borrow.Author.Needs.{needs}
 use Rattle.boxed.proofs.Ends.{end-exact, end-going, end-converged, end-infeasible}
 use Rattle.boxed.proofs.ending.answer.Statement.{statement}
 use Rattle.boxed.proofs.ending.answer.Tie as tie
 
 residual-requires : tie.Need-residual-requires
-residual-requires c κs = search needs
+residual-requires c κs = omega arith
 
 enum-told : tie.Need-enum-told
 enum-told c = search needs
 
 report-requires : tie.Need-report-requires
-report-requires c κs = search needs
+report-requires c κs = tt
 
 enum-told-2 : tie.Need-enum-told-2
 enum-told-2 c = search needs
 
 classify-requires : tie.Need-classify-requires
-classify-requires c κs = search needs
+classify-requires c κs = omega arith
 
 report-requires-2 : tie.Need-report-requires-2
-report-requires-2 c κs = search needs
+report-requires-2 c κs = tt
 
 enum-told-3 : tie.Need-enum-told-3
 enum-told-3 c = search needs
 
 classify-requires-2 : tie.Need-classify-requires-2
-classify-requires-2 c κs = search needs
+classify-requires-2 c κs = omega arith
 
 report-requires-3 : tie.Need-report-requires-3
-report-requires-3 c κs = search needs
+report-requires-3 c κs = tt
 
 enum-known-s : tie.Need-enum-known-s
 enum-known-s c = search needs
 
 report-requires-4 : tie.Need-report-requires-4
-report-requires-4 c κs = search needs
+report-requires-4 c κs = tt
 
 same-length : tie.Need-same-length
-same-length c = search needs
+same-length c = refl
 
 returns : tie.Need-returns
 returns c =
@@ -46,7 +48,7 @@ returns c =
     end-exact _ _ _ _ _ _ _ (at-residual .residual .ensures) _ (at-enum-told .enum-told .given .1) (c .report .ensures)
 
 same-length-2 : tie.Need-same-length-2
-same-length-2 c = search needs
+same-length-2 c = c .before .before .before .classify .kept .1 .1 .1 .1 .0
 
 returns-2 : tie.Need-returns-2
 returns-2 c =
@@ -57,7 +59,7 @@ returns-2 c =
     end-going _ _ _ _ _ _ _ (at-residual .residual .ensures) _ _ _ (at-enum-told2 .enum-told2 .given .1) (c .report2 .ensures) (at-classify .classify .ensures) (at-pre .pre .1)
 
 same-length-3 : tie.Need-same-length-3
-same-length-3 c = search needs
+same-length-3 c = c .before .before .before .classify2 .kept .1 .1 .1 .1 .0
 
 returns-3 : tie.Need-returns-3
 returns-3 c =
@@ -68,7 +70,7 @@ returns-3 c =
     end-converged _ _ _ _ _ _ _ (at-residual .residual .ensures) _ _ _ (at-enum-told3 .enum-told3 .given .1) (c .report3 .ensures) (at-show2 .classify2 .ensures) (at-pre .pre .1)
 
 same-length-4 : tie.Need-same-length-4
-same-length-4 c = search needs
+same-length-4 c = refl
 
 returns-4 : tie.Need-returns-4
 returns-4 c =

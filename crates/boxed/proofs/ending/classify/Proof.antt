@@ -19,13 +19,13 @@ unfolding def.classified
 loop-holds c = (search needs, search needs, search needs, turns-from _ _)
 
 classify-row-requires : tie.Need-classify-row-requires Inv-loop μ-loop
-classify-row-requires c κs = search needs
+classify-row-requires c κs = omega arith
 
 add-i : tie.Need-add-i Inv-loop μ-loop
-add-i c = search needs
+add-i c = omega arith
 
 loop-less : tie.Need-loop-less Inv-loop μ-loop
-loop-less c = search needs
+loop-less c = omega arith
 
 loop-again : tie.Need-loop-again Inv-loop μ-loop
 unfolding def.classified
@@ -35,7 +35,7 @@ loop-again c =
     (search needs, search needs, search needs, turns-again _ _ _ _ _ (at-loop .loop .inv .3) (at-classify-row .classify-row .ensures))
 
 same-length : tie.Need-same-length Inv-loop μ-loop
-same-length c = search needs
+same-length c = c .before .loop .inv .2
 
 returns : tie.Need-returns Inv-loop μ-loop
 unfolding def.classified

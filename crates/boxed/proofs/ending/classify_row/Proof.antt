@@ -1,16 +1,16 @@
-use mathlib.Core.Path.{_≡_, sym, _∙_}
+use native.Mathlib.Omega.{arith}
+use mathlib.Core.Path.{_≡_, sym, _∙_, refl}
 use borrow.Author.Tests.{eq-eqb, ne-eqb}
-use borrow.Author.Needs.{needs}
 use Rattle.boxed.specs.Sweep as def
 use Rattle.box_rows.specs.Rows as box
 use Rattle.boxed.proofs.ending.classify_row.Statement.{statement}
 use Rattle.boxed.proofs.ending.classify_row.Tie as tie
 
 state-requires : tie.Need-state-requires
-state-requires c κs = search needs
+state-requires c κs = omega arith
 
 same-length : tie.Need-same-length
-same-length c = search needs
+same-length c = refl
 
 returns : tie.Need-returns
 unfolding def.classifyRow
@@ -19,25 +19,25 @@ returns c =
     rw (eq-eqb _ _ (sym (at-state .state .ensures) ∙ c .if1 .taken))
 
 at-requires : tie.Need-at-requires
-at-requires c κs = search needs
+at-requires c κs = omega arith
 
 at-requires-2 : tie.Need-at-requires-2
-at-requires-2 c κs = search needs
+at-requires-2 c κs = omega arith
 
 at-requires-3 : tie.Need-at-requires-3
-at-requires-3 c κs = search needs
+at-requires-3 c κs = omega arith
 
 at-requires-4 : tie.Need-at-requires-4
-at-requires-4 c κs = search needs
+at-requires-4 c κs = omega arith
 
 state-of-requires : tie.Need-state-of-requires
-state-of-requires c κs = search needs
+state-of-requires c κs = tt
 
 put-state-requires : tie.Need-put-state-requires
-put-state-requires c κs = search needs
+put-state-requires c κs = omega arith
 
 same-length-2 : tie.Need-same-length-2
-same-length-2 c = search needs
+same-length-2 c = c .before .before .put-state .kept .0
 
 returns-2 : tie.Need-returns-2
 unfolding def.classifyRow

@@ -19,19 +19,19 @@ loop-holds : tie.Need-loop-holds Inv-loop μ-loop
 loop-holds c = (search needs, search needs, search needs, gather-start _ _)
 
 at-requires : tie.Need-at-requires Inv-loop μ-loop
-at-requires c κs = search needs
+at-requires c κs = omega arith
 
 at-requires-2 : tie.Need-at-requires-2 Inv-loop μ-loop
-at-requires-2 c κs = search needs
+at-requires-2 c κs = omega arith
 
 grown-row-requires : tie.Need-grown-row-requires Inv-loop μ-loop
 grown-row-requires c κs = omega (arith, gather-le _ _ _ _ _ (c .before .before .before .before .loop .inv .3))
 
 add-i : tie.Need-add-i Inv-loop μ-loop
-add-i c = search needs
+add-i c = omega arith
 
 loop-less : tie.Need-loop-less Inv-loop μ-loop
-loop-less c = search needs
+loop-less c = omega arith
 
 loop-again : tie.Need-loop-again Inv-loop μ-loop
 loop-again c =
@@ -42,7 +42,7 @@ loop-again c =
     (search needs, search needs, search needs, gather-again _ _ _ _ _ _ _ (at-loop .loop .inv .3) (rw (← at-at .at .ensures, ← at-at2 .at2 .ensures) (at-grown-row .grown-row .ensures .0)) (rw (← at-at .at .ensures, ← at-at2 .at2 .ensures) (at-grown-row .grown-row .ensures .1)))
 
 same-length : tie.Need-same-length Inv-loop μ-loop
-same-length c = search needs
+same-length c = c .before .loop .inv .2
 
 returns : tie.Need-returns Inv-loop μ-loop
 returns c =

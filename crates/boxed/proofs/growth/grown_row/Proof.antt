@@ -1,22 +1,22 @@
+use native.Mathlib.Omega.{arith}
 use mathlib.Core.Path.{refl}
 use native.Mathlib.Numerals.{add-one}
-use borrow.Author.Needs.{needs}
 use Rattle.boxed.specs.Sweep as def
 use Rattle.loops.specs.Loops.{counted, noted}
 use Rattle.boxed.proofs.growth.grown_row.Statement.{statement}
 use Rattle.boxed.proofs.growth.grown_row.Tie as tie
 
 abs-requires : tie.Need-abs-requires
-abs-requires c κs = search needs
+abs-requires c κs = tt
 
 put-number-requires : tie.Need-put-number-requires
-put-number-requires c κs = search needs
+put-number-requires c κs = omega arith
 
 add-result : tie.Need-add-result
-add-result c = search needs
+add-result c = omega arith
 
 same-length : tie.Need-same-length
-same-length c = search needs
+same-length c = c .before .before .put-number .kept .0
 
 returns : tie.Need-returns
 unfolding counted noted def.isGrown

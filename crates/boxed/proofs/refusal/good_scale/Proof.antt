@@ -1,10 +1,9 @@
-use borrow.Author.Needs.{needs}
 use Rattle.boxed.specs.Solve as def
 use Rattle.boxed.proofs.refusal.good_scale.Statement.{statement}
 use Rattle.boxed.proofs.refusal.good_scale.Tie as tie
 
 is-finite-requires : tie.Need-is-finite-requires
-is-finite-requires c κs = search needs
+is-finite-requires c κs = tt
 
 returns : tie.Need-returns
 unfolding def.goodScale

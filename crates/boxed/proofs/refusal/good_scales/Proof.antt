@@ -19,16 +19,16 @@ unfolding every
 loop-holds c = (search needs, refl)
 
 at-requires : tie.Need-at-requires Inv-loop μ-loop
-at-requires c κs = search needs
+at-requires c κs = omega arith
 
 good-scale-requires : tie.Need-good-scale-requires Inv-loop μ-loop
-good-scale-requires c κs = search needs
+good-scale-requires c κs = tt
 
 add-i : tie.Need-add-i Inv-loop μ-loop
-add-i c = search needs
+add-i c = omega arith
 
 loop-less : tie.Need-loop-less Inv-loop μ-loop
-loop-less c = search needs
+loop-less c = omega arith
 
 loop-again : tie.Need-loop-again Inv-loop μ-loop
 unfolding every

@@ -3,14 +3,13 @@ use mathlib.Core.Bool.{Bool, true, false, not, _&&_, _||_}
 use mathlib.Core.Path.{_≡_, refl, sym, _∙_}
 use lib.Dec.{eqb}
 use borrow.Author.Tests.{ltb-false, eqb-true, not-false}
-use borrow.Author.Needs.{needs}
 use Rattle.boxed.specs.Solve as def
 use Rattle.loops.proofs.Every.{both-true}
 use Rattle.boxed.proofs.refusal.refusal.Statement.{statement}
 use Rattle.boxed.proofs.refusal.refusal.Tie as tie
 
 too-large-requires : tie.Need-too-large-requires
-too-large-requires c κs = search needs
+too-large-requires c κs = tt
 
 returns : tie.Need-returns
 unfolding def.refusal
@@ -36,7 +35,7 @@ returns-2 c =
     rw (← at-too-large .too-large .ensures, at-if1 .if1 .left, ← at-not-square .not-square .ensures, c .if2 .taken)
 
 unequal-requires : tie.Need-unequal-requires
-unequal-requires c κs = search needs
+unequal-requires c κs = tt
 
 returns-3 : tie.Need-returns-3
 unfolding def.refusal
@@ -72,7 +71,7 @@ returns-4 c =
     rw (← at-too-large .too-large .ensures, at-if1 .if1 .left, ← at-not-square .not-square .ensures, at-if2 .if2 .left, ← at-unequal .unequal .ensures, at-if3 .if3 .left, ← at-good-scales .good-scales .ensures, c .if4 .taken)
 
 uneven-requires : tie.Need-uneven-requires
-uneven-requires c κs = search needs
+uneven-requires c κs = tt
 
 returns-5 : tie.Need-returns-5
 unfolding def.refusal
@@ -89,7 +88,7 @@ returns-5 c =
     rw (← at-too-large .too-large .ensures, at-if1 .if1 .left, ← at-not-square .not-square .ensures, at-if2 .if2 .left, ← at-unequal .unequal .ensures, at-if3 .if3 .left, ← at-good-scales .good-scales .ensures, at-if4 .if4 .left, ← at-uneven .uneven .ensures, c .if5 .taken)
 
 too-short-requires : tie.Need-too-short-requires
-too-short-requires c κs = search needs
+too-short-requires c κs = tt
 
 returns-6 : tie.Need-returns-6
 unfolding def.refusal

@@ -5,7 +5,6 @@ use Rattle.boxed.specs.Private as private
 use borrow.Author.Tests.{not-true, not-false}
 use mathlib.Core.Path.{_≡_, refl, sym, _∙_}
 use Prim.Native.Nat.{_≤_, _-_}
-use borrow.Author.Needs.{needs}
 use native.Mathlib.Omega.{arith}
 use Rattle.boxed.proofs.run.run.Statement.{statement}
 use Rattle.boxed.proofs.run.run.Tie as tie
@@ -41,7 +40,7 @@ turn-requires c κs =
     )
 
 going-requires : tie.Need-going-requires Inv-loop μ-loop
-going-requires c κs = search needs
+going-requires c κs = tt
 
 same-length : tie.Need-same-length Inv-loop μ-loop
 same-length c =

@@ -1,3 +1,7 @@
+use Prim.Native.Nat.{_+_}
+use Rattle.box_rows.specs.Rows as box
+use Rattle.boxed.specs.Sweep as sweeps
+use Rattle.boxed.specs.Solve as def
 use Rattle.boxed.proofs.Checks.{front-within, front-length}
 use Rattle.boxed.proofs.Turns.{one-more, turn-grown, turn-ended, turn-tested}
 use borrow.Author.Tests.{not-true, not-false}
@@ -5,12 +9,11 @@ use lib.Seq.{length-take-le}
 use lib.ListN.{length}
 use mathlib.Core.Path.{refl, sym, ap, _∙_}
 use native.Mathlib.Omega.{arith}
-use borrow.Author.Needs.{needs}
 use Rattle.boxed.proofs.run.turn.Statement.{statement}
 use Rattle.boxed.proofs.run.turn.Tie as tie
 
 array-borrow-prefix-before : tie.Need-array-borrow-prefix-before
-array-borrow-prefix-before c = search needs
+array-borrow-prefix-before c = omega arith
 
 slice-aggregate-sweep : tie.Need-slice-aggregate-sweep
 slice-aggregate-sweep c =
@@ -23,19 +26,19 @@ sweep-requires c κs =
     ((at-pre .pre .0 .0, at-pre .pre .0 .1), at-pre .pre .0 .2, at-pre .pre .0 .3, at-pre .pre .1, at-pre .pre .2, length-take-le _ _ (omega (arith, at-pre .pre .0 .0)))
 
 add-t28 : tie.Need-add-t28
-add-t28 c = search needs
+add-t28 c = omega arith
 
 grown-requires : tie.Need-grown-requires
-grown-requires c κs = search needs
+grown-requires c κs = omega arith
 
 same-length : tie.Need-same-length
-same-length c = search needs
+same-length c = refl
 
 same-length-2 : tie.Need-same-length-2
-same-length-2 c = search needs
+same-length-2 c = c .before .before .before .before .before .before .before .before .before .before .sweep .kept .1 .1 .1 .1 .1 .0
 
 same-length-3 : tie.Need-same-length-3
-same-length-3 c = search needs
+same-length-3 c = c .before .before .before .grown .kept .1 .1 .0
 
 returns : tie.Need-returns
 returns c =
@@ -43,9 +46,16 @@ returns c =
     let at-grown = at-if1 .before .before .before in
     let at-sweep = at-grown .before .before .before .before .before .before .before in
     let at-args = at-sweep .before .before .before .before .before .before .before .before .before .before .before .before .before .before in
-    let at-pre = at-args in (
-      turn-grown _ _ _ _ _ (at-args .args .counts) _ _ (at-sweep .sweep .last .1 .1 .1 .1 .1 .0) _ _ _
-          (at-sweep .sweep .ensures .0) (one-more (at-args .args .counts) _ _ (at-sweep .sweep .ensures .2)) (at-sweep .sweep .kept .1 .1 .1 .1 .1 .0 ∙ at-pre .pre .2) (at-grown .grown .ensures) (at-if1 .if1 .taken),
+    let at-pre = at-args in
+    let a = at-args .args in
+    let p = box.problem (a .w .now) (a .u-free .now) (a .lo .now) (a .hi .now) (a .scale .now) in
+    let m = def.watch (a .motion .now) (a .limits .tolerance) in
+    let s = at-sweep .sweep in
+    let n = def.counts (a .counts .sweeps + 1) (a .counts .passes) (s .result) in
+    let g = at-grown .grown in
+    let counted = one-more (a .counts) (s .result) (sweeps.stopped (a .w .now) (a .u-free .now) (a .lo .now) (a .hi .now) (a .states .now) (a .nu .now) (box.size p)) (s .ensures .2) in (
+      turn-grown (a .limits .cap) p m (a .nu .now) (a .states .now) (a .counts) (a .counts .sweeps) (a .rows .now) (s .last .1 .1 .1 .1 .1 .0) n (g .result) (g .last .1 .1 .0)
+          (s .ensures .0) counted (at-sweep .sweep .kept .1 .1 .1 .1 .1 .0 ∙ at-pre .pre .2) (at-grown .grown .ensures) (at-if1 .if1 .taken),
       refl,
       omega arith,
       refl,
@@ -59,19 +69,22 @@ check-requires c κs =
     (at-pre .pre .0, at-pre .pre .1, at-sweep .sweep .kept .1 .1 .1 .1 .1 .0 ∙ at-pre .pre .2, omega (arith, at-pre .pre .3, at-grown .grown .kept), at-pre .pre .4, at-pre .pre .7)
 
 going-requires : tie.Need-going-requires
-going-requires c κs = search needs
+going-requires c κs = tt
+
+abbrev to-check : tie.Then2 → tie.After-check
+to-check c = c .before .before .before .before .before .before .before .before .before .before .before
 
 same-length-4 : tie.Need-same-length-4
-same-length-4 c = search needs
+same-length-4 c = to-check c .check .kept .1 .1 .1 .1 .1 .1 .0
 
 same-length-5 : tie.Need-same-length-5
-same-length-5 c = search needs
+same-length-5 c = to-check c .check .kept .1 .1 .1 .1 .1 .1 .1 .0 ∙ c .before .before .before .before .before .before .before .before .before .before .before .before .before .before .before .before .before .before .before .before .before .before .before .before .before .before .sweep .kept .1 .1 .1 .1 .1 .0
 
 same-length-6 : tie.Need-same-length-6
-same-length-6 c = search needs
+same-length-6 c = to-check c .check .kept .1 .1 .1 .1 .1 .1 .1 .1 .0 ∙ c .before .before .before .before .before .before .before .before .before .before .before .before .before .before .before .before .before .before .before .grown .kept .1 .1 .0
 
 same-length-7 : tie.Need-same-length-7
-same-length-7 c = search needs
+same-length-7 c = to-check c .check .kept .1 .1 .1 .1 .1 .1 .1 .1 .1 .0
 
 returns-2 : tie.Need-returns-2
 returns-2 c =
@@ -82,9 +95,16 @@ returns-2 c =
     let at-grown = at-if1 .before .before .before in
     let at-sweep = at-grown .before .before .before .before .before .before .before in
     let at-args = at-sweep .before .before .before .before .before .before .before .before .before .before .before .before .before .before in
-    let at-pre = at-args in (
-      turn-ended _ _ _ _ _ (at-args .args .counts) _ _ (at-sweep .sweep .last .1 .1 .1 .1 .1 .0) _ _ _
-          (at-sweep .sweep .ensures .0) (one-more (at-args .args .counts) _ _ (at-sweep .sweep .ensures .2)) (at-sweep .sweep .kept .1 .1 .1 .1 .1 .0 ∙ at-pre .pre .2) (at-grown .grown .ensures) (at-if1 .if1 .left)
+    let at-pre = at-args in
+    let a = at-args .args in
+    let p = box.problem (a .w .now) (a .u-free .now) (a .lo .now) (a .hi .now) (a .scale .now) in
+    let m = def.watch (a .motion .now) (a .limits .tolerance) in
+    let s = at-sweep .sweep in
+    let n = def.counts (a .counts .sweeps + 1) (a .counts .passes) (s .result) in
+    let g = at-grown .grown in
+    let counted = one-more (a .counts) (s .result) (sweeps.stopped (a .w .now) (a .u-free .now) (a .lo .now) (a .hi .now) (a .states .now) (a .nu .now) (box.size p)) (s .ensures .2) in (
+      turn-ended (a .limits .cap) p m (a .nu .now) (a .states .now) (a .counts) (a .counts .sweeps) (a .rows .now) (s .last .1 .1 .1 .1 .1 .0) n (g .result) (g .last .1 .1 .0)
+          (s .ensures .0) counted (at-sweep .sweep .kept .1 .1 .1 .1 .1 .0 ∙ at-pre .pre .2) (at-grown .grown .ensures) (at-if1 .if1 .left)
           _ _ _ _ _ (at-check .check .ensures .0) (sym (at-going .going .ensures) ∙ not-true _ (at-if2 .if2 .taken)),
       at-check .check .ensures .1,
       at-check .check .ensures .2,
@@ -117,8 +137,11 @@ tests-requires c κs =
       at-pre .pre .5,
     )
 
+abbrev to-check-2 : tie.After-slice-known11 → tie.After-check
+to-check-2 c = c .before .before .before .before .before .before .before .before .before .before .before .before .before .before .before .before .before .before
+
 same-length-8 : tie.Need-same-length-8
-same-length-8 c = search needs
+same-length-8 c = to-check-2 c .check .kept .1 .1 .1 .1 .1 .1 .0
 
 same-length-9 : tie.Need-same-length-9
 same-length-9 c =
@@ -127,10 +150,10 @@ same-length-9 c =
     at-check .check .kept .1 .1 .1 .1 .1 .1 .1 .0 ∙ at-sweep .sweep .kept .1 .1 .1 .1 .1 .0
 
 same-length-10 : tie.Need-same-length-10
-same-length-10 c = search needs
+same-length-10 c = c .before .before .tests .kept .1 .1 .1 .1 .1 .1 .1 .1 .1 .1 .0 ∙ to-check-2 c .check .kept .1 .1 .1 .1 .1 .1 .1 .1 .0 ∙ c .before .before .before .before .before .before .before .before .before .before .before .before .before .before .before .before .before .before .before .before .before .before .before .before .before .before .grown .kept .1 .1 .0
 
 same-length-11 : tie.Need-same-length-11
-same-length-11 c = search needs
+same-length-11 c = to-check-2 c .check .kept .1 .1 .1 .1 .1 .1 .1 .1 .1 .0
 
 returns-3 : tie.Need-returns-3
 returns-3 c =
@@ -142,9 +165,16 @@ returns-3 c =
     let at-grown = at-if1 .before .before .before in
     let at-sweep = at-grown .before .before .before .before .before .before .before in
     let at-args = at-sweep .before .before .before .before .before .before .before .before .before .before .before .before .before .before in
-    let at-pre = at-args in (
-      turn-tested _ _ _ _ _ (at-args .args .counts) _ _ (at-sweep .sweep .last .1 .1 .1 .1 .1 .0) _ _ _
-          (at-sweep .sweep .ensures .0) (one-more (at-args .args .counts) _ _ (at-sweep .sweep .ensures .2)) (at-sweep .sweep .kept .1 .1 .1 .1 .1 .0 ∙ at-pre .pre .2) (at-grown .grown .ensures) (at-if1 .if1 .left)
+    let at-pre = at-args in
+    let a = at-args .args in
+    let p = box.problem (a .w .now) (a .u-free .now) (a .lo .now) (a .hi .now) (a .scale .now) in
+    let m = def.watch (a .motion .now) (a .limits .tolerance) in
+    let s = at-sweep .sweep in
+    let n = def.counts (a .counts .sweeps + 1) (a .counts .passes) (s .result) in
+    let g = at-grown .grown in
+    let counted = one-more (a .counts) (s .result) (sweeps.stopped (a .w .now) (a .u-free .now) (a .lo .now) (a .hi .now) (a .states .now) (a .nu .now) (box.size p)) (s .ensures .2) in (
+      turn-tested (a .limits .cap) p m (a .nu .now) (a .states .now) (a .counts) (a .counts .sweeps) (a .rows .now) (s .last .1 .1 .1 .1 .1 .0) n (g .result) (g .last .1 .1 .0)
+          (s .ensures .0) counted (at-sweep .sweep .kept .1 .1 .1 .1 .1 .0 ∙ at-pre .pre .2) (at-grown .grown .ensures) (at-if1 .if1 .left)
           (at-check .check .result .sweeping) _ _ _ _ (at-check .check .ensures .0) (sym (at-going .going .ensures) ∙ not-false _ (at-if2 .if2 .left))
           (at-sweep .sweep .last .1 .1 .1 .1 .1 .1 .0) _ _ _ (at-sweep .sweep .ensures .1) (at-pre .pre .2) (at-tests .tests .ensures),
       at-check .check .ensures .1,

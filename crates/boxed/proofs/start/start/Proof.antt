@@ -29,19 +29,19 @@ at-requires : tie.Need-at-requires Inv-loop μ-loop
 at-requires c κs = omega (arith, ap length (c .row .ensures) ∙ row-length _ _ _)
 
 at-requires-2 : tie.Need-at-requires-2 Inv-loop μ-loop
-at-requires-2 c κs = search needs
+at-requires-2 c κs = omega arith
 
 at-requires-3 : tie.Need-at-requires-3 Inv-loop μ-loop
-at-requires-3 c κs = search needs
+at-requires-3 c κs = omega arith
 
 start-row-requires : tie.Need-start-row-requires Inv-loop μ-loop
-start-row-requires c κs = search needs
+start-row-requires c κs = omega arith
 
 add-i : tie.Need-add-i Inv-loop μ-loop
-add-i c = search needs
+add-i c = omega arith
 
 loop-less : tie.Need-loop-less Inv-loop μ-loop
-loop-less c = search needs
+loop-less c = omega arith
 
 loop-again : tie.Need-loop-again Inv-loop μ-loop
 unfolding def.start
@@ -55,10 +55,10 @@ loop-again c =
     (search needs, at-start-row .start-row .ensures .1, search needs, search needs, search needs, turns-again _ _ _ _ _ (at-loop .loop .inv .5) (rw (at-at .at .ensures, at-at2 .at2 .ensures, at-at3 .at3 .ensures, at-row .row .ensures) at (at-start-row .start-row .ensures .0)))
 
 same-length : tie.Need-same-length Inv-loop μ-loop
-same-length c = search needs
+same-length c = c .before .loop .inv .3
 
 same-length-2 : tie.Need-same-length-2 Inv-loop μ-loop
-same-length-2 c = search needs
+same-length-2 c = c .before .loop .inv .2
 
 returns : tie.Need-returns Inv-loop μ-loop
 unfolding def.start

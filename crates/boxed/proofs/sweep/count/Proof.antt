@@ -1,6 +1,6 @@
+use native.Mathlib.Omega.{arith}
 use native.Mathlib.Numerals.{add-one}
 use borrow.Author.Tests.{eq-eqb, ne-eqb}
-use borrow.Author.Needs.{needs}
 use Rattle.loops.specs.Loops.{counted}
 use Rattle.boxed.proofs.sweep.count.Statement.{statement}
 use Rattle.boxed.proofs.sweep.count.Tie as tie
@@ -10,7 +10,7 @@ unfolding counted
 returns c = rw (eq-eqb _ _ (c .if1 .taken))
 
 add-result : tie.Need-add-result
-add-result c = search needs
+add-result c = omega arith
 
 returns-2 : tie.Need-returns-2
 unfolding counted

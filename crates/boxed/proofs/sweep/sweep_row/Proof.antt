@@ -12,7 +12,7 @@ use Rattle.boxed.proofs.sweep.sweep_row.Statement.{statement}
 use Rattle.boxed.proofs.sweep.sweep_row.Tie as tie
 
 state-requires : tie.Need-state-requires
-state-requires c κs = search needs
+state-requires c κs = omega arith
 
 returns : tie.Need-returns
 unfolding def.sweepRow def.stops counted
@@ -27,13 +27,13 @@ row-requires c κs =
     row-fits (at-args .args .w .now) (length (at-args .args .u-free .now)) (at-args .args .i) (at-args .pre .0 .1) (at-args .pre .5)
 
 at-requires : tie.Need-at-requires
-at-requires c κs = search needs
+at-requires c κs = omega arith
 
 row-sum-requires : tie.Need-row-sum-requires
-row-sum-requires c κs = search needs
+row-sum-requires c κs = tt
 
 at-requires-2 : tie.Need-at-requires-2
-at-requires-2 c κs = search needs
+at-requires-2 c κs = omega arith
 
 at-requires-3 : tie.Need-at-requires-3
 at-requires-3 c κs =
@@ -42,16 +42,16 @@ at-requires-3 c κs =
     omega (arith, ap length (at-row .row .ensures) ∙ row-length _ _ _, at-pre .pre .5)
 
 at-requires-4 : tie.Need-at-requires-4
-at-requires-4 c κs = search needs
+at-requires-4 c κs = omega arith
 
 at-requires-5 : tie.Need-at-requires-5
-at-requires-5 c κs = search needs
+at-requires-5 c κs = omega arith
 
 update-requires : tie.Need-update-requires
-update-requires c κs = search needs
+update-requires c κs = tt
 
 put-requires : tie.Need-put-requires
-put-requires c κs = search needs
+put-requires c κs = omega arith
 
 count-requires : tie.Need-count-requires
 count-requires c κs =
@@ -59,7 +59,7 @@ count-requires c κs =
     omega (arith, at-pre .pre .0 .0, at-pre .pre .5, at-pre .pre .6)
 
 same-length : tie.Need-same-length
-same-length c = search needs
+same-length c = c .before .before .before .put .kept .0
 
 returns-2 : tie.Need-returns-2
 unfolding def.sweepRow def.stops

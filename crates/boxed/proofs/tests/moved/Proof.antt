@@ -36,10 +36,10 @@ coordinate-requires c κs =
     (ap length (c .row .ensures) ∙ row-length _ _ _, at-pre .pre .0)
 
 abs-requires : tie.Need-abs-requires Inv-loop μ-loop
-abs-requires c κs = search needs
+abs-requires c κs = tt
 
 larger-requires : tie.Need-larger-requires Inv-loop μ-loop
-larger-requires c κs = search needs
+larger-requires c κs = tt
 
 add-c : tie.Need-add-c Inv-loop μ-loop
 add-c c =
@@ -48,7 +48,7 @@ add-c c =
     omega (arith, at-loop-test .loop-test .taken, div-le-self (length (at-args .args .motion .now)) (length (at-args .args .nu .now)))
 
 loop-less : tie.Need-loop-less Inv-loop μ-loop
-loop-less c = search needs
+loop-less c = omega arith
 
 loop-again : tie.Need-loop-again Inv-loop μ-loop
 unfolding def.moved

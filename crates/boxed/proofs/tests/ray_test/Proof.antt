@@ -7,7 +7,7 @@ use Rattle.boxed.proofs.tests.ray_test.Statement.{statement}
 use Rattle.boxed.proofs.tests.ray_test.Tie as tie
 
 array-borrow-prefix-y : tie.Need-array-borrow-prefix-y
-array-borrow-prefix-y c = search needs
+array-borrow-prefix-y c = omega arith
 
 slice-aggregate-change : tie.Need-slice-aggregate-change
 slice-aggregate-change c = sym (length-take-le _ _ (omega (arith, c .before .before .before .before .before .before .before .before .before .before .pre .0 .0)))
@@ -33,7 +33,7 @@ ray-requires : tie.Need-ray-requires
 ray-requires c κs = search needs
 
 same-length : tie.Need-same-length
-same-length c = search needs
+same-length c = c .before .before .before .ray .kept .1 .1 .1 .1 .1 .1 .1 .0
 
 returns : tie.Need-returns
 returns c =
@@ -43,7 +43,7 @@ returns c =
     none-fight _ _ _ _ _ _ _ (ray-front _ _ _ _ _ _ _ _ (at-pre .pre .0) (at-pre .pre .1) (at-pre .pre .4) (changed-front _ _ _ _ _ (at-change .change .ensures) (at-pre .pre .2)) (at-ray .ray .ensures)) (c .if1 .taken)
 
 same-length-2 : tie.Need-same-length-2
-same-length-2 c = search needs
+same-length-2 c = c .before .before .before .ray .kept .1 .1 .1 .1 .1 .1 .1 .0
 
 returns-2 : tie.Need-returns-2
 returns-2 c =

@@ -20,13 +20,13 @@ unfolding def.residual
 loop-holds c = search (turns-from, needs)
 
 residual-row-requires : tie.Need-residual-row-requires Inv-loop μ-loop
-residual-row-requires c κs = search needs
+residual-row-requires c κs = omega arith
 
 add-i : tie.Need-add-i Inv-loop μ-loop
-add-i c = search needs
+add-i c = omega arith
 
 loop-less : tie.Need-loop-less Inv-loop μ-loop
-loop-less c = search needs
+loop-less c = omega arith
 
 loop-again : tie.Need-loop-again Inv-loop μ-loop
 unfolding def.residual

@@ -2,7 +2,6 @@ use mathlib.Core.Path.{_≡_, sym, ap, _∙_}
 use native.Mathlib.Omega.{arith}
 use lib.ListN.{length}
 use borrow.Author.Tests.{eq-eqb, ne-eqb}
-use borrow.Author.Needs.{needs}
 use Rattle.boxed.specs.Sweep as def
 use Rattle.box_rows.specs.Rows as box
 use Rattle.box_rows.proofs.Matrix.{row-fits, row-length}
@@ -10,7 +9,7 @@ use Rattle.boxed.proofs.tests.residual_row.Statement.{statement}
 use Rattle.boxed.proofs.tests.residual_row.Tie as tie
 
 state-requires : tie.Need-state-requires
-state-requires c κs = search needs
+state-requires c κs = omega arith
 
 returns : tie.Need-returns
 unfolding def.residualRow
@@ -24,13 +23,13 @@ row-requires c κs =
     row-fits (at-args .args .w .now) (length (at-args .args .u-free .now)) (at-args .args .i) (at-args .pre .0 .1) (at-args .pre .3)
 
 at-requires : tie.Need-at-requires
-at-requires c κs = search needs
+at-requires c κs = omega arith
 
 row-sum-requires : tie.Need-row-sum-requires
-row-sum-requires c κs = search needs
+row-sum-requires c κs = tt
 
 at-requires-2 : tie.Need-at-requires-2
-at-requires-2 c κs = search needs
+at-requires-2 c κs = omega arith
 
 at-requires-3 : tie.Need-at-requires-3
 at-requires-3 c κs =
@@ -39,19 +38,19 @@ at-requires-3 c κs =
     omega (arith, ap length (at-row .row .ensures) ∙ row-length _ _ _, at-pre .pre .3)
 
 at-requires-4 : tie.Need-at-requires-4
-at-requires-4 c κs = search needs
+at-requires-4 c κs = omega arith
 
 at-requires-5 : tie.Need-at-requires-5
-at-requires-5 c κs = search needs
+at-requires-5 c κs = omega arith
 
 at-requires-6 : tie.Need-at-requires-6
-at-requires-6 c κs = search needs
+at-requires-6 c κs = omega arith
 
 natural-residual-requires : tie.Need-natural-residual-requires
-natural-residual-requires c κs = search needs
+natural-residual-requires c κs = tt
 
 larger-requires : tie.Need-larger-requires
-larger-requires c κs = search needs
+larger-requires c κs = tt
 
 returns-2 : tie.Need-returns-2
 unfolding def.residualRow box.residualAt

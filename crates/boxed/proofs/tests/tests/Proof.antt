@@ -1,13 +1,13 @@
-use borrow.Author.Needs.{needs}
+use native.Mathlib.Omega.{arith}
 use Rattle.boxed.proofs.Testing.{still-moves, has-converged, along-ray}
 use Rattle.boxed.proofs.tests.tests.Statement.{statement}
 use Rattle.boxed.proofs.tests.tests.Tie as tie
 
 moved-requires : tie.Need-moved-requires
-moved-requires c κs = search needs
+moved-requires c κs = omega arith
 
 residual-requires : tie.Need-residual-requires
-residual-requires c κs = search needs
+residual-requires c κs = omega arith
 
 returns : tie.Need-returns
 returns c =
@@ -17,10 +17,10 @@ returns c =
     has-converged _ _ _ _ _ _ _ _ (at-moved .moved .ensures) (at-if1 .if1 .taken) _ (at-residual .residual .ensures) (c .if2 .taken)
 
 ray-test-requires : tie.Need-ray-test-requires
-ray-test-requires c κs = search needs
+ray-test-requires c κs = omega arith
 
 same-length : tie.Need-same-length
-same-length c = search needs
+same-length c = c .before .before .ray-test .kept .1 .1 .1 .1 .1 .1 .1 .1 .0
 
 returns-2 : tie.Need-returns-2
 returns-2 c =

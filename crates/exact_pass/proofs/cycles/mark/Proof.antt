@@ -4,7 +4,6 @@ use lib.ListN.{length}
 use mathlib.Core.Path.{_≡_, refl, sym, ap, _∙_}
 use Rattle.exact_pass.proofs.Running.{turn-ended, turn-on, turn-over, marked-new}
 use native.Mathlib.Omega.{arith}
-use borrow.Author.Needs.{needs}
 use Rattle.exact_pass.proofs.cycles.mark.Statement.{statement}
 use Rattle.exact_pass.proofs.cycles.mark.Tie as tie
 
@@ -15,16 +14,16 @@ copy-requires : tie.Need-copy-requires
 copy-requires c κs = omega (arith, c .before .before .before .before .before .before .before .pre)
 
 mark-states-requires : tie.Need-mark-states-requires
-mark-states-requires c κs = search needs
+mark-states-requires c κs = omega arith
 
 mul-t12 : tie.Need-mul-t12
-mul-t12 c = search needs
+mul-t12 c = omega arith
 
 same-length : tie.Need-same-length
-same-length c = search needs
+same-length c = c .before .before .before .before .before .before .before .copy .kept .1 .0
 
 same-length-2 : tie.Need-same-length-2
-same-length-2 c = search needs
+same-length-2 c = c .before .before .before .mark-states .kept .1 .0
 
 returns-2 : tie.Need-returns-2
 returns-2 c =

@@ -23,16 +23,16 @@ loop-holds : tie.Need-loop-holds Inv-loop μ-loop
 loop-holds c = search (front-start, needs)
 
 state-requires : tie.Need-state-requires Inv-loop μ-loop
-state-requires c κs = search needs
+state-requires c κs = omega arith
 
 put-state-requires : tie.Need-put-state-requires Inv-loop μ-loop
-put-state-requires c κs = search needs
+put-state-requires c κs = omega arith
 
 add-i : tie.Need-add-i Inv-loop μ-loop
-add-i c = search needs
+add-i c = omega arith
 
 loop-less : tie.Need-loop-less Inv-loop μ-loop
-loop-less c = search needs
+loop-less c = omega arith
 
 loop-again : tie.Need-loop-again Inv-loop μ-loop
 loop-again c =
@@ -42,7 +42,7 @@ loop-again c =
     (search needs, search needs, search needs, front-again _ _ (at-loop .loop .i) 0 (at-loop .loop .marks) _ (at-loop .loop .inv .3) (omega arith) (rw (at-put-state .put-state .ensures, at-state .state .ensures)))
 
 same-length : tie.Need-same-length Inv-loop μ-loop
-same-length c = search needs
+same-length c = c .before .loop .inv .2
 
 returns : tie.Need-returns Inv-loop μ-loop
 returns c =

@@ -2,8 +2,6 @@ use borrow.Author.Tests.{eqb-true}
 use mathlib.Core.Bool.{true≢false}
 use Rattle.exact_pass.proofs.Periods.{left-is, same-lists, same-more, nan-is, has-bits, same-bits, part-at}
 use mathlib.Core.Path.{_≡_, refl, sym, ap, _∙_}
-use borrow.Author.Needs.{needs}
-use native.Mathlib.Omega.{arith}
 use Rattle.exact_pass.proofs.cycles.same.Statement.{statement}
 use Rattle.exact_pass.proofs.cycles.same.Tie as tie
 

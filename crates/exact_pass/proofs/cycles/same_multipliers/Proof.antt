@@ -25,25 +25,25 @@ loop-holds : tie.Need-loop-holds Inv-loop μ-loop
 loop-holds c = (search needs, search needs, λ j h. absurd (not-suc-le-zero h))
 
 add-at : tie.Need-add-at Inv-loop μ-loop
-add-at c = search needs
+add-at c = omega arith
 
 at-requires : tie.Need-at-requires Inv-loop μ-loop
-at-requires c κs = search needs
+at-requires c κs = omega arith
 
 at-requires-2 : tie.Need-at-requires-2 Inv-loop μ-loop
-at-requires-2 c κs = search needs
+at-requires-2 c κs = omega arith
 
 same-requires : tie.Need-same-requires Inv-loop μ-loop
-same-requires c κs = search needs
+same-requires c κs = tt
 
 returns : tie.Need-returns Inv-loop μ-loop
 returns c = λ h. absurd (true≢false (sym h))
 
 add-i : tie.Need-add-i Inv-loop μ-loop
-add-i c = search needs
+add-i c = omega arith
 
 loop-less : tie.Need-loop-less Inv-loop μ-loop
-loop-less c = search needs
+loop-less c = omega arith
 
 loop-again : tie.Need-loop-again Inv-loop μ-loop
 loop-again c =

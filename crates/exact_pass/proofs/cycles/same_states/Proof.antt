@@ -23,19 +23,19 @@ loop-holds : tie.Need-loop-holds Inv-loop μ-loop
 loop-holds c = (search needs, search needs, λ j h. absurd (not-suc-le-zero h))
 
 state-requires : tie.Need-state-requires Inv-loop μ-loop
-state-requires c κs = search needs
+state-requires c κs = omega arith
 
 state-requires-2 : tie.Need-state-requires-2 Inv-loop μ-loop
-state-requires-2 c κs = search needs
+state-requires-2 c κs = omega arith
 
 returns : tie.Need-returns Inv-loop μ-loop
 returns c = λ h. absurd (true≢false (sym h))
 
 add-i : tie.Need-add-i Inv-loop μ-loop
-add-i c = search needs
+add-i c = omega arith
 
 loop-less : tie.Need-loop-less Inv-loop μ-loop
-loop-less c = search needs
+loop-less c = omega arith
 
 loop-again : tie.Need-loop-again Inv-loop μ-loop
 loop-again c =

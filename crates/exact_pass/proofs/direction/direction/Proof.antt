@@ -1,6 +1,6 @@
-use Rattle.exact_pass.specs.Pass as def
-use native.Mathlib.Omega.{arith}
 use borrow.Author.Needs.{needs}
+use native.Mathlib.Omega.{arith}
+use Rattle.exact_pass.specs.Pass as def
 use Rattle.exact_pass.proofs.direction.direction.Statement.{statement}
 use Rattle.exact_pass.proofs.direction.direction.Tie as tie
 
@@ -12,7 +12,7 @@ to-target-requires : tie.Need-to-target-requires
 to-target-requires c κs = search needs
 
 same-length : tie.Need-same-length
-same-length c = search needs
+same-length c = c .before .before .to-target .kept .1 .1 .1 .1 .0
 
 returns-2 : tie.Need-returns-2
 unfolding def.direction

@@ -1,7 +1,5 @@
 use Rattle.floats.proofs.Infinity.{infinity-is, neg-infinity-is}
 use Rattle.exact_pass.specs.Pass as def
-use borrow.Author.Needs.{needs}
-use native.Mathlib.Omega.{arith}
 use Rattle.exact_pass.proofs.direction.longest.Statement.{statement}
 use Rattle.exact_pass.proofs.direction.longest.Tie as tie
 

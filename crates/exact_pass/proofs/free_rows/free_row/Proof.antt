@@ -1,23 +1,22 @@
+use native.Mathlib.Omega.{arith}
 use native.Mathlib.Numerals.{add-one}
 use borrow.Author.Tests.{eq-eqb, ne-eqb}
 use Rattle.loops.specs.Loops.{counted, noted}
 use mathlib.Core.Path.{_≡_, refl, sym, ap, _∙_}
-use native.Mathlib.Omega.{arith}
-use borrow.Author.Needs.{needs}
 use Rattle.exact_pass.proofs.free_rows.free_row.Statement.{statement}
 use Rattle.exact_pass.proofs.free_rows.free_row.Tie as tie
 
 cast-put-state : tie.Need-cast-put-state
-cast-put-state c = search needs
+cast-put-state c = omega arith
 
 put-state-requires : tie.Need-put-state-requires
-put-state-requires c κs = search needs
+put-state-requires c κs = omega arith
 
 add-result : tie.Need-add-result
-add-result c = search needs
+add-result c = omega arith
 
 same-length : tie.Need-same-length
-same-length c = search needs
+same-length c = c .before .before .put-state .kept .0
 
 returns : tie.Need-returns
 unfolding counted noted

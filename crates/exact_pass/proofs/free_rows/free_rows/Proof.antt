@@ -20,16 +20,16 @@ loop-holds : tie.Need-loop-holds Inv-loop μ-loop
 loop-holds c = (search needs, search needs, search needs, gather-start _ _)
 
 state-requires : tie.Need-state-requires Inv-loop μ-loop
-state-requires c κs = search needs
+state-requires c κs = omega arith
 
 free-row-requires : tie.Need-free-row-requires Inv-loop μ-loop
 free-row-requires c κs = (omega (arith, gather-le _ _ _ _ _ (c .before .before .before .loop .inv .3)), omega arith)
 
 add-i : tie.Need-add-i Inv-loop μ-loop
-add-i c = search needs
+add-i c = omega arith
 
 loop-less : tie.Need-loop-less Inv-loop μ-loop
-loop-less c = search needs
+loop-less c = omega arith
 
 loop-again : tie.Need-loop-again Inv-loop μ-loop
 loop-again c =
@@ -39,7 +39,7 @@ loop-again c =
     (search needs, search needs, search needs, gather-again _ _ _ _ _ _ _ (at-loop .loop .inv .3) (rw (← at-state .state .ensures) (at-free-row .free-row .ensures .0)) (rw (← at-state .state .ensures) (at-free-row .free-row .ensures .1)))
 
 same-length : tie.Need-same-length Inv-loop μ-loop
-same-length c = search needs
+same-length c = c .before .loop .inv .2
 
 returns : tie.Need-returns Inv-loop μ-loop
 returns c = free-done _ _ (c .before .loop .i) _ _ _ (omega arith) (omega arith) (omega arith) (c .before .loop .inv .3)

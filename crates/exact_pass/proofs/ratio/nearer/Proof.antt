@@ -1,11 +1,9 @@
 use Rattle.exact_pass.specs.Pass as def
-use native.Mathlib.Omega.{arith}
-use borrow.Author.Needs.{needs}
 use Rattle.exact_pass.proofs.ratio.nearer.Statement.{statement}
 use Rattle.exact_pass.proofs.ratio.nearer.Tie as tie
 
 larger-requires : tie.Need-larger-requires
-larger-requires c κs = search needs
+larger-requires c κs = tt
 
 returns : tie.Need-returns
 unfolding def.nearer

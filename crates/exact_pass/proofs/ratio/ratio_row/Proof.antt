@@ -1,6 +1,4 @@
 use Rattle.exact_pass.specs.Pass as def
-use native.Mathlib.Omega.{arith}
-use borrow.Author.Needs.{needs}
 use Rattle.exact_pass.proofs.ratio.ratio_row.Statement.{statement}
 use Rattle.exact_pass.proofs.ratio.ratio_row.Tie as tie
 
@@ -8,7 +6,7 @@ cast-nearer : tie.Need-cast-nearer
 cast-nearer c = search needs
 
 nearer-requires : tie.Need-nearer-requires
-nearer-requires c κs = search needs
+nearer-requires c κs = tt
 
 returns : tie.Need-returns
 unfolding def.ratioRow
@@ -18,7 +16,7 @@ cast-nearer-2 : tie.Need-cast-nearer-2
 cast-nearer-2 c = search needs
 
 nearer-requires-2 : tie.Need-nearer-requires-2
-nearer-requires-2 c κs = search needs
+nearer-requires-2 c κs = tt
 
 returns-2 : tie.Need-returns-2
 unfolding def.ratioRow

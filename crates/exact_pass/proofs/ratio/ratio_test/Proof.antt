@@ -24,13 +24,13 @@ unfolding def.ratioTest
 loop-holds c = (search needs, search needs, search needs, omega arith, turns-from _ _)
 
 row-number-requires : tie.Need-row-number-requires Inv-loop μ-loop
-row-number-requires c κs = search needs
+row-number-requires c κs = omega arith
 
 at-requires : tie.Need-at-requires Inv-loop μ-loop
 at-requires c κs = search (free-row, needs)
 
 at-requires-2 : tie.Need-at-requires-2 Inv-loop μ-loop
-at-requires-2 c κs = search needs
+at-requires-2 c κs = omega arith
 
 at-requires-3 : tie.Need-at-requires-3 Inv-loop μ-loop
 at-requires-3 c κs = search (free-row, needs)
@@ -39,13 +39,13 @@ at-requires-4 : tie.Need-at-requires-4 Inv-loop μ-loop
 at-requires-4 c κs = search (free-row, needs)
 
 ratio-row-requires : tie.Need-ratio-row-requires Inv-loop μ-loop
-ratio-row-requires c κs = search needs
+ratio-row-requires c κs = tt
 
 add-i : tie.Need-add-i Inv-loop μ-loop
-add-i c = search needs
+add-i c = omega arith
 
 loop-less : tie.Need-loop-less Inv-loop μ-loop
-loop-less c = search needs
+loop-less c = omega arith
 
 loop-again : tie.Need-loop-again Inv-loop μ-loop
 unfolding def.ratioTest

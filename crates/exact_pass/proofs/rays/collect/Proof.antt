@@ -18,31 +18,31 @@ loop-holds : tie.Need-loop-holds Inv-loop μ-loop
 loop-holds c = (search needs, search needs, search needs, collect-start _ _ _ _ _ _ _)
 
 at-requires : tie.Need-at-requires Inv-loop μ-loop
-at-requires c κs = search needs
+at-requires c κs = omega arith
 
 at-requires-2 : tie.Need-at-requires-2 Inv-loop μ-loop
-at-requires-2 c κs = search needs
+at-requires-2 c κs = omega arith
 
 size-requires : tie.Need-size-requires Inv-loop μ-loop
-size-requires c κs = search needs
+size-requires c κs = tt
 
 at-requires-3 : tie.Need-at-requires-3 Inv-loop μ-loop
-at-requires-3 c κs = search needs
+at-requires-3 c κs = omega arith
 
 at-requires-4 : tie.Need-at-requires-4 Inv-loop μ-loop
-at-requires-4 c κs = search needs
+at-requires-4 c κs = omega arith
 
 state-requires : tie.Need-state-requires Inv-loop μ-loop
-state-requires c κs = search needs
+state-requires c κs = omega arith
 
 at-requires-5 : tie.Need-at-requires-5 Inv-loop μ-loop
-at-requires-5 c κs = search needs
+at-requires-5 c κs = omega arith
 
 verdict-requires : tie.Need-verdict-requires Inv-loop μ-loop
-verdict-requires c κs = search needs
+verdict-requires c κs = tt
 
 same-length : tie.Need-same-length Inv-loop μ-loop
-same-length c = search needs
+same-length c = c .before .before .before .before .before .before .before .before .before .before .loop .inv .2
 
 returns : tie.Need-returns Inv-loop μ-loop
 returns c =
@@ -67,7 +67,7 @@ returns c =
     ) at (at-verdict .verdict .ensures)) (c .if1 .taken) (at-loop-test .loop-test .taken)
 
 farther-requires : tie.Need-farther-requires Inv-loop μ-loop
-farther-requires c κs = search needs
+farther-requires c κs = tt
 
 taken-requires : tie.Need-taken-requires Inv-loop μ-loop
 taken-requires c κs =
@@ -77,10 +77,10 @@ taken-requires c κs =
     (omega (arith, at-loop .loop .inv .3 .few, at-pre .pre .0, at-loop-test .loop-test .taken, at-loop .loop .inv .1, at-loop .loop .inv .2), omega (arith, at-pre .pre .1, at-loop .loop .inv .2))
 
 add-a : tie.Need-add-a Inv-loop μ-loop
-add-a c = search needs
+add-a c = omega arith
 
 loop-less : tie.Need-loop-less Inv-loop μ-loop
-loop-less c = search needs
+loop-less c = omega arith
 
 loop-again : tie.Need-loop-again Inv-loop μ-loop
 loop-again c =
@@ -116,7 +116,7 @@ loop-again c =
     )
 
 same-length-2 : tie.Need-same-length-2 Inv-loop μ-loop
-same-length-2 c = search needs
+same-length-2 c = c .before .loop .inv .2
 
 returns-2 : tie.Need-returns-2 Inv-loop μ-loop
 returns-2 c =

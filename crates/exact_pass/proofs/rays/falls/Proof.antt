@@ -1,5 +1,6 @@
-use Rattle.exact_pass.specs.Ray as rays
 use borrow.Author.Needs.{needs}
+use native.Mathlib.Omega.{arith}
+use Rattle.exact_pass.specs.Ray as rays
 use Rattle.exact_pass.proofs.rays.falls.Statement.{statement}
 use Rattle.exact_pass.proofs.rays.falls.Tie as tie
 

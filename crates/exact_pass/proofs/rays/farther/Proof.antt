@@ -1,10 +1,9 @@
 use borrow.Author.Tests.{eq-eqb, ne-eqb}
-use borrow.Author.Needs.{needs}
 use Rattle.exact_pass.proofs.rays.farther.Statement.{statement}
 use Rattle.exact_pass.proofs.rays.farther.Tie as tie
 
 larger-requires : tie.Need-larger-requires
-larger-requires c κs = search needs
+larger-requires c κs = tt
 
 returns : tie.Need-returns
 returns c = rw (eq-eqb _ _ (c .before .if1 .taken)) (c .larger .ensures)

@@ -1,7 +1,5 @@
 use Rattle.floats.proofs.Infinity.{infinity-is, neg-infinity-is}
 use Rattle.exact_pass.specs.Ray as rays
-use borrow.Author.Needs.{needs}
-use native.Mathlib.Omega.{arith}
 use Rattle.exact_pass.proofs.rays.grows.Statement.{statement}
 use Rattle.exact_pass.proofs.rays.grows.Tie as tie
 

@@ -2,28 +2,27 @@ use borrow.Author.Tests.{eq-eqb, ne-eqb}
 use mathlib.Core.Path.{_≡_, refl, sym, ap, _∙_}
 use Rattle.exact_pass.specs.Ray as rays
 use native.Mathlib.Omega.{arith}
-use borrow.Author.Needs.{needs}
 use Rattle.exact_pass.proofs.rays.larger_row.Statement.{statement}
 use Rattle.exact_pass.proofs.rays.larger_row.Tie as tie
 
 state-requires : tie.Need-state-requires
-state-requires c κs = search needs
+state-requires c κs = omega arith
 
 returns : tie.Need-returns
 unfolding rays.largestRow
 returns c = rw (eq-eqb _ _ (sym (c .before .state .ensures) ∙ c .if1 .taken))
 
 at-requires : tie.Need-at-requires
-at-requires c κs = search needs
+at-requires c κs = omega arith
 
 at-requires-2 : tie.Need-at-requires-2
-at-requires-2 c κs = search needs
+at-requires-2 c κs = omega arith
 
 size-requires : tie.Need-size-requires
-size-requires c κs = search needs
+size-requires c κs = tt
 
 larger-requires : tie.Need-larger-requires
-larger-requires c κs = search needs
+larger-requires c κs = tt
 
 returns-2 : tie.Need-returns-2
 unfolding rays.largestRow

@@ -21,13 +21,13 @@ unfolding rays.largest
 loop-holds c = search (turns-from, needs)
 
 larger-row-requires : tie.Need-larger-row-requires Inv-loop μ-loop
-larger-row-requires c κs = search needs
+larger-row-requires c κs = omega arith
 
 add-a : tie.Need-add-a Inv-loop μ-loop
-add-a c = search needs
+add-a c = omega arith
 
 loop-less : tie.Need-loop-less Inv-loop μ-loop
-loop-less c = search needs
+loop-less c = omega arith
 
 loop-again : tie.Need-loop-again Inv-loop μ-loop
 unfolding rays.largest

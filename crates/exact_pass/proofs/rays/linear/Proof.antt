@@ -21,7 +21,7 @@ unfolding rays.linear
 loop-holds c = search (turns-from, needs)
 
 number-requires : tie.Need-number-requires Inv-loop μ-loop
-number-requires c κs = search needs
+number-requires c κs = omega arith
 
 at-requires : tie.Need-at-requires Inv-loop μ-loop
 at-requires c κs = search (free-row, needs)
@@ -30,10 +30,10 @@ at-requires-2 : tie.Need-at-requires-2 Inv-loop μ-loop
 at-requires-2 c κs = search (free-row, needs)
 
 add-i : tie.Need-add-i Inv-loop μ-loop
-add-i c = search needs
+add-i c = omega arith
 
 loop-less : tie.Need-loop-less Inv-loop μ-loop
-loop-less c = search needs
+loop-less c = omega arith
 
 loop-again : tie.Need-loop-again Inv-loop μ-loop
 unfolding rays.linear

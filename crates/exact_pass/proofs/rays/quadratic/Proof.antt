@@ -22,7 +22,7 @@ unfolding rays.quadratic
 loop-holds c = search (turns-from, needs)
 
 number-requires : tie.Need-number-requires Inv-loop μ-loop
-number-requires c κs = search needs
+number-requires c κs = omega arith
 
 row-requires : tie.Need-row-requires Inv-loop μ-loop
 row-requires c κs =
@@ -42,10 +42,10 @@ quadratic-row-requires c κs =
     (at-pre .pre .0, ap length (at-row .row .ensures) ∙ row-length _ _ _)
 
 add-i : tie.Need-add-i Inv-loop μ-loop
-add-i c = search needs
+add-i c = omega arith
 
 loop-less : tie.Need-loop-less Inv-loop μ-loop
-loop-less c = search needs
+loop-less c = omega arith
 
 loop-again : tie.Need-loop-again Inv-loop μ-loop
 unfolding rays.quadratic

@@ -21,7 +21,7 @@ unfolding rays.quadraticRow
 loop-holds c = search (turns-from, needs)
 
 number-requires : tie.Need-number-requires Inv-loop μ-loop
-number-requires c κs = search needs
+number-requires c κs = omega arith
 
 at-requires : tie.Need-at-requires Inv-loop μ-loop
 at-requires c κs = search (free-row, needs)
@@ -30,10 +30,10 @@ at-requires-2 : tie.Need-at-requires-2 Inv-loop μ-loop
 at-requires-2 c κs = search (free-row, needs)
 
 add-j : tie.Need-add-j Inv-loop μ-loop
-add-j c = search needs
+add-j c = omega arith
 
 loop-less : tie.Need-loop-less Inv-loop μ-loop
-loop-less c = search needs
+loop-less c = omega arith
 
 loop-again : tie.Need-loop-again Inv-loop μ-loop
 unfolding rays.quadraticRow

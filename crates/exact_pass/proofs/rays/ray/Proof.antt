@@ -7,7 +7,7 @@ use Rattle.exact_pass.proofs.rays.ray.Statement.{statement}
 use Rattle.exact_pass.proofs.rays.ray.Tie as tie
 
 largest-requires : tie.Need-largest-requires
-largest-requires c κs = search needs
+largest-requires c κs = omega arith
 
 returns : tie.Need-returns
 returns c =
@@ -19,7 +19,7 @@ slice-aggregate-collect : tie.Need-slice-aggregate-collect
 slice-aggregate-collect c = search needs
 
 collect-requires : tie.Need-collect-requires
-collect-requires c κs = search needs
+collect-requires c κs = omega arith
 
 array-share-prefix-list : tie.Need-array-share-prefix-list
 array-share-prefix-list c =
@@ -58,7 +58,7 @@ front-requires c κs =
     let e = length-take-le (at-collect .collect .result .count) (at-collect .collect .last .1 .1 .1 .1 .1 .1 .0) (omega (arith, collected-le (at-collect .collect .ensures), at-collect .collect .kept, at-pre .pre)) in omega (arith, e, collected-le (at-collect .collect .ensures), at-pre .pre)
 
 same-length : tie.Need-same-length
-same-length c = search needs
+same-length c = c .before .before .front .kept .1 .0
 
 returns-2 : tie.Need-returns-2
 returns-2 c =

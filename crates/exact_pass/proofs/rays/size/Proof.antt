@@ -1,11 +1,9 @@
 use Rattle.exact_pass.specs.Ray as rays
-use native.Mathlib.Omega.{arith}
-use borrow.Author.Needs.{needs}
 use Rattle.exact_pass.proofs.rays.size.Statement.{statement}
 use Rattle.exact_pass.proofs.rays.size.Tie as tie
 
 abs-requires : tie.Need-abs-requires
-abs-requires c κs = search needs
+abs-requires c κs = tt
 
 returns : tie.Need-returns
 unfolding rays.sizeOf

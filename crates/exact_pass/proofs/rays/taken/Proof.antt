@@ -1,20 +1,19 @@
+use native.Mathlib.Omega.{arith}
 use native.Mathlib.Numerals.{add-one}
 use borrow.Author.Tests.{eq-eqb, ne-eqb}
 use Rattle.loops.specs.Loops.{counted, noted}
 use mathlib.Core.Path.{_≡_, refl, sym, ap, _∙_}
-use native.Mathlib.Omega.{arith}
-use borrow.Author.Needs.{needs}
 use Rattle.exact_pass.proofs.rays.taken.Statement.{statement}
 use Rattle.exact_pass.proofs.rays.taken.Tie as tie
 
 put-number-requires : tie.Need-put-number-requires
-put-number-requires c κs = search needs
+put-number-requires c κs = omega arith
 
 add-result : tie.Need-add-result
-add-result c = search needs
+add-result c = omega arith
 
 same-length : tie.Need-same-length
-same-length c = search needs
+same-length c = c .before .before .put-number .kept .0
 
 returns : tie.Need-returns
 unfolding counted noted

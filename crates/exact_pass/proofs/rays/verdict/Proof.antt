@@ -2,8 +2,6 @@ use borrow.Author.Tests.{eq-eqb, ne-eqb}
 use mathlib.Core.Path.{_≡_, refl, sym, ap, _∙_}
 use Rattle.exact_pass.specs.Private as private
 use Rattle.exact_pass.specs.Ray as rays
-use native.Mathlib.Omega.{arith}
-use borrow.Author.Needs.{needs}
 use Rattle.exact_pass.proofs.rays.verdict.Statement.{statement}
 use Rattle.exact_pass.proofs.rays.verdict.Tie as tie
 
@@ -16,7 +14,7 @@ unfolding private.verdict rays.dropped
 returns-2 c = rw (ne-eqb _ _ (c .before .if1 .left), c .if2 .taken)
 
 grows-requires : tie.Need-grows-requires
-grows-requires c κs = search needs
+grows-requires c κs = tt
 
 returns-3 : tie.Need-returns-3
 unfolding private.verdict rays.dropped

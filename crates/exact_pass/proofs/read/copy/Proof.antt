@@ -21,19 +21,19 @@ loop-holds c =
     (search needs, search needs, search needs, copy-start (at-args .args .from .now) (at-args .args .a) (at-args .args .to .now))
 
 add-put : tie.Need-add-put Inv-loop μ-loop
-add-put c = search needs
+add-put c = omega arith
 
 at-requires : tie.Need-at-requires Inv-loop μ-loop
-at-requires c κs = search needs
+at-requires c κs = omega arith
 
 put-requires : tie.Need-put-requires Inv-loop μ-loop
-put-requires c κs = search needs
+put-requires c κs = omega arith
 
 add-i : tie.Need-add-i Inv-loop μ-loop
-add-i c = search needs
+add-i c = omega arith
 
 loop-less : tie.Need-loop-less Inv-loop μ-loop
-loop-less c = search needs
+loop-less c = omega arith
 
 loop-again : tie.Need-loop-again Inv-loop μ-loop
 loop-again c =
@@ -44,7 +44,7 @@ loop-again c =
     (search needs, search needs, search needs, copy-again (at-args .args .from .now) (at-args .args .a) (at-args .args .to .now) nan (at-loop .loop .i) (at-loop .loop .to) _ (at-loop .loop .inv .3) (omega arith) (omega arith) (rw (at-put .put .ensures, at-at .at .ensures)))
 
 same-length : tie.Need-same-length Inv-loop μ-loop
-same-length c = search needs
+same-length c = c .before .loop .inv .2
 
 returns : tie.Need-returns Inv-loop μ-loop
 returns c =

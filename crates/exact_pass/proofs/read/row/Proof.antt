@@ -3,7 +3,6 @@ use Rattle.loops.proofs.Index.{product}
 use Prim.Native.Nat.{_+_, _*_, _≤_, _<_, _-_}
 use mathlib.Core.Path.{_≡_, refl, sym, ap, _∙_}
 use native.Mathlib.Omega.{arith}
-use borrow.Author.Needs.{needs}
 use Rattle.exact_pass.proofs.read.row.Statement.{statement}
 use Rattle.exact_pass.proofs.read.row.Tie as tie
 
@@ -17,10 +16,10 @@ mul-result : tie.Need-mul-result
 mul-result c = omega (arith, product (c .args .i) (c .args .n) (omega arith) (omega arith))
 
 sub-result : tie.Need-sub-result
-sub-result c = search needs
+sub-result c = omega arith
 
 part-result-start : tie.Need-part-result-start
-part-result-start c = search needs
+part-result-start c = omega arith
 
 part-result-end : tie.Need-part-result-end
 part-result-end c = omega (arith, row-fits (c .args .w .now) (c .args .n) (c .args .i) (c .pre .0 .1) (c .pre .1))

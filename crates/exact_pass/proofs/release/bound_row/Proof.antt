@@ -1,27 +1,26 @@
 use mathlib.Core.Path.{_≡_, refl, sym, ap, _∙_}
 use Rattle.exact_pass.specs.Pass as def
 use native.Mathlib.Omega.{arith}
-use borrow.Author.Needs.{needs}
 use Rattle.exact_pass.proofs.release.bound_row.Statement.{statement}
 use Rattle.exact_pass.proofs.release.bound_row.Tie as tie
 
 row-sum-requires : tie.Need-row-sum-requires
-row-sum-requires c κs = search needs
+row-sum-requires c κs = tt
 
 pushed-requires : tie.Need-pushed-requires
-pushed-requires c κs = search needs
+pushed-requires c κs = tt
 
 at-requires : tie.Need-at-requires
-at-requires c κs = search needs
+at-requires c κs = omega arith
 
 at-requires-2 : tie.Need-at-requires-2
-at-requires-2 c κs = search needs
+at-requires-2 c κs = omega arith
 
 natural-residual-requires : tie.Need-natural-residual-requires
-natural-residual-requires c κs = search needs
+natural-residual-requires c κs = tt
 
 worse-requires : tie.Need-worse-requires
-worse-requires c κs = search needs
+worse-requires c κs = tt
 
 returns : tie.Need-returns
 returns c =

@@ -1,7 +1,5 @@
 use borrow.Author.Tests.{eq-eqb, ne-eqb}
 use Rattle.exact_pass.specs.Pass as def
-use borrow.Author.Needs.{needs}
-use native.Mathlib.Omega.{arith}
 use Rattle.exact_pass.proofs.release.pushed.Statement.{statement}
 use Rattle.exact_pass.proofs.release.pushed.Tie as tie
 

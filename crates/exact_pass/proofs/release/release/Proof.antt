@@ -2,15 +2,14 @@ use Rattle.exact_pass.proofs.Releases.{release-free, release-idle, rele
 use mathlib.Core.Path.{_≡_, refl, sym, ap, _∙_}
 use Rattle.exact_pass.specs.Pass as def
 use native.Mathlib.Omega.{arith}
-use borrow.Author.Needs.{needs}
 use Rattle.exact_pass.proofs.release.release.Statement.{statement}
 use Rattle.exact_pass.proofs.release.release.Tie as tie
 
 worst-row-requires : tie.Need-worst-row-requires
-worst-row-requires c κs = search needs
+worst-row-requires c κs = omega arith
 
 same-length : tie.Need-same-length
-same-length c = search needs
+same-length c = refl
 
 returns : tie.Need-returns
 returns c =
@@ -26,7 +25,7 @@ put-state-requires c κs =
     omega (arith, at-worst-row .worst-row .ensures .1, at-if1 .if1 .left, at-pre .pre)
 
 same-length-2 : tie.Need-same-length-2
-same-length-2 c = search needs
+same-length-2 c = c .before .before .put-state .kept .0
 
 returns-2 : tie.Need-returns-2
 returns-2 c =

@@ -10,7 +10,7 @@ use Rattle.exact_pass.proofs.release.release_row.Statement.{statement}
 use Rattle.exact_pass.proofs.release.release_row.Tie as tie
 
 state-requires : tie.Need-state-requires
-state-requires c κs = search needs
+state-requires c κs = omega arith
 
 returns : tie.Need-returns
 returns c = (release-free _ _ _ _ _ (sym (c .before .state .ensures) ∙ c .if1 .taken), search needs)
@@ -19,19 +19,19 @@ returns-2 : tie.Need-returns-2
 returns-2 c = (release-idle _ _ _ _ _ (sym (c .before .before .state .ensures) ∙ c .if2 .taken), search needs)
 
 row-requires : tie.Need-row-requires
-row-requires c κs = search needs
+row-requires c κs = omega arith
 
 at-requires : tie.Need-at-requires
-at-requires c κs = search needs
+at-requires c κs = omega arith
 
 at-requires-2 : tie.Need-at-requires-2
-at-requires-2 c κs = search needs
+at-requires-2 c κs = omega arith
 
 at-requires-3 : tie.Need-at-requires-3
-at-requires-3 c κs = search needs
+at-requires-3 c κs = omega arith
 
 at-requires-4 : tie.Need-at-requires-4
-at-requires-4 c κs = search needs
+at-requires-4 c κs = omega arith
 
 bound-row-requires : tie.Need-bound-row-requires
 bound-row-requires c κs = (search needs, ap length (c .before .before .before .before .row .ensures) ∙ row-length _ _ _)

@@ -1,6 +1,4 @@
 use Rattle.exact_pass.specs.Pass as def
-use borrow.Author.Needs.{needs}
-use native.Mathlib.Omega.{arith}
 use Rattle.exact_pass.proofs.release.worse.Statement.{statement}
 use Rattle.exact_pass.proofs.release.worse.Tie as tie
 

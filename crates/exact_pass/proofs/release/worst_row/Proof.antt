@@ -22,13 +22,13 @@ unfolding def.worstRow
 loop-holds c = (search needs, search needs, search needs, rw (c .before .before .before .before .before .before .before .pre .1) (turns-from _ _))
 
 release-row-requires : tie.Need-release-row-requires Inv-loop μ-loop
-release-row-requires c κs = search needs
+release-row-requires c κs = omega arith
 
 add-i : tie.Need-add-i Inv-loop μ-loop
-add-i c = search needs
+add-i c = omega arith
 
 loop-less : tie.Need-loop-less Inv-loop μ-loop
-loop-less c = search needs
+loop-less c = omega arith
 
 loop-again : tie.Need-loop-again Inv-loop μ-loop
 unfolding def.worstRow

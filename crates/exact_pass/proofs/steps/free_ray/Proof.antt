@@ -2,12 +2,11 @@ use Rattle.exact_pass.proofs.Rows.{below-as}
 use lib.ListN.{length}
 use mathlib.Core.Path.{_≡_, refl, sym, ap, _∙_}
 use native.Mathlib.Omega.{arith}
-use borrow.Author.Needs.{needs}
 use Rattle.exact_pass.proofs.steps.free_ray.Statement.{statement}
 use Rattle.exact_pass.proofs.steps.free_ray.Tie as tie
 
 clear-requires : tie.Need-clear-requires
-clear-requires c κs = search needs
+clear-requires c κs = tt
 
 scatter-requires : tie.Need-scatter-requires
 scatter-requires c κs =
@@ -24,10 +23,10 @@ ray-requires c κs =
     (at-pre .pre .0, at-pre .pre .1, omega (arith, at-clear .clear .kept, at-scatter .scatter .kept, at-pre .pre .5), at-pre .pre .4)
 
 same-length : tie.Need-same-length
-same-length c = search needs
+same-length c = c .before .before .ray .kept .1 .1 .1 .1 .1 .1 .1 .0
 
 same-length-2 : tie.Need-same-length-2
-same-length-2 c = search needs
+same-length-2 c = c .before .before .before .before .before .before .before .scatter .kept .1 .1 .0 ∙ c .before .before .before .before .before .before .before .before .before .before .before .clear .kept .0
 
 returns : tie.Need-returns
 returns c =

@@ -1,6 +1,5 @@
-use Rattle.exact_pass.specs.Pass as def
 use native.Mathlib.Omega.{arith}
-use borrow.Author.Needs.{needs}
+use Rattle.exact_pass.specs.Pass as def
 use Rattle.exact_pass.proofs.steps.hold.Statement.{statement}
 use Rattle.exact_pass.proofs.steps.hold.Tie as tie
 
@@ -8,28 +7,28 @@ cast-state : tie.Need-cast-state
 cast-state c = search needs
 
 at-requires : tie.Need-at-requires
-at-requires c κs = search needs
+at-requires c κs = omega arith
 
 at-requires-2 : tie.Need-at-requires-2
-at-requires-2 c κs = search needs
+at-requires-2 c κs = omega arith
 
 at-requires-3 : tie.Need-at-requires-3
-at-requires-3 c κs = search needs
+at-requires-3 c κs = omega arith
 
 placed-requires : tie.Need-placed-requires
-placed-requires c κs = search needs
+placed-requires c κs = tt
 
 put-requires : tie.Need-put-requires
-put-requires c κs = search needs
+put-requires c κs = omega arith
 
 put-state-requires : tie.Need-put-state-requires
-put-state-requires c κs = search needs
+put-state-requires c κs = omega arith
 
 same-length : tie.Need-same-length
-same-length c = search needs
+same-length c = c .before .before .put-state .kept .0
 
 same-length-2 : tie.Need-same-length-2
-same-length-2 c = search needs
+same-length-2 c = c .before .before .before .before .before .before .put .kept .0
 
 returns : tie.Need-returns
 unfolding def.hold

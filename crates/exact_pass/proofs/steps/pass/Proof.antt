@@ -3,12 +3,11 @@ use mathlib.Core.Path.{_≡_, refl, sym, ap, _∙_}
 use Rattle.exact_pass.proofs.Systems.{sized-kept}
 use Rattle.exact_pass.proofs.Running.{pass-run}
 use native.Mathlib.Omega.{arith}
-use borrow.Author.Needs.{needs}
 use Rattle.exact_pass.proofs.steps.pass.Statement.{statement}
 use Rattle.exact_pass.proofs.steps.pass.Tie as tie
 
 start-requires : tie.Need-start-requires
-start-requires c κs = search needs
+start-requires c κs = omega arith
 
 mul-most : tie.Need-mul-most
 mul-most c =
@@ -36,17 +35,23 @@ pass-2-requires c κs =
       omega (arith, at-start .start .ensures .1, at-pre .pre .0 .0),
     )
 
+abbrev to-pass-2 : tie.After-slice-known10 → tie.After-pass-2
+to-pass-2 c = c .before .before .before .before .before .before .before .before
+
+abbrev to-start : tie.After-slice-known10 → tie.After-start
+to-start c = c .before .before .before .before .before .before .before .before .before .before .before .before .before .before .before .before .before .before
+
 same-length : tie.Need-same-length
-same-length c = search needs
+same-length c = to-pass-2 c .pass-2 .kept .1 .1 .1 .1 .1 .0 ∙ to-start c .start .kept .1 .1 .1 .0
 
 same-length-2 : tie.Need-same-length-2
-same-length-2 c = search needs
+same-length-2 c = to-pass-2 c .pass-2 .kept .1 .1 .1 .1 .1 .1 .0 ∙ to-start c .start .kept .1 .1 .1 .1 .0
 
 same-length-3 : tie.Need-same-length-3
-same-length-3 c = search needs
+same-length-3 c = to-pass-2 c .pass-2 .kept .1 .1 .1 .1 .1 .1 .1 .0
 
 same-length-4 : tie.Need-same-length-4
-same-length-4 c = search needs
+same-length-4 c = to-pass-2 c .pass-2 .kept .1 .1 .1 .1 .1 .1 .1 .1 .0
 
 returns : tie.Need-returns
 returns c =
@@ -68,17 +73,23 @@ pass-32-requires c κs =
       omega (arith, at-start .start .ensures .1, at-pre .pre .0 .0),
     )
 
+abbrev to-pass-32 : tie.After-slice-known14 → tie.After-pass-32
+to-pass-32 c = c .before .before .before .before .before .before .before .before
+
+abbrev to-start-2 : tie.After-slice-known14 → tie.After-start
+to-start-2 c = c .before .before .before .before .before .before .before .before .before .before .before .before .before .before .before .before .before .before .before
+
 same-length-5 : tie.Need-same-length-5
-same-length-5 c = search needs
+same-length-5 c = to-pass-32 c .pass-32 .kept .1 .1 .1 .1 .1 .0 ∙ to-start-2 c .start .kept .1 .1 .1 .0
 
 same-length-6 : tie.Need-same-length-6
-same-length-6 c = search needs
+same-length-6 c = to-pass-32 c .pass-32 .kept .1 .1 .1 .1 .1 .1 .0 ∙ to-start-2 c .start .kept .1 .1 .1 .1 .0
 
 same-length-7 : tie.Need-same-length-7
-same-length-7 c = search needs
+same-length-7 c = to-pass-32 c .pass-32 .kept .1 .1 .1 .1 .1 .1 .1 .0
 
 same-length-8 : tie.Need-same-length-8
-same-length-8 c = search needs
+same-length-8 c = to-pass-32 c .pass-32 .kept .1 .1 .1 .1 .1 .1 .1 .1 .0
 
 returns-2 : tie.Need-returns-2
 returns-2 c =
@@ -101,17 +112,23 @@ pass-16-requires c κs =
       omega (arith, at-start .start .ensures .1, at-pre .pre .0 .0),
     )
 
+abbrev to-pass-16 : tie.After-slice-known18 → tie.After-pass-16
+to-pass-16 c = c .before .before .before .before .before .before .before .before
+
+abbrev to-start-3 : tie.After-slice-known18 → tie.After-start
+to-start-3 c = c .before .before .before .before .before .before .before .before .before .before .before .before .before .before .before .before .before .before .before .before
+
 same-length-9 : tie.Need-same-length-9
-same-length-9 c = search needs
+same-length-9 c = to-pass-16 c .pass-16 .kept .1 .1 .1 .1 .1 .0 ∙ to-start-3 c .start .kept .1 .1 .1 .0
 
 same-length-10 : tie.Need-same-length-10
-same-length-10 c = search needs
+same-length-10 c = to-pass-16 c .pass-16 .kept .1 .1 .1 .1 .1 .1 .0 ∙ to-start-3 c .start .kept .1 .1 .1 .1 .0
 
 same-length-11 : tie.Need-same-length-11
-same-length-11 c = search needs
+same-length-11 c = to-pass-16 c .pass-16 .kept .1 .1 .1 .1 .1 .1 .1 .0
 
 same-length-12 : tie.Need-same-length-12
-same-length-12 c = search needs
+same-length-12 c = to-pass-16 c .pass-16 .kept .1 .1 .1 .1 .1 .1 .1 .1 .0
 
 returns-3 : tie.Need-returns-3
 returns-3 c =
@@ -134,17 +151,23 @@ pass-8-requires c κs =
       omega (arith, at-start .start .ensures .1, at-pre .pre .0 .0),
     )
 
+abbrev to-pass-8 : tie.After-slice-known22 → tie.After-pass-8
+to-pass-8 c = c .before .before .before .before .before .before .before .before
+
+abbrev to-start-4 : tie.After-slice-known22 → tie.After-start
+to-start-4 c = c .before .before .before .before .before .before .before .before .before .before .before .before .before .before .before .before .before .before .before .before
+
 same-length-13 : tie.Need-same-length-13
-same-length-13 c = search needs
+same-length-13 c = to-pass-8 c .pass-8 .kept .1 .1 .1 .1 .1 .0 ∙ to-start-4 c .start .kept .1 .1 .1 .0
 
 same-length-14 : tie.Need-same-length-14
-same-length-14 c = search needs
+same-length-14 c = to-pass-8 c .pass-8 .kept .1 .1 .1 .1 .1 .1 .0 ∙ to-start-4 c .start .kept .1 .1 .1 .1 .0
 
 same-length-15 : tie.Need-same-length-15
-same-length-15 c = search needs
+same-length-15 c = to-pass-8 c .pass-8 .kept .1 .1 .1 .1 .1 .1 .1 .0
 
 same-length-16 : tie.Need-same-length-16
-same-length-16 c = search needs
+same-length-16 c = to-pass-8 c .pass-8 .kept .1 .1 .1 .1 .1 .1 .1 .1 .0
 
 returns-4 : tie.Need-returns-4
 returns-4 c =

@@ -61,28 +61,34 @@ step-requires c κs =
     )
 
 moved-requires : tie.Need-moved-requires Inv-loop μ-loop
-moved-requires c κs = search needs
+moved-requires c κs = tt
+
+abbrev to-step : tie.Then1 Inv-loop μ-loop → tie.After-step Inv-loop μ-loop
+to-step c = c .before .before .before .before .before .before .before .before .before .before .before .before .before .before .before .before
+
+abbrev to-loop : tie.Then1 Inv-loop μ-loop → tie.At-loop Inv-loop μ-loop
+to-loop c = c .before .before .before .before .before .before .before .before .before .before .before .before .before .before .before .before .before .before .before .before .before .before .before .before .before
 
 same-length : tie.Need-same-length Inv-loop μ-loop
-same-length c = search needs
+same-length c = to-step c .step .kept .1 .1 .1 .1 .1 .0 ∙ to-loop c .loop .inv .3 .of-st
 
 same-length-2 : tie.Need-same-length-2 Inv-loop μ-loop
-same-length-2 c = search needs
+same-length-2 c = to-step c .step .kept .1 .1 .1 .1 .1 .1 .0 ∙ to-loop c .loop .inv .3 .of-nu
 
 same-length-3 : tie.Need-same-length-3 Inv-loop μ-loop
-same-length-3 c = search needs
+same-length-3 c = to-step c .step .kept .1 .1 .1 .1 .1 .1 .1 .0 ∙ to-loop c .loop .inv .3 .of-m
 
 same-length-4 : tie.Need-same-length-4 Inv-loop μ-loop
-same-length-4 c = search needs
+same-length-4 c = to-step c .step .kept .1 .1 .1 .1 .1 .1 .1 .1 .0 ∙ to-loop c .loop .inv .3 .of-y
 
 same-length-5 : tie.Need-same-length-5 Inv-loop μ-loop
-same-length-5 c = search needs
+same-length-5 c = to-step c .step .kept .1 .1 .1 .1 .1 .1 .1 .1 .1 .0 ∙ to-loop c .loop .inv .3 .of-z
 
 same-length-6 : tie.Need-same-length-6 Inv-loop μ-loop
-same-length-6 c = search needs
+same-length-6 c = to-step c .step .kept .1 .1 .1 .1 .1 .1 .1 .1 .1 .1 .0 ∙ to-loop c .loop .inv .3 .of-rows
 
 same-length-7 : tie.Need-same-length-7 Inv-loop μ-loop
-same-length-7 c = search needs
+same-length-7 c = to-step c .step .kept .1 .1 .1 .1 .1 .1 .1 .1 .1 .1 .1 .0 ∙ to-loop c .loop .inv .3 .of-work ∙ c .before .before .before .before .before .before .before .before .before .before .before .before .before .before .before .before .before .before .before .before .before .before .before .before .before .before .before .before .before .before .before .before .copy .kept .1 .0
 
 returns : tie.Need-returns Inv-loop μ-loop
 returns c =
@@ -162,7 +168,7 @@ loop-again c =
     let at-loop-test = at-step .before .before .before .before .before .before .before .before in
     let at-loop = at-loop-test .before in
     let o = turn-on _ _ _ _ _ _ _ (at-loop .loop .inv .4) (at-loop-test .loop-test .taken) _ _ _ _ (at-step .step .ensures .0) _ _ (sym (at-moved .moved .ensures) ∙ not-false _ (at-if1 .if1 .left)) (at-loop .loop .inv .5) in let b = marked-kept _ (at-loop .loop .nu) (at-step .step .last .1 .1 .1 .1 .1 .1 .0) (at-loop .loop .states)
-    (at-step .step .last .1 .1 .1 .1 .1 .0) (at-loop .loop .work) (at-step .step .last .1 .1 .1 .1 .1 .1 .1 .1 .1 .1 .1 .0) (at-loop .loop .marks) _ _ (omega (arith, at-step .step .kept)) (omega (arith, at-step .step .kept)) (at-step .step .ensures .1) (o .1) in (
+    (at-step .step .last .1 .1 .1 .1 .1 .0) (at-loop .loop .work) (at-step .step .last .1 .1 .1 .1 .1 .1 .1 .1 .1 .1 .1 .0) (at-loop .loop .marks) _ _ (at-step .step .kept .1 .1 .1 .1 .1 .1 .0) (at-step .step .kept .1 .1 .1 .1 .1 .0) (at-step .step .ensures .1) (o .1) in (
       omega (
         arith,
         at-left-after .left-after .ensures .1,
@@ -171,23 +177,14 @@ loop-again c =
       omega (arith, at-mark .mark .ensures .1, at-left-after .left-after .ensures .1, at-loop .loop .inv .1, at-loop-test .loop-test .taken),
       at-mark .mark .ensures .2,
       record {
-        of-st = omega (arith, at-step .step .kept, at-loop .loop .inv .3);
-        of-nu = omega (
-          arith,
-          at-step .step .kept,
-          at-loop .loop .inv .3,
-        );
-        of-m = omega (arith, at-step .step .kept, at-loop .loop .inv .3);
-        of-y = omega (arith, at-step .step .kept, at-loop .loop .inv .3);
-        of-z = omega (arith, at-step .step .kept, at-loop .loop .inv .3);
-        of-rows = omega (arith, at-step .step .kept, at-loop .loop .inv .3);
-        of-work = omega (
-          arith,
-          at-step .step .kept,
-          at-mark .mark .kept,
-          at-loop .loop .inv .3,
-        );
-        of-marks = omega (arith, at-mark .mark .kept, at-loop .loop .inv .3);
+        of-st = at-step .step .kept .1 .1 .1 .1 .1 .0 ∙ at-loop .loop .inv .3 .of-st;
+        of-nu = at-step .step .kept .1 .1 .1 .1 .1 .1 .0 ∙ at-loop .loop .inv .3 .of-nu;
+        of-m = at-step .step .kept .1 .1 .1 .1 .1 .1 .1 .0 ∙ at-loop .loop .inv .3 .of-m;
+        of-y = at-step .step .kept .1 .1 .1 .1 .1 .1 .1 .1 .0 ∙ at-loop .loop .inv .3 .of-y;
+        of-z = at-step .step .kept .1 .1 .1 .1 .1 .1 .1 .1 .1 .0 ∙ at-loop .loop .inv .3 .of-z;
+        of-rows = at-step .step .kept .1 .1 .1 .1 .1 .1 .1 .1 .1 .1 .0 ∙ at-loop .loop .inv .3 .of-rows;
+        of-work = at-mark .mark .kept .1 .1 .0 ∙ at-step .step .kept .1 .1 .1 .1 .1 .1 .1 .1 .1 .1 .1 .0 ∙ at-loop .loop .inv .3 .of-work;
+        of-marks = at-mark .mark .kept .1 .1 .1 .0 ∙ at-loop .loop .inv .3 .of-marks;
       },
       o .0 ∙ at-left-after .left-after .ensures .0 _ b,
       at-mark .mark .ensures .0 _ b,
@@ -196,25 +193,25 @@ loop-again c =
     )
 
 same-length-8 : tie.Need-same-length-8 Inv-loop μ-loop
-same-length-8 c = search needs
+same-length-8 c = c .before .loop .inv .3 .of-st
 
 same-length-9 : tie.Need-same-length-9 Inv-loop μ-loop
-same-length-9 c = search needs
+same-length-9 c = c .before .loop .inv .3 .of-nu
 
 same-length-10 : tie.Need-same-length-10 Inv-loop μ-loop
-same-length-10 c = search needs
+same-length-10 c = c .before .loop .inv .3 .of-m
 
 same-length-11 : tie.Need-same-length-11 Inv-loop μ-loop
-same-length-11 c = search needs
+same-length-11 c = c .before .loop .inv .3 .of-y
 
 same-length-12 : tie.Need-same-length-12 Inv-loop μ-loop
-same-length-12 c = search needs
+same-length-12 c = c .before .loop .inv .3 .of-z
 
 same-length-13 : tie.Need-same-length-13 Inv-loop μ-loop
-same-length-13 c = search needs
+same-length-13 c = c .before .loop .inv .3 .of-rows
 
 same-length-14 : tie.Need-same-length-14 Inv-loop μ-loop
-same-length-14 c = search needs
+same-length-14 c = c .before .loop .inv .3 .of-work ∙ c .before .before .before .before .before .before .before .before .copy .kept .1 .0
 
 returns-2 : tie.Need-returns-2 Inv-loop μ-loop
 returns-2 c =

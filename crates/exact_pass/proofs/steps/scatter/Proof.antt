@@ -1,3 +1,4 @@
+use native.Mathlib.Omega.{arith}
 use Rattle.exact_pass.proofs.Rows.{free-row}
 use Prim.Native.Nat.{_+_, _*_, _≤_, _<_, _-_}
 use mathlib.Core.Path.{_≡_, refl, sym, ap, _∙_}
@@ -5,7 +6,6 @@ use lib.ListN.{length}
 use Rattle.exact_pass.specs.Pass as def
 use Rattle.loops.proofs.Turns.{turns-from, turns-again, turns-done}
 use borrow.Author.Needs.{needs}
-use native.Mathlib.Omega.{arith}
 use Rattle.exact_pass.proofs.steps.scatter.Statement.{statement}
 use Rattle.exact_pass.proofs.steps.scatter.Tie as tie
 
@@ -20,19 +20,19 @@ unfolding def.scattered
 loop-holds c = search (turns-from, needs)
 
 row-number-requires : tie.Need-row-number-requires Inv-loop μ-loop
-row-number-requires c κs = search needs
+row-number-requires c κs = omega arith
 
 at-requires : tie.Need-at-requires Inv-loop μ-loop
-at-requires c κs = search needs
+at-requires c κs = omega arith
 
 put-requires : tie.Need-put-requires Inv-loop μ-loop
 put-requires c κs = search (free-row, needs)
 
 add-i : tie.Need-add-i Inv-loop μ-loop
-add-i c = search needs
+add-i c = omega arith
 
 loop-less : tie.Need-loop-less Inv-loop μ-loop
-loop-less c = search needs
+loop-less c = omega arith
 
 loop-again : tie.Need-loop-again Inv-loop μ-loop
 unfolding def.scattered
@@ -44,7 +44,7 @@ loop-again c =
     (search needs, search needs, search needs, turns-again _ _ _ _ _ (at-loop .loop .inv .3) (rw (at-put .put .ensures, at-row-number .row-number .ensures, at-at .at .ensures)))
 
 same-length : tie.Need-same-length Inv-loop μ-loop
-same-length c = search needs
+same-length c = c .before .loop .inv .2
 
 returns : tie.Need-returns Inv-loop μ-loop
 unfolding def.scattered

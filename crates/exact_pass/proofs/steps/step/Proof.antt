@@ -1,6 +1,7 @@
+use Prim.Native.Nat.{_*_}
 use native.Mathlib.Nat.{mul-le-mul}
 use Rattle.loops.proofs.Index.{product}
-use lib.Seq.{length-take-le, getD-take}
+use lib.Seq.{length-take-le, length-front}
 use lib.ListN.{length}
 use mathlib.Core.Path.{_≡_, refl, sym, ap, _∙_}
 use Rattle.exact_pass.proofs.Stepping.{ratio-row-below, unbounded-failed, unbounded-ray, taken-unbounded, taken-released, taken-to-bound, toward-run, step-released, step-toward}
@@ -23,10 +24,10 @@ release-requires c κs =
     (at-pre .pre .0, at-pre .pre .1, at-pre .pre .2)
 
 same-length : tie.Need-same-length
-same-length c = search needs
+same-length c = c .before .before .release .kept .1 .1 .1 .1 .1 .0
 
 same-length-2 : tie.Need-same-length-2
-same-length-2 c = search needs
+same-length-2 c = refl
 
 returns : tie.Need-returns
 returns c =
@@ -113,26 +114,38 @@ toward-requires c κs =
       at-pre .pre .7,
     )
 
+abbrev to-toward : tie.After-slice-known15 → tie.After-toward
+to-toward c = c .before .before .before .before .before .before .before .before .before .before .before .before .before .before
+
 same-length-3 : tie.Need-same-length-3
-same-length-3 c = search needs
+same-length-3 c = to-toward c .toward .kept .1 .1 .1 .1 .1 .0
 
 same-length-4 : tie.Need-same-length-4
-same-length-4 c = search needs
+same-length-4 c = to-toward c .toward .kept .1 .1 .1 .1 .1 .1 .0
 
 same-length-5 : tie.Need-same-length-5
-same-length-5 c = search needs
+same-length-5 c =
+    let at-toward = c .before .before .before .before .before .before .before .before .before .before .before .before .before .before in
+    let at-free-rows = at-toward .before .before .before .before .before .before .before .before .before .before .before in
+    length-front (at-free-rows .before .before .before .before .before .before .before .before .before .before .before .before .before .before .before .args .m .now) (at-toward .toward .last .1 .1 .1 .1 .1 .1 .1 .1 .0) (at-free-rows .free-rows .result * at-free-rows .free-rows .result) (at-toward .toward .kept .1 .1 .1 .1 .1 .1 .1 .1 .0)
 
 same-length-6 : tie.Need-same-length-6
-same-length-6 c = search needs
+same-length-6 c =
+    let at-toward = c .before .before .before .before .before .before .before .before .before .before .before .before .before .before in
+    let at-free-rows = at-toward .before .before .before .before .before .before .before .before .before .before .before in
+    length-front (at-free-rows .before .before .before .before .before .before .before .before .before .before .before .before .before .before .before .args .y .now) (at-toward .toward .last .1 .1 .1 .1 .1 .1 .1 .1 .1 .0) (at-free-rows .free-rows .result) (at-toward .toward .kept .1 .1 .1 .1 .1 .1 .1 .1 .1 .0)
 
 same-length-7 : tie.Need-same-length-7
-same-length-7 c = search needs
+same-length-7 c =
+    let at-toward = c .before .before .before .before .before .before .before .before .before .before .before .before .before .before in
+    let at-free-rows = at-toward .before .before .before .before .before .before .before .before .before .before .before in
+    length-front (at-free-rows .before .before .before .before .before .before .before .before .before .before .before .before .before .before .before .args .z .now) (at-toward .toward .last .1 .1 .1 .1 .1 .1 .1 .1 .1 .1 .0) (at-free-rows .free-rows .result) (at-toward .toward .kept .1 .1 .1 .1 .1 .1 .1 .1 .1 .1 .0)
 
 same-length-8 : tie.Need-same-length-8
-same-length-8 c = search needs
+same-length-8 c = to-toward c .toward .kept .1 .1 .1 .1 .1 .1 .1 .1 .1 .1 .1 .0
 
 same-length-9 : tie.Need-same-length-9
-same-length-9 c = search needs
+same-length-9 c = to-toward c .toward .kept .1 .1 .1 .1 .1 .1 .1 .1 .1 .1 .1 .1 .0
 
 returns-2 : tie.Need-returns-2
 returns-2 c =

@@ -9,7 +9,7 @@ use Rattle.exact_pass.proofs.steps.take_step.Statement.{statement}
 use Rattle.exact_pass.proofs.steps.take_step.Tie as tie
 
 longest-requires : tie.Need-longest-requires
-longest-requires c κs = search needs
+longest-requires c κs = tt
 
 ratio-test-requires : tie.Need-ratio-test-requires
 ratio-test-requires c κs =
@@ -17,7 +17,7 @@ ratio-test-requires c κs =
     (at-pre .pre .3, omega (arith, at-pre .pre .4), at-pre .pre .0 .2, at-pre .pre .0 .3, at-pre .pre .5)
 
 is-finite-requires : tie.Need-is-finite-requires
-is-finite-requires c κs = search needs
+is-finite-requires c κs = tt
 
 unbounded-requires : tie.Need-unbounded-requires
 unbounded-requires c κs =
@@ -25,13 +25,13 @@ unbounded-requires c κs =
     (rw (at-pre .pre .1) (at-pre .pre .0), at-pre .pre .2 ∙ sym (at-pre .pre .1), rw (at-pre .pre .1) (at-pre .pre .3), at-pre .pre .4, omega (arith, at-pre .pre .1, at-pre .pre .6))
 
 same-length : tie.Need-same-length
-same-length c = search needs
+same-length c = refl
 
 same-length-2 : tie.Need-same-length-2
-same-length-2 c = search needs
+same-length-2 c = refl
 
 same-length-3 : tie.Need-same-length-3
-same-length-3 c = search needs
+same-length-3 c = c .before .before .unbounded .kept .1 .1 .1 .1 .1 .1 .1 .1 .0
 
 returns : tie.Need-returns
 returns c = search (taken-unbounded, not-true, needs)
@@ -52,10 +52,10 @@ release-requires c κs =
     )
 
 same-length-4 : tie.Need-same-length-4
-same-length-4 c = search needs
+same-length-4 c = c .before .before .release .kept .1 .1 .1 .1 .1 .0
 
 same-length-5 : tie.Need-same-length-5
-same-length-5 c = search needs
+same-length-5 c = c .before .before .before .before .before .before .before .before .before .advance .kept .1 .1 .1 .0
 
 returns-2 : tie.Need-returns-2
 returns-2 c = search (taken-released, not-false, needs)
@@ -68,10 +68,10 @@ hold-requires c κs =
     (omega (arith, at-ratio-test .ratio-test .ensures .1, at-advance .advance .kept), omega (arith, at-pre .pre .0 .2, at-advance .advance .kept), omega (arith, at-pre .pre .0 .3, at-advance .advance .kept), omega (arith, at-pre .pre .2, at-advance .advance .kept), at-ratio-test .ratio-test .ensures .2)
 
 same-length-6 : tie.Need-same-length-6
-same-length-6 c = search needs
+same-length-6 c = c .before .before .before .before .hold .kept .1 .1 .0
 
 same-length-7 : tie.Need-same-length-7
-same-length-7 c = search needs
+same-length-7 c = c .before .before .before .before .hold .kept .1 .1 .1 .0 ∙ c .before .before .before .before .before .before .before .before .before .before .before .advance .kept .1 .1 .1 .0
 
 returns-3 : tie.Need-returns-3
 returns-3 c = search (taken-to-bound, not-false, needs)

@@ -1,7 +1,7 @@
+use Rattle.box_rows.specs.Rows as box
 use mathlib.Core.Path.{_≡_, refl, sym, ap, _∙_}
 use Rattle.exact_pass.proofs.Stepping.{ratio-row-below, unbounded-failed, unbounded-ray, taken-unbounded, taken-released, taken-to-bound, toward-run, step-released, step-toward}
 use native.Mathlib.Omega.{arith}
-use borrow.Author.Needs.{needs}
 use Rattle.exact_pass.proofs.steps.toward.Statement.{statement}
 use Rattle.exact_pass.proofs.steps.toward.Tie as tie
 
@@ -24,32 +24,41 @@ take-step-requires c κs =
     (at-pre .pre .0, at-pre .pre .1, at-pre .pre .2, at-pre .pre .3, omega (arith, at-direction .direction .kept, at-target .target .kept, at-pre .pre .7), at-pre .pre .4, at-pre .pre .9)
 
 same-length : tie.Need-same-length
-same-length c = search needs
+same-length c = c .before .before .before .before .before .before .take-step .kept .1 .1 .1 .1 .1 .0
 
 same-length-2 : tie.Need-same-length-2
-same-length-2 c = search needs
+same-length-2 c = c .before .before .before .before .before .before .take-step .kept .1 .1 .1 .1 .1 .1 .0
+
+abbrev to-target : tie.After-slice-known15 → tie.After-target
+to-target c = c .before .before .before .before .before .before .before .before .before .before .before .before .before .before .before .before .before .before .before .before .before .before .before .before .before
 
 same-length-3 : tie.Need-same-length-3
-same-length-3 c = search needs
+same-length-3 c = to-target c .target .kept .1 .1 .1 .1 .1 .1 .0
 
 same-length-4 : tie.Need-same-length-4
-same-length-4 c = search needs
+same-length-4 c = c .before .before .before .before .before .before .before .before .before .before .before .before .before .direction .kept .1 .1 .1 .1 .1 .0 ∙ to-target c .target .kept .1 .1 .1 .1 .1 .1 .1 .0
 
 same-length-5 : tie.Need-same-length-5
-same-length-5 c = search needs
+same-length-5 c = to-target c .target .kept .1 .1 .1 .1 .1 .1 .1 .1 .0
 
 same-length-6 : tie.Need-same-length-6
-same-length-6 c = search needs
+same-length-6 c = c .before .before .before .before .before .before .take-step .kept .1 .1 .1 .1 .1 .1 .1 .1 .1 .1 .0
 
 same-length-7 : tie.Need-same-length-7
-same-length-7 c = search needs
+same-length-7 c = to-target c .target .kept .1 .1 .1 .1 .1 .1 .1 .1 .1 .0
 
 returns : tie.Need-returns
 returns c =
     let at-take-step = c .before .before .before .before .before .before in
     let at-direction = at-take-step .before .before .before .before .before .before .before in
     let at-target = at-direction .before .before .before .before .before .before .before .before .before .before .before .before in
-    (toward-run _ _ _ _ _ _ _ _ _ _ _ _ _ (at-take-step .take-step .ensures) (at-direction .direction .ensures) (at-target .target .ensures .0), at-target .target .ensures .1)
+    let a = at-target .before .before .before .before .before .before .before .before .before .before .before .before .before .before .before .before .before .before .before .before .args in
+    let s = at-take-step .take-step in
+    let t = at-target .target in (
+      toward-run (box.problem (a .w .now) (a .u-free .now) (a .lo .now) (a .hi .now) (a .scale .now)) (a .nu .now) (a .states .now) (a .free .now) (t .last .1 .1 .1 .1 .1 .1 .1 .1 .0) (t .last .1 .1 .1 .1 .1 .1 .1 .0) (at-direction .direction .last .1 .1 .1 .1 .1 .0)
+          (t .result) (a .rows .now) (s .result) (s .last .1 .1 .1 .1 .1 .1 .0) (s .last .1 .1 .1 .1 .1 .0) (s .last .1 .1 .1 .1 .1 .1 .1 .1 .1 .1 .0) (s .ensures) (at-direction .direction .ensures) (t .ensures .0),
+      t .ensures .1,
+    )
 
 pub toward-spec : {M : Type 1} → statement M
 toward-spec =

@@ -39,7 +39,7 @@ add-e : tie.Need-add-e Inv-loop μ-loop
 add-e c = omega (arith, product (c .before .loop .i) (length (c .before .before .before .before .before .before .args .free .now)) (omega arith) (omega arith))
 
 row-number-requires : tie.Need-row-number-requires Inv-loop μ-loop
-row-number-requires c κs = search needs
+row-number-requires c κs = omega arith
 
 row-requires : tie.Need-row-requires Inv-loop μ-loop
 row-requires c κs =
@@ -56,10 +56,10 @@ mul-matrix-row c =
     omega (arith, product (at-loop .loop .i) (length (at-args .args .free .now)) (omega arith) (omega arith))
 
 sub-matrix-row : tie.Need-sub-matrix-row Inv-loop μ-loop
-sub-matrix-row c = search needs
+sub-matrix-row c = omega arith
 
 part-matrix-row-start : tie.Need-part-matrix-row-start Inv-loop μ-loop
-part-matrix-row-start c = search needs
+part-matrix-row-start c = omega arith
 
 part-matrix-row-end : tie.Need-part-matrix-row-end Inv-loop μ-loop
 part-matrix-row-end c =
@@ -77,10 +77,10 @@ matrix-row-requires c κs =
     (ap length (at-row .row .ensures) ∙ row-length _ _ _, at-pre .pre .1, part-length _ _ _ (at-loop .loop .inv .3 ∙ at-pre .pre .3) (at-loop-test .loop-test .taken))
 
 add-i : tie.Need-add-i Inv-loop μ-loop
-add-i c = search needs
+add-i c = omega arith
 
 loop-less : tie.Need-loop-less Inv-loop μ-loop
-loop-less c = search needs
+loop-less c = omega arith
 
 loop-again : tie.Need-loop-again Inv-loop μ-loop
 unfolding def.matrix
@@ -99,7 +99,7 @@ loop-again c =
     )
 
 same-length : tie.Need-same-length Inv-loop μ-loop
-same-length c = search needs
+same-length c = c .before .loop .inv .3
 
 returns : tie.Need-returns Inv-loop μ-loop
 unfolding def.matrix

@@ -24,7 +24,7 @@ unfolding def.matrixRow
 loop-holds c = (search needs, search needs, search needs, tab-start _ _)
 
 row-number-requires : tie.Need-row-number-requires Inv-loop μ-loop
-row-number-requires c κs = search needs
+row-number-requires c κs = omega arith
 
 at-requires : tie.Need-at-requires Inv-loop μ-loop
 at-requires c κs = search (free-row, needs)
@@ -33,13 +33,13 @@ at-requires-2 : tie.Need-at-requires-2 Inv-loop μ-loop
 at-requires-2 c κs = search (free-row, needs)
 
 put-requires : tie.Need-put-requires Inv-loop μ-loop
-put-requires c κs = search needs
+put-requires c κs = omega arith
 
 add-j : tie.Need-add-j Inv-loop μ-loop
-add-j c = search needs
+add-j c = omega arith
 
 loop-less : tie.Need-loop-less Inv-loop μ-loop
-loop-less c = search needs
+loop-less c = omega arith
 
 loop-again : tie.Need-loop-again Inv-loop μ-loop
 unfolding def.matrixRow
@@ -53,7 +53,7 @@ loop-again c =
     (search needs, search needs, search needs, rw (at-put .put .ensures, at-at .at .ensures, at-at2 .at2 .ensures, at-row-number .row-number .ensures) (tab-again _ _ _ _ (at-loop .loop .inv .3) (at-loop .loop .inv .2) (omega (arith, at-pre .pre .2, at-loop .loop .inv .2))))
 
 same-length : tie.Need-same-length Inv-loop μ-loop
-same-length c = search needs
+same-length c = c .before .loop .inv .2
 
 returns : tie.Need-returns Inv-loop μ-loop
 unfolding def.matrixRow

@@ -1,12 +1,15 @@
-use lib.Ieee.{nan}
+use Rattle.box_rows.specs.Rows as box
+use Rattle.floats.specs.Ops.{at}
+use mathlib.Core.Bool.{Bool, _||_}
+use lib.Ieee.{Float, nan}
 use Rattle.exact_pass.proofs.Periods.{left-is, same-lists, same-more, nan-is, has-bits, same-bits, part-at}
 use Rattle.exact_pass.specs.Private as private
 use Rattle.box_rows.proofs.Matrix.{tab-filled, row-length}
-use lib.ListN.{drop}
-use mathlib.Core.List.{_++_}
+use lib.ListN.{getD, drop}
+use mathlib.Core.List.{List, _++_}
 use Rattle.loops.proofs.Fill.{tab-start, tab-again, tab-done}
 use Rattle.exact_pass.proofs.Rows.{free-row}
-use Prim.Native.Nat.{_+_, _*_, _≤_, _<_, _-_}
+use Prim.Native.Nat.{ℕ, _+_, _*_, _≤_, _<_, _-_}
 use mathlib.Core.Path.{_≡_, refl, sym, ap, _∙_}
 use lib.ListN.{length}
 use Rattle.exact_pass.specs.Pass as def
@@ -22,12 +25,20 @@ Inv-loop w scale free work z y₀ k n inconsistent₀ i₀ y inconsistent i = (i
 abbrev μ-loop : tie.MeasureT-loop
 μ-loop w scale free work z y₀ k n inconsistent₀ i₀ y inconsistent i = k - i
 
+-- r is what z leaves of row a, the i-th free row, and b its right-hand side
+row-left : (w scale : List Float) (l : List ℕ) (rhs z : List Float) (i a : ℕ) (row : List Float) (b r : Float) → a ≡ getD l i 0 → row ≡ box.row w (length scale) a → b ≡ at rhs i → r ≡ def.residualRow row scale l z b (length l) → r ≡ def.residualAt w scale l rhs z i
+row-left w scale l rhs z i a row b r f g h e = rw (e, g, f, h)
+
+large-row : (w scale : List Float) (l : List ℕ) (rhs z : List Float) (i a : ℕ) (row : List Float) (d s r : Float) (q t : Bool) → a ≡ getD l i 0 → row ≡ box.row w (length scale) a → r ≡ def.residualAt w scale l rhs z i → d ≡ at row a → s ≡ at scale a → q ≡ def.tooLarge r d s → (t || q) ≡ def.inconsistentRow w scale l rhs z i t
+unfolding def.inconsistentRow
+large-row w scale l rhs z i a row d s r q t f g e h k m = rw (m, h, k, e, g, f)
+
 loop-holds : tie.Need-loop-holds Inv-loop μ-loop
 unfolding def.downhill def.inconsistent
 loop-holds c = (search needs, search needs, search needs, search needs, tab-start _ _, turns-from _ _)
 
 row-number-requires : tie.Need-row-number-requires Inv-loop μ-loop
-row-number-requires c κs = search needs
+row-number-requires c κs = omega arith
 
 row-requires : tie.Need-row-requires Inv-loop μ-loop
 row-requires c κs =
@@ -38,7 +49,7 @@ row-requires c κs =
     (at-pre .pre .0, free-row (at-args .args .free .now) _ _ _ _ _ (at-pre .pre .1) refl (at-loop .loop .inv .1) (at-loop-test .loop-test .taken) (c .row-number .ensures))
 
 add-at : tie.Need-add-at Inv-loop μ-loop
-add-at c = search needs
+add-at c = omega arith
 
 at-requires : tie.Need-at-requires Inv-loop μ-loop
 at-requires c κs =
@@ -53,7 +64,7 @@ residual-row-requires c κs =
     (ap length (at-row .row .ensures) ∙ row-length _ _ _, at-pre .pre .1, at-pre .pre .2)
 
 put-requires : tie.Need-put-requires Inv-loop μ-loop
-put-requires c κs = search needs
+put-requires c κs = omega arith
 
 at-requires-2 : tie.Need-at-requires-2 Inv-loop μ-loop
 at-requires-2 c κs =
@@ -75,43 +86,39 @@ at-requires-3 c κs =
     free-row (at-args .args .free .now) _ _ _ _ _ (at-pre .pre .1) refl (at-loop .loop .inv .1) (at-loop-test .loop-test .taken) (at-row-number .row-number .ensures)
 
 too-large-requires : tie.Need-too-large-requires Inv-loop μ-loop
-too-large-requires c κs = search needs
+too-large-requires c κs = tt
 
 add-i : tie.Need-add-i Inv-loop μ-loop
-add-i c = search needs
+add-i c = omega arith
 
 loop-less : tie.Need-loop-less Inv-loop μ-loop
-loop-less c = search needs
+loop-less c = omega arith
 
 loop-again : tie.Need-loop-again Inv-loop μ-loop
-unfolding def.downhill def.inconsistent def.inconsistentRow
+unfolding def.downhill def.inconsistent
 loop-again c =
-    let at-at3 = c .before in
-    let at-at2 = at-at3 .before in
-    let at-put = at-at2 .before .before .before in
-    let at-residual-row = at-put .before .before in
+    let at-residual-row = c .before .before .before .before .before .before .before in
     let at-at = at-residual-row .before in
     let at-row = at-at .before in
     let at-row-number = at-row .before in
     let at-loop = at-row-number .before .before in
-    let at-args = at-loop .before .before .before .before .before .before .before in
-    let at-pre = at-args in (
-      search needs,
-      search needs,
-      search needs,
-      search needs,
-      rw (
-        at-put .put .ensures,
-        at-residual-row .residual-row .ensures,
-        at-row .row .ensures,
-        at-row-number .row-number .ensures,
-        at-at .at .ensures ∙ sym (part-at nan 1056 (length (at-args .args .free .now)) (at-loop .loop .i) (at-args .args .work .now) (omega arith)),
-      ) (tab-again _ _ _ _ (at-loop .loop .inv .4) (at-loop .loop .inv .3) (omega (arith, at-pre .pre .3, at-loop .loop .inv .3))),
-      turns-again _ _ _ _ _ (at-loop .loop .inv .5) (rw (c .too-large .ensures, at-residual-row .residual-row .ensures, at-at2 .at2 .ensures, at-at3 .at3 .ensures, at-row .row .ensures, at-row-number .row-number .ensures, at-at .at .ensures ∙ sym (part-at nan 1056 (length (at-args .args .free .now)) (at-loop .loop .i) (at-args .args .work .now) (omega arith)))),
+    let at-pre = at-loop .before .before .before .before .before .before .before in
+    let a = at-pre .args in
+    let rhs = private.part 1056 (length (a .free .now)) (a .work .now) in
+    let row = at-row .row .ensures in
+    let number = at-row-number .row-number .ensures in
+    let left = row-left (a .w .now) (a .scale .now) (a .free .now) rhs (a .z .now) (at-loop .loop .i) _ _ _ _ number row
+    (at-at .at .ensures ∙ sym (part-at nan 1056 (length (a .free .now)) (at-loop .loop .i) (a .work .now) (omega arith))) (at-residual-row .residual-row .ensures) in (
+      omega (arith, c .before .before .before .before .before .before .before .before .before .before .before .loop-test .taken),
+      at-loop .loop .inv .1,
+      at-loop .loop .inv .2,
+      c .before .before .before .before .before .put .kept .0 ∙ at-loop .loop .inv .3,
+      rw (c .before .before .before .before .before .put .ensures, left) (tab-again _ _ _ _ (at-loop .loop .inv .4) (at-loop .loop .inv .3) (omega (arith, at-pre .pre .3, at-loop .loop .inv .3))),
+      turns-again _ _ _ _ _ (at-loop .loop .inv .5) (large-row (a .w .now) (a .scale .now) (a .free .now) rhs (a .z .now) (at-loop .loop .i) _ _ _ _ _ _ _ number row left (c .before .before .at2 .ensures) (c .before .at3 .ensures) (c .too-large .ensures)),
     )
 
 same-length : tie.Need-same-length Inv-loop μ-loop
-same-length c = search needs
+same-length c = c .before .loop .inv .3
 
 returns : tie.Need-returns Inv-loop μ-loop
 unfolding def.downhill def.inconsistent

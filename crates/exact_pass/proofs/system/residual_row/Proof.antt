@@ -20,7 +20,7 @@ unfolding def.residualRow
 loop-holds c = search (turns-from, needs)
 
 row-number-requires : tie.Need-row-number-requires Inv-loop μ-loop
-row-number-requires c κs = search needs
+row-number-requires c κs = omega arith
 
 at-requires : tie.Need-at-requires Inv-loop μ-loop
 at-requires c κs = search (free-row, needs)
@@ -29,13 +29,13 @@ at-requires-2 : tie.Need-at-requires-2 Inv-loop μ-loop
 at-requires-2 c κs = search (free-row, needs)
 
 at-requires-3 : tie.Need-at-requires-3 Inv-loop μ-loop
-at-requires-3 c κs = search needs
+at-requires-3 c κs = omega arith
 
 add-j : tie.Need-add-j Inv-loop μ-loop
-add-j c = search needs
+add-j c = omega arith
 
 loop-less : tie.Need-loop-less Inv-loop μ-loop
-loop-less c = search needs
+loop-less c = omega arith
 
 loop-again : tie.Need-loop-again Inv-loop μ-loop
 unfolding def.residualRow

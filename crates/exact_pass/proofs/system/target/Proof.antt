@@ -1,9 +1,9 @@
+use borrow.Author.Needs.{needs}
 use lib.ListN.{length}
 use mathlib.Core.Path.{_≡_, refl, sym, ap, _∙_}
 use Rattle.exact_pass.proofs.Systems.{part-length, square}
 use Rattle.exact_pass.proofs.Systems.{parts-start, parts-again, parts-done, matrix-row-length, right-hand-length, solved-x, solved-work, target-run, target-work}
 use native.Mathlib.Omega.{arith}
-use borrow.Author.Needs.{needs}
 use Rattle.exact_pass.proofs.system.target.Statement.{statement}
 use Rattle.exact_pass.proofs.system.target.Tie as tie
 
@@ -11,7 +11,7 @@ right-hand-side-requires : tie.Need-right-hand-side-requires
 right-hand-side-requires c κs = search needs
 
 copy-requires : tie.Need-copy-requires
-copy-requires c κs = search needs
+copy-requires c κs = omega arith
 
 matrix-requires : tie.Need-matrix-requires
 matrix-requires c κs =
@@ -44,17 +44,20 @@ residual-requires c κs =
     let at-pre = at-right-hand-side .before .before .before .before .before .before .before .before .before .before .before .before in
     (rw (at-pre .pre .2) (at-pre .pre .0), rw (at-pre .pre .2) (at-pre .pre .4), omega (arith, at-solve .solve .kept, at-pre .pre .8), omega (arith, at-solve .solve .kept, at-right-hand-side .right-hand-side .kept, at-pre .pre .7), at-pre .pre .5, omega (arith, at-solve .solve .kept, at-copy .copy .kept, at-pre .pre .9))
 
+abbrev to-solve : tie.After-slice-known12 → tie.After-solve
+to-solve c = c .before .before .before .before .before .before .before .before .before .before .before .before .before .before
+
 same-length : tie.Need-same-length
-same-length c = search needs
+same-length c = to-solve c .solve .kept .0 ∙ c .before .before .before .before .before .before .before .before .before .before .before .before .before .before .before .before .before .before .before .before .before .matrix .kept .1 .1 .1 .0
 
 same-length-2 : tie.Need-same-length-2
-same-length-2 c = search needs
+same-length-2 c = c .before .before .residual .kept .1 .1 .1 .1 .1 .0 ∙ to-solve c .solve .kept .1 .0 ∙ c .before .before .before .before .before .before .before .before .before .before .before .before .before .before .before .before .before .before .before .before .before .before .before .before .before .before .before .before .before .before .right-hand-side .kept .1 .1 .1 .1 .1 .0
 
 same-length-3 : tie.Need-same-length-3
-same-length-3 c = search needs
+same-length-3 c = to-solve c .solve .kept .1 .1 .0
 
 same-length-4 : tie.Need-same-length-4
-same-length-4 c = search needs
+same-length-4 c = to-solve c .solve .kept .1 .1 .1 .0 ∙ c .before .before .before .before .before .before .before .before .before .before .before .before .before .before .before .before .before .before .before .before .before .before .before .before .before .copy .kept .1 .0
 
 returns : tie.Need-returns
 returns c =

@@ -1,11 +1,9 @@
 use Rattle.exact_pass.specs.Pass as def
-use native.Mathlib.Omega.{arith}
-use borrow.Author.Needs.{needs}
 use Rattle.exact_pass.proofs.system.too_large.Statement.{statement}
 use Rattle.exact_pass.proofs.system.too_large.Tie as tie
 
 abs-requires : tie.Need-abs-requires
-abs-requires c κs = search needs
+abs-requires c κs = tt
 
 returns : tie.Need-returns
 unfolding def.tooLarge

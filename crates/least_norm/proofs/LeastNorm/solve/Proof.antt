@@ -46,7 +46,7 @@ returns-7 : tie.Need-returns-7
 returns-7 c = answer _ _ _ _ _ _ _ _ _ _ _ _ (whole-one _ _ _ _ _ (c .before .before .before .before .before .before .before .before .before .before .before .before .before .before .if3 .left) (c .before .before .before .before .before .before .before .before .before .before .if7 .taken) (c .before .before .before .before .before .before .solve .ensures .0)) refl (c .before .before .before .before .before .before .solve .ensures .1) (c .before .before .before .before .before .before .before .before .before .before .before .before .before .before .before .before .if1 .left) (c .before .before .before .before .before .before .before .before .before .before .before .before .before .before .before .if2 .left) (c .before .before .before .before .before .before .before .before .before .before .before .before .before .before .if3 .left) (c .before .before .before .before .before .before .before .before .before .before .before .before .before .if4 .left) (c .before .before .before .before .before .before .before .before .before .before .before .before .if5 .left) (c .before .before .before .before .before .before .before .before .before .before .before .if6 .left)
 
 array-borrow-prefix-perm : tie.Need-array-borrow-prefix-perm
-array-borrow-prefix-perm c = search needs
+array-borrow-prefix-perm c = omega arith
 
 slice-aggregate-least-norm : tie.Need-slice-aggregate-least-norm
 slice-aggregate-least-norm c = sym (length-take-le _ _ (omega arith))

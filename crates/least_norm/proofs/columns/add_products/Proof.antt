@@ -15,25 +15,25 @@ abbrev μ-loop : tie.MeasureT-loop
 μ-loop a m n from c v r₀ row₀ r row = m - row
 
 loop-holds : tie.Need-loop-holds Inv-loop μ-loop
-loop-holds c = search (products-start, needs)
+loop-holds c = (omega arith, omega arith, search (products-start, needs))
 
 place-requires : tie.Need-place-requires Inv-loop μ-loop
-place-requires c κs = search needs
+place-requires c κs = omega arith
 
 mul-add-scaled : tie.Need-mul-add-scaled Inv-loop μ-loop
-mul-add-scaled c = search needs
+mul-add-scaled c = omega arith
 
 shared-slice-read-add-scaled : tie.Need-shared-slice-read-add-scaled Inv-loop μ-loop
-shared-slice-read-add-scaled c = search needs
+shared-slice-read-add-scaled c = omega arith
 
 add-scaled-requires : tie.Need-add-scaled-requires Inv-loop μ-loop
-add-scaled-requires c κs = search needs
+add-scaled-requires c κs = omega arith
 
 add-row : tie.Need-add-row Inv-loop μ-loop
-add-row c = search needs
+add-row c = omega arith
 
 loop-less : tie.Need-loop-less Inv-loop μ-loop
-loop-less c = search needs
+loop-less c = omega arith
 
 loop-again : tie.Need-loop-again Inv-loop μ-loop
 loop-again c = (omega arith, omega arith, products-again _ _ _ _ _ _ _ _ _ _ _ (c .add-scaled .ensures) (c .before .before .before .before .loop .inv .2) (c .before .before .place .ensures .0) (c .before .before .before .before .loop .inv .0))

@@ -1,3 +1,4 @@
+use native.Mathlib.Omega.{arith}
 -- `least_norm::columns::householder` meets its contract. Assumes nothing.
 use borrow.Author.Needs.{needs}
 use Rattle.least_norm.proofs.Runs.{householder-run}
@@ -5,28 +6,28 @@ use Rattle.least_norm.proofs.columns.householder.Statement.{statement}
 use Rattle.least_norm.proofs.columns.householder.Tie as tie
 
 copy-column-requires : tie.Need-copy-column-requires
-copy-column-requires c κs = search needs
+copy-column-requires c κs = omega arith
 
 mul-alpha : tie.Need-mul-alpha
-mul-alpha c = search needs
+mul-alpha c = omega arith
 
 slice-read-alpha : tie.Need-slice-read-alpha
-slice-read-alpha c = search needs
+slice-read-alpha c = omega arith
 
 add-dot : tie.Need-add-dot
-add-dot c = search needs
+add-dot c = omega arith
 
 dot-requires : tie.Need-dot-requires
-dot-requires c κs = search needs
+dot-requires c κs = omega arith
 
 beta-requires : tie.Need-beta-requires
-beta-requires c κs = search needs
+beta-requires c κs = tt
 
 mul-v : tie.Need-mul-v
-mul-v c = search needs
+mul-v c = omega arith
 
 slice-write-v : tie.Need-slice-write-v
-slice-write-v c = search needs
+slice-write-v c = omega arith
 
 same-length : tie.Need-same-length
 same-length c = search needs

@@ -2,7 +2,7 @@
 use Prim.Native.Nat.{_-_, _≤_}
 use borrow.Author.Needs.{needs}
 use lib.ListN.{length}
-use mathlib.Core.Path.{_≡_, _∙_}
+use mathlib.Core.Path.{_≡_, _∙_, refl}
 use native.Mathlib.Omega.{arith}
 use Rattle.least_norm.proofs.Steps.{lessRows-start, lessRows-again, lessRows-done}
 use Rattle.least_norm.specs.Blocks.{lanes, lessRows}
@@ -16,31 +16,31 @@ abbrev μ-loop : tie.MeasureT-loop
 μ-loop a₀ m n j c v f row₀ a row = m - row
 
 loop-holds : tie.Need-loop-holds Inv-loop μ-loop
-loop-holds c = search (lessRows-start, needs)
+loop-holds c = (omega arith, omega arith, refl, search (lessRows-start, needs))
 
 place-requires : tie.Need-place-requires Inv-loop μ-loop
-place-requires c κs = search needs
+place-requires c κs = omega arith
 
 mul-less-lanes : tie.Need-mul-less-lanes Inv-loop μ-loop
-mul-less-lanes c = search needs
+mul-less-lanes c = omega arith
 
 shared-slice-read-less-lanes : tie.Need-shared-slice-read-less-lanes Inv-loop μ-loop
-shared-slice-read-less-lanes c = search needs
+shared-slice-read-less-lanes c = omega arith
 
 less-lanes-requires : tie.Need-less-lanes-requires Inv-loop μ-loop
-less-lanes-requires c κs = search needs
+less-lanes-requires c κs = omega arith
 
 add-row : tie.Need-add-row Inv-loop μ-loop
-add-row c = search needs
+add-row c = omega arith
 
 loop-less : tie.Need-loop-less Inv-loop μ-loop
-loop-less c = search needs
+loop-less c = omega arith
 
 loop-again : tie.Need-loop-again Inv-loop μ-loop
 loop-again c = (omega arith, omega arith, c .before .before .less-lanes .kept .0 ∙ c .before .before .before .before .before .before .before .loop .inv .2, lessRows-again _ _ _ _ _ _ _ _ _ _ _ (c .before .before .less-lanes .ensures) (c .before .before .before .before .before .before .before .loop .inv .3) (c .before .before .before .before .before .place .ensures .0) (c .before .before .before .before .before .before .before .loop .inv .0))
 
 same-length : tie.Need-same-length Inv-loop μ-loop
-same-length c = search needs
+same-length c = c .before .loop .inv .2
 
 returns : tie.Need-returns Inv-loop μ-loop
 returns c = search (lessRows-done, needs)

@@ -1,20 +1,21 @@
+use native.Mathlib.Omega.{arith}
+use mathlib.Core.Path.{_∙_}
 -- `least_norm::columns::reflect_columns` meets its contract. Assumes nothing.
-use borrow.Author.Needs.{needs}
 use Rattle.least_norm.proofs.Runs.{columns-run}
 use Rattle.least_norm.proofs.columns.reflect_columns.Statement.{statement}
 use Rattle.least_norm.proofs.columns.reflect_columns.Tie as tie
 
 add-reflect-fours : tie.Need-add-reflect-fours
-add-reflect-fours c = search needs
+add-reflect-fours c = omega arith
 
 reflect-fours-requires : tie.Need-reflect-fours-requires
-reflect-fours-requires c κs = search needs
+reflect-fours-requires c κs = omega arith
 
 reflect-each-requires : tie.Need-reflect-each-requires
-reflect-each-requires c κs = search needs
+reflect-each-requires c κs = omega arith
 
 same-length : tie.Need-same-length
-same-length c = search needs
+same-length c = c .before .before .reflect-each .kept .0 ∙ c .before .before .before .before .before .before .reflect-fours .kept .0
 
 returns : tie.Need-returns
 returns c = columns-run _ _ _ _ _ _ _ (c .before .before .reflect-each .ensures) (c .before .before .before .before .before .before .reflect-fours .ensures .0) (c .before .before .before .before .before .before .reflect-fours .ensures .1) (c .before .before .before .before .before .before .reflect-fours .ensures .2)

@@ -2,7 +2,7 @@
 use Prim.Native.Nat.{ℕ, _-_, _≤_}
 use borrow.Author.Needs.{needs}
 use lib.ListN.{length}
-use mathlib.Core.Path.{_≡_, _∙_}
+use mathlib.Core.Path.{_≡_, _∙_, refl}
 use native.Mathlib.Omega.{arith}
 use Rattle.floats.specs.Ops.{at}
 use Rattle.least_norm.specs.LeastNorm.{reflectColumn}
@@ -18,25 +18,25 @@ abbrev μ-loop : tie.MeasureT-loop
 μ-loop a₀ m n j c v vtv next₀ a next = n - next
 
 loop-holds : tie.Need-loop-holds Inv-loop μ-loop
-loop-holds c = search (between-from, needs)
+loop-holds c = (omega arith, omega arith, refl, search (between-from, needs))
 
 add-loop : tie.Need-add-loop Inv-loop μ-loop
-add-loop c = search needs
+add-loop c = omega arith
 
 reflect-four-requires : tie.Need-reflect-four-requires Inv-loop μ-loop
-reflect-four-requires c κs = search needs
+reflect-four-requires c κs = omega arith
 
 add-next : tie.Need-add-next Inv-loop μ-loop
-add-next c = search needs
+add-next c = omega arith
 
 loop-less : tie.Need-loop-less Inv-loop μ-loop
-loop-less c = search needs
+loop-less c = omega arith
 
 loop-again : tie.Need-loop-again Inv-loop μ-loop
 loop-again c = (omega arith, omega arith, c .before .before .reflect-four .kept .0 ∙ c .before .before .before .before .before .loop .inv .2, between-more _ _ _ _ _ _ _ (c .before .before .reflect-four .ensures) (c .before .before .before .before .before .loop .inv .3) (c .before .before .before .before .before .loop .inv .0) (omega arith))
 
 same-length : tie.Need-same-length Inv-loop μ-loop
-same-length c = search needs
+same-length c = c .before .loop .inv .2
 
 returns : tie.Need-returns Inv-loop μ-loop
 returns c = search needs

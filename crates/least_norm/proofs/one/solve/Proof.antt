@@ -1,3 +1,4 @@
+use native.Mathlib.Omega.{arith}
 -- `least_norm::one::solve` meets its contract. Assumes nothing.
 use borrow.Author.Needs.{needs}
 use Rattle.least_norm.proofs.Single.{none-left, full-left, rank-left}
@@ -5,10 +6,10 @@ use Rattle.least_norm.proofs.one.solve.Statement.{statement}
 use Rattle.least_norm.proofs.one.solve.Tie as tie
 
 slice-read-alpha : tie.Need-slice-read-alpha
-slice-read-alpha c = search needs
+slice-read-alpha c = omega arith
 
 slice-write-x : tie.Need-slice-write-x
-slice-write-x c = search needs
+slice-write-x c = omega arith
 
 same-length : tie.Need-same-length
 same-length c = search needs
@@ -17,22 +18,22 @@ returns : tie.Need-returns
 returns c = (none-left _ _ (c .before .before .before .before .before .args .x .now) (c .before .before .before .before .before .pre .0) (c .before .before .before .before .before .pre .1) (c .before .before .before .before .before .pre .2) (c .if1 .taken), search needs)
 
 beta-requires : tie.Need-beta-requires
-beta-requires c κs = search needs
+beta-requires c κs = tt
 
 slice-read-f : tie.Need-slice-read-f
-slice-read-f c = search needs
+slice-read-f c = omega arith
 
 slice-read-b : tie.Need-slice-read-b
-slice-read-b c = search needs
+slice-read-b c = omega arith
 
 slice-write-b : tie.Need-slice-write-b
-slice-write-b c = search needs
+slice-write-b c = omega arith
 
 slice-write-a : tie.Need-slice-write-a
-slice-write-a c = search needs
+slice-write-a c = omega arith
 
 abs-requires : tie.Need-abs-requires
-abs-requires c κs = search needs
+abs-requires c κs = tt
 
 slice-read-x : tie.Need-slice-read-x
 slice-read-x c = search needs

@@ -1,11 +1,11 @@
+use native.Mathlib.Omega.{arith}
 -- `least_norm::pivoting::column_norm2` meets its contract. Assumes nothing.
-use borrow.Author.Needs.{needs}
 use Rattle.least_norm.proofs.Runs.{column-norm-run}
 use Rattle.least_norm.proofs.pivoting.column_norm2.Statement.{statement}
 use Rattle.least_norm.proofs.pivoting.column_norm2.Tie as tie
 
 dot-requires : tie.Need-dot-requires
-dot-requires c κs = search needs
+dot-requires c κs = omega arith
 
 returns : tie.Need-returns
 returns c = column-norm-run _ _ _ _ _ _ (c .dot .ensures) (c .before .before .pre .1)

@@ -15,22 +15,22 @@ abbrev μ-loop : tie.MeasureT-loop
 μ-loop a m n c j s₀ row₀ s row = m - row
 
 none-requires : tie.Need-none-requires Inv-loop μ-loop
-none-requires c κs = search needs
+none-requires c κs = tt
 
 loop-holds : tie.Need-loop-holds Inv-loop μ-loop
-loop-holds c = search (squares-from, needs)
+loop-holds c = (omega arith, omega arith, search (squares-from, needs))
 
 place-requires : tie.Need-place-requires Inv-loop μ-loop
-place-requires c κs = search needs
+place-requires c κs = omega arith
 
 add-squares-requires : tie.Need-add-squares-requires Inv-loop μ-loop
-add-squares-requires c κs = search needs
+add-squares-requires c κs = omega arith
 
 add-row : tie.Need-add-row Inv-loop μ-loop
-add-row c = search needs
+add-row c = omega arith
 
 loop-less : tie.Need-loop-less Inv-loop μ-loop
-loop-less c = search needs
+loop-less c = omega arith
 
 loop-again : tie.Need-loop-again Inv-loop μ-loop
 loop-again c = (omega arith, omega arith, squares-again _ _ _ _ _ _ _ _ _ _ (c .add-squares .ensures) (c .before .before .before .loop .inv .2) (c .before .place .ensures .0) (c .before .before .before .loop .inv .0))

@@ -17,19 +17,19 @@ abbrev μ-loop : tie.MeasureT-loop
 μ-loop a m n j c p₀ next₀ p next = n - next
 
 loop-holds : tie.Need-loop-holds Inv-loop μ-loop
-loop-holds c = search (between-from, needs)
+loop-holds c = (omega arith, omega arith, omega arith, search (between-from, needs))
 
 column-norm2-requires : tie.Need-column-norm2-requires Inv-loop μ-loop
-column-norm2-requires c κs = search needs
+column-norm2-requires c κs = omega arith
 
 picked-requires : tie.Need-picked-requires Inv-loop μ-loop
-picked-requires c κs = search needs
+picked-requires c κs = omega arith
 
 add-next : tie.Need-add-next Inv-loop μ-loop
-add-next c = search needs
+add-next c = omega arith
 
 loop-less : tie.Need-loop-less Inv-loop μ-loop
-loop-less c = search needs
+loop-less c = omega arith
 
 loop-again : tie.Need-loop-again Inv-loop μ-loop
 loop-again c = (omega arith, omega arith, omega (arith, c .picked .ensures .1), one-picked _ _ _ _ _ _ _ _ _ _ (c .picked .ensures .0) (c .before .column-norm2 .ensures) (c .before .before .before .loop .inv .3) (c .before .before .before .loop .inv .0))

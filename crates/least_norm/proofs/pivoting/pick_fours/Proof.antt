@@ -17,22 +17,22 @@ abbrev μ-loop : tie.MeasureT-loop
 μ-loop a m n j c p₀ next₀ p next = n - next
 
 loop-holds : tie.Need-loop-holds Inv-loop μ-loop
-loop-holds c = search (between-from, needs)
+loop-holds c = (omega arith, omega arith, omega arith, search (between-from, needs))
 
 add-loop : tie.Need-add-loop Inv-loop μ-loop
-add-loop c = search needs
+add-loop c = omega arith
 
 column-norms-requires : tie.Need-column-norms-requires Inv-loop μ-loop
-column-norms-requires c κs = search needs
+column-norms-requires c κs = omega arith
 
 pick-lanes-requires : tie.Need-pick-lanes-requires Inv-loop μ-loop
-pick-lanes-requires c κs = search needs
+pick-lanes-requires c κs = omega arith
 
 add-next : tie.Need-add-next Inv-loop μ-loop
-add-next c = search needs
+add-next c = omega arith
 
 loop-less : tie.Need-loop-less Inv-loop μ-loop
-loop-less c = search needs
+loop-less c = omega arith
 
 loop-again : tie.Need-loop-again Inv-loop μ-loop
 loop-again c = (omega arith, omega arith, c .pick-lanes .ensures .1, between-more _ _ _ _ _ _ _ (four-picked _ _ _ _ _ _ _ _ (c .pick-lanes .ensures .0) (c .before .column-norms .ensures) (c .before .before .before .before .before .pre .1)) (c .before .before .before .loop .inv .3) (c .before .before .before .loop .inv .0) (omega arith))

@@ -1,5 +1,4 @@
 -- `least_norm::pivoting::pick_lanes` meets its contract. Assumes nothing.
-use borrow.Author.Needs.{needs}
 use native.Mathlib.Nat.{add-zero}
 use native.Mathlib.Omega.{arith}
 use Rattle.loops.specs.Loops.{turns, between}
@@ -7,25 +6,25 @@ use Rattle.least_norm.proofs.pivoting.pick_lanes.Statement.{statement}
 use Rattle.least_norm.proofs.pivoting.pick_lanes.Tie as tie
 
 picked-requires : tie.Need-picked-requires
-picked-requires c κs = search needs
+picked-requires c κs = omega arith
 
 add-picked : tie.Need-add-picked
-add-picked c = search needs
+add-picked c = omega arith
 
 picked-requires-2 : tie.Need-picked-requires-2
-picked-requires-2 c κs = search needs
+picked-requires-2 c κs = omega arith
 
 add-picked-2 : tie.Need-add-picked-2
-add-picked-2 c = search needs
+add-picked-2 c = omega arith
 
 picked-requires-3 : tie.Need-picked-requires-3
-picked-requires-3 c κs = search needs
+picked-requires-3 c κs = omega arith
 
 add-picked-3 : tie.Need-add-picked-3
-add-picked-3 c = search needs
+add-picked-3 c = omega arith
 
 picked-requires-4 : tie.Need-picked-requires-4
-picked-requires-4 c κs = search needs
+picked-requires-4 c κs = omega arith
 
 returns : tie.Need-returns
 unfolding between turns

@@ -1,16 +1,16 @@
+use native.Mathlib.Omega.{arith}
 -- `least_norm::place::cell` meets its contract. Assumes nothing.
-use borrow.Author.Needs.{needs}
 use Rattle.least_norm.proofs.place.cell.Statement.{statement}
 use Rattle.least_norm.proofs.place.cell.Tie as tie
 
 place-requires : tie.Need-place-requires
-place-requires c κs = search needs
+place-requires c κs = omega arith
 
 mul-result : tie.Need-mul-result
-mul-result c = search needs
+mul-result c = omega arith
 
 shared-slice-read-result : tie.Need-shared-slice-read-result
-shared-slice-read-result c = search needs
+shared-slice-read-result c = omega arith
 
 returns : tie.Need-returns
 returns c = cc

@@ -1,16 +1,17 @@
+use native.Mathlib.Omega.{arith}
 -- `least_norm::place::put` meets its contract. Assumes nothing.
 use borrow.Author.Needs.{needs}
 use Rattle.least_norm.proofs.place.put.Statement.{statement}
 use Rattle.least_norm.proofs.place.put.Tie as tie
 
 place-requires : tie.Need-place-requires
-place-requires c κs = search needs
+place-requires c κs = omega arith
 
 mul-a : tie.Need-mul-a
-mul-a c = search needs
+mul-a c = omega arith
 
 slice-write-a : tie.Need-slice-write-a
-slice-write-a c = search needs
+slice-write-a c = omega arith
 
 same-length : tie.Need-same-length
 same-length c = search needs

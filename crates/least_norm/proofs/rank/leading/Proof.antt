@@ -1,3 +1,4 @@
+use native.Mathlib.Omega.{arith}
 -- `least_norm::rank::leading` meets its contract. Assumes nothing.
 use Prim.Native.Nat.{_-_, _≤_}
 use borrow.Author.Needs.{needs}
@@ -17,19 +18,19 @@ abbrev μ-loop : tie.MeasureT-loop
 
 loop-holds : tie.Need-loop-holds Inv-loop μ-loop
 unfolding leading
-loop-holds c = search (turns-from, needs)
+loop-holds c = (omega arith, search (turns-from, needs))
 
 leads-requires : tie.Need-leads-requires Inv-loop μ-loop
-leads-requires c κs = search needs
+leads-requires c κs = omega arith
 
 returns : tie.Need-returns Inv-loop μ-loop
 returns c = (leading-ended _ _ _ (c .before .before .before .loop .inv .1) (c .before .leads .result) (c .before .leads .ensures) _ (not-true _ (c .if1 .taken)) (c .before .before .loop-test .taken), search needs)
 
 add-i : tie.Need-add-i Inv-loop μ-loop
-add-i c = search needs
+add-i c = omega arith
 
 loop-less : tie.Need-loop-less Inv-loop μ-loop
-loop-less c = search needs
+loop-less c = omega arith
 
 loop-again : tie.Need-loop-again Inv-loop μ-loop
 loop-again c = (search needs, leading-again _ _ _ (c .before .before .before .loop .inv .1) (c .before .leads .result) (c .before .leads .ensures) (not-false _ (c .if1 .left)))

@@ -1,11 +1,10 @@
 -- `least_norm::reflect::beta` meets its contract. Assumes nothing.
-use borrow.Author.Needs.{needs}
 use Rattle.least_norm.specs.Reflector.{beta}
 use Rattle.least_norm.proofs.reflect.beta.Statement.{statement}
 use Rattle.least_norm.proofs.reflect.beta.Tie as tie
 
 norm-requires : tie.Need-norm-requires
-norm-requires c κs = search needs
+norm-requires c κs = tt
 
 returns : tie.Need-returns
 unfolding beta

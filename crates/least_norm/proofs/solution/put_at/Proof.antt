@@ -1,3 +1,4 @@
+use native.Mathlib.Omega.{arith}
 -- `least_norm::solution::put_at` meets its contract. Assumes nothing.
 use borrow.Author.Needs.{needs}
 use lib.Seq.{set-out}
@@ -5,10 +6,10 @@ use Rattle.least_norm.proofs.solution.put_at.Statement.{statement}
 use Rattle.least_norm.proofs.solution.put_at.Tie as tie
 
 mul-x : tie.Need-mul-x
-mul-x c = search needs
+mul-x c = omega arith
 
 slice-write-x : tie.Need-slice-write-x
-slice-write-x c = search needs
+slice-write-x c = omega arith
 
 same-length : tie.Need-same-length
 same-length c = search needs

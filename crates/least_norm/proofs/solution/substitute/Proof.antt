@@ -1,8 +1,9 @@
+use native.Mathlib.Omega.{arith}
 -- `least_norm::solution::substitute` meets its contract. Assumes nothing.
 use Prim.Native.Nat.{_≤_}
 use borrow.Author.Needs.{needs}
 use lib.ListN.{length}
-use mathlib.Core.Path.{_≡_}
+use mathlib.Core.Path.{_≡_, refl}
 use Rattle.least_norm.proofs.Steps.{substituted-from, substituted-again, substituted-done}
 use Rattle.least_norm.specs.Starts.{substituted}
 use Rattle.least_norm.proofs.solution.substitute.Statement.{statement}
@@ -15,31 +16,31 @@ abbrev μ-loop : tie.MeasureT-loop
 μ-loop a m n rank b y₀ i₀ y i = i
 
 loop-holds : tie.Need-loop-holds Inv-loop μ-loop
-loop-holds c = search (substituted-from, needs)
+loop-holds c = (omega arith, refl, search (substituted-from, needs))
 
 sub-i : tie.Need-sub-i Inv-loop μ-loop
-sub-i c = search needs
+sub-i c = omega arith
 
 known-requires : tie.Need-known-requires Inv-loop μ-loop
-known-requires c κs = search needs
+known-requires c κs = omega arith
 
 cell-requires : tie.Need-cell-requires Inv-loop μ-loop
-cell-requires c κs = search needs
+cell-requires c κs = omega arith
 
 mul-y : tie.Need-mul-y Inv-loop μ-loop
-mul-y c = search needs
+mul-y c = omega arith
 
 slice-write-y : tie.Need-slice-write-y Inv-loop μ-loop
-slice-write-y c = search needs
+slice-write-y c = omega arith
 
 loop-less : tie.Need-loop-less Inv-loop μ-loop
-loop-less c = search needs
+loop-less c = omega arith
 
 loop-again : tie.Need-loop-again Inv-loop μ-loop
-loop-again c = search (substituted-again, needs)
+loop-again c = (omega arith, search needs, search (substituted-again, needs))
 
 same-length : tie.Need-same-length Inv-loop μ-loop
-same-length c = search needs
+same-length c = c .before .loop .inv .1
 
 returns : tie.Need-returns Inv-loop μ-loop
 returns c = search (substituted-done, needs)

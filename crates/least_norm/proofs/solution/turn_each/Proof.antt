@@ -1,8 +1,9 @@
+use native.Mathlib.Omega.{arith}
 -- `least_norm::solution::turn_each` meets its contract. Assumes nothing.
 use Prim.Native.Nat.{_-_, _≤_}
 use borrow.Author.Needs.{needs}
 use lib.ListN.{length}
-use mathlib.Core.Path.{_≡_}
+use mathlib.Core.Path.{_≡_, refl}
 use Rattle.least_norm.specs.LeastNorm.{turned}
 use Rattle.loops.proofs.Turns.{turns-from, turns-again, turns-done}
 use Rattle.least_norm.proofs.solution.turn_each.Statement.{statement}
@@ -16,23 +17,23 @@ abbrev μ-loop : tie.MeasureT-loop
 
 loop-holds : tie.Need-loop-holds Inv-loop μ-loop
 unfolding turned
-loop-holds c = search (turns-from, needs)
+loop-holds c = (omega arith, refl, search (turns-from, needs))
 
 turn-requires : tie.Need-turn-requires Inv-loop μ-loop
-turn-requires c κs = search needs
+turn-requires c κs = omega arith
 
 add-i : tie.Need-add-i Inv-loop μ-loop
-add-i c = search needs
+add-i c = omega arith
 
 loop-less : tie.Need-loop-less Inv-loop μ-loop
-loop-less c = search needs
+loop-less c = omega arith
 
 loop-again : tie.Need-loop-again Inv-loop μ-loop
 unfolding turned
-loop-again c = search (turns-again, needs)
+loop-again c = (omega arith, search needs, search (turns-again, needs))
 
 same-length : tie.Need-same-length Inv-loop μ-loop
-same-length c = search needs
+same-length c = c .before .loop .inv .1
 
 returns : tie.Need-returns Inv-loop μ-loop
 unfolding turned

@@ -1,8 +1,9 @@
+use native.Mathlib.Omega.{arith}
 -- `least_norm::trapezoid::clear_rows` meets its contract. Assumes nothing.
 use Prim.Native.Nat.{_≤_}
 use borrow.Author.Needs.{needs}
 use lib.ListN.{length}
-use mathlib.Core.Path.{_≡_}
+use mathlib.Core.Path.{_≡_, refl}
 use Rattle.least_norm.proofs.Steps.{cleared-from}
 use Rattle.least_norm.specs.LeastNorm.{trapezoid, cleared}
 use Rattle.loops.proofs.Turns.{downward-again, downward-done}
@@ -16,26 +17,26 @@ abbrev μ-loop : tie.MeasureT-loop
 μ-loop a₀ m n rank right₀ i₀ a right i = i
 
 loop-holds : tie.Need-loop-holds Inv-loop μ-loop
-loop-holds c = search (cleared-from, needs)
+loop-holds c = (omega arith, refl, refl, search (cleared-from, needs))
 
 sub-i : tie.Need-sub-i Inv-loop μ-loop
-sub-i c = search needs
+sub-i c = omega arith
 
 clear-row-requires : tie.Need-clear-row-requires Inv-loop μ-loop
-clear-row-requires c κs = search needs
+clear-row-requires c κs = omega arith
 
 loop-less : tie.Need-loop-less Inv-loop μ-loop
-loop-less c = search needs
+loop-less c = omega arith
 
 loop-again : tie.Need-loop-again Inv-loop μ-loop
 unfolding cleared
-loop-again c = search (downward-again, needs)
+loop-again c = (omega arith, search needs, search needs, search (downward-again, needs))
 
 same-length : tie.Need-same-length Inv-loop μ-loop
-same-length c = search needs
+same-length c = c .before .loop .inv .1
 
 same-length-2 : tie.Need-same-length-2 Inv-loop μ-loop
-same-length-2 c = search needs
+same-length-2 c = c .before .loop .inv .2
 
 returns : tie.Need-returns Inv-loop μ-loop
 unfolding cleared

@@ -1,8 +1,9 @@
+use native.Mathlib.Omega.{arith}
 -- `least_norm::trapezoid::reflect_rows` meets its contract. Assumes nothing.
 use Prim.Native.Nat.{suc, _-_, _≤_}
 use borrow.Author.Needs.{needs}
 use lib.ListN.{length}
-use mathlib.Core.Path.{_≡_}
+use mathlib.Core.Path.{_≡_, refl}
 use Rattle.least_norm.specs.LeastNorm.{reflectRows}
 use Rattle.loops.proofs.Turns.{turns-from, turns-again, turns-done}
 use Rattle.least_norm.proofs.trapezoid.reflect_rows.Statement.{statement}
@@ -16,23 +17,23 @@ abbrev μ-loop : tie.MeasureT-loop
 
 loop-holds : tie.Need-loop-holds Inv-loop μ-loop
 unfolding reflectRows
-loop-holds c = search (turns-from, needs)
+loop-holds c = (omega arith, refl, search (turns-from, needs))
 
 reflect-row-requires : tie.Need-reflect-row-requires Inv-loop μ-loop
-reflect-row-requires c κs = search needs
+reflect-row-requires c κs = omega arith
 
 add-row : tie.Need-add-row Inv-loop μ-loop
-add-row c = search needs
+add-row c = omega arith
 
 loop-less : tie.Need-loop-less Inv-loop μ-loop
-loop-less c = search needs
+loop-less c = omega arith
 
 loop-again : tie.Need-loop-again Inv-loop μ-loop
 unfolding reflectRows
-loop-again c = search (turns-again, needs)
+loop-again c = (omega arith, search needs, search (turns-again, needs))
 
 same-length : tie.Need-same-length Inv-loop μ-loop
-same-length c = search needs
+same-length c = c .before .loop .inv .1
 
 returns : tie.Need-returns Inv-loop μ-loop
 unfolding reflectRows

@@ -1,14 +1,14 @@
+use native.Mathlib.Omega.{arith}
 -- `least_norm::trapezoid::row_norm2` meets its contract. Assumes nothing.
-use borrow.Author.Needs.{needs}
 use Rattle.least_norm.proofs.Runs.{row-norm-run}
 use Rattle.least_norm.proofs.trapezoid.row_norm2.Statement.{statement}
 use Rattle.least_norm.proofs.trapezoid.row_norm2.Tie as tie
 
 place-requires : tie.Need-place-requires
-place-requires c κs = search needs
+place-requires c κs = omega arith
 
 dot-requires : tie.Need-dot-requires
-dot-requires c κs = search needs
+dot-requires c κs = omega arith
 
 returns : tie.Need-returns
 returns c = row-norm-run _ _ _ _ (c .before .place .ensures .0) _ _ _ (c .dot .ensures) (c .before .before .before .pre .3)

@@ -1,9 +1,10 @@
+use native.Mathlib.Omega.{arith}
 -- `least_norm::vector::copy` meets its contract. Assumes nothing.
 use Prim.Native.Nat.{ℕ, _+_, _-_, _≤_}
 use borrow.Author.Needs.{needs}
 use lib.Ieee.{Float, nan}
 use lib.ListN.{length}
-use mathlib.Core.Path.{_≡_}
+use mathlib.Core.Path.{_≡_, refl}
 use Rattle.floats.specs.Ops.{at}
 use Rattle.loops.proofs.Updates.{updated-start, updated-again, updated-done}
 use Rattle.loops.specs.Updates.{updated}
@@ -17,37 +18,37 @@ abbrev μ-loop : tie.MeasureT-loop
 μ-loop x₀ p y q lo hi t₀ x t = hi - t
 
 loop-holds : tie.Need-loop-holds Inv-loop μ-loop
-loop-holds c = search (updated-start, needs)
+loop-holds c = (omega arith, omega arith, refl, search (updated-start, needs))
 
 add-x : tie.Need-add-x Inv-loop μ-loop
-add-x c = search needs
+add-x c = omega arith
 
 mul-x : tie.Need-mul-x Inv-loop μ-loop
-mul-x c = search needs
+mul-x c = omega arith
 
 shared-slice-read-x : tie.Need-shared-slice-read-x Inv-loop μ-loop
-shared-slice-read-x c = search needs
+shared-slice-read-x c = omega arith
 
 add-x-2 : tie.Need-add-x-2 Inv-loop μ-loop
-add-x-2 c = search needs
+add-x-2 c = omega arith
 
 mul-x-2 : tie.Need-mul-x-2 Inv-loop μ-loop
-mul-x-2 c = search needs
+mul-x-2 c = omega arith
 
 slice-write-x : tie.Need-slice-write-x Inv-loop μ-loop
-slice-write-x c = search needs
+slice-write-x c = omega arith
 
 add-t : tie.Need-add-t Inv-loop μ-loop
-add-t c = search needs
+add-t c = omega arith
 
 loop-less : tie.Need-loop-less Inv-loop μ-loop
-loop-less c = search needs
+loop-less c = omega arith
 
 loop-again : tie.Need-loop-again Inv-loop μ-loop
-loop-again c = search (updated-again, needs)
+loop-again c = (omega arith, omega arith, search needs, search (updated-again, needs))
 
 same-length : tie.Need-same-length Inv-loop μ-loop
-same-length c = search needs
+same-length c = c .before .loop .inv .2
 
 returns : tie.Need-returns Inv-loop μ-loop
 returns c = search (updated-done, needs)

@@ -17,7 +17,7 @@ abbrev μ-loop : tie.MeasureT-loop
 μ-loop s x p k y q l lo hi r₀ t₀ r t = hi - t
 
 loop-holds : tie.Need-loop-holds Inv-loop μ-loop
-loop-holds c = search (gathered-start, needs)
+loop-holds c = (omega arith, omega arith, search (gathered-start, needs))
 
 mul-r : tie.Need-mul-r Inv-loop μ-loop
 mul-r c = omega (arith, row-end (c .before .before .args .hi) (c .before .before .args .k) (c .before .loop .t) (omega arith))
@@ -44,13 +44,13 @@ shared-slice-read-r-2 : tie.Need-shared-slice-read-r-2 Inv-loop μ-loop
 shared-slice-read-r-2 c = omega (arith, row-end (c .before .before .before .before .args .hi) (c .before .before .before .before .args .l) (c .before .before .before .loop .t) (omega arith))
 
 add-t : tie.Need-add-t Inv-loop μ-loop
-add-t c = search needs
+add-t c = omega arith
 
 loop-less : tie.Need-loop-less Inv-loop μ-loop
-loop-less c = search needs
+loop-less c = omega arith
 
 loop-again : tie.Need-loop-again Inv-loop μ-loop
-loop-again c = search (sum-again, needs)
+loop-again c = (omega arith, omega arith, search (sum-again, needs))
 
 returns : tie.Need-returns Inv-loop μ-loop
 returns c = search (gathered-done, needs)

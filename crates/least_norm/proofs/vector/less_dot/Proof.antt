@@ -1,3 +1,4 @@
+use native.Mathlib.Omega.{arith}
 -- `least_norm::vector::less_dot` meets its contract. Assumes nothing.
 use Prim.Native.Nat.{ℕ, _+_, _-_, _≤_}
 use borrow.Author.Needs.{needs}
@@ -15,34 +16,34 @@ abbrev μ-loop : tie.MeasureT-loop
 μ-loop s x p y q lo hi r₀ t₀ r t = hi - t
 
 loop-holds : tie.Need-loop-holds Inv-loop μ-loop
-loop-holds c = search (gathered-start, needs)
+loop-holds c = (omega arith, omega arith, search (gathered-start, needs))
 
 add-r : tie.Need-add-r Inv-loop μ-loop
-add-r c = search needs
+add-r c = omega arith
 
 mul-r : tie.Need-mul-r Inv-loop μ-loop
-mul-r c = search needs
+mul-r c = omega arith
 
 shared-slice-read-r : tie.Need-shared-slice-read-r Inv-loop μ-loop
-shared-slice-read-r c = search needs
+shared-slice-read-r c = omega arith
 
 add-r-2 : tie.Need-add-r-2 Inv-loop μ-loop
-add-r-2 c = search needs
+add-r-2 c = omega arith
 
 mul-r-2 : tie.Need-mul-r-2 Inv-loop μ-loop
-mul-r-2 c = search needs
+mul-r-2 c = omega arith
 
 shared-slice-read-r-2 : tie.Need-shared-slice-read-r-2 Inv-loop μ-loop
-shared-slice-read-r-2 c = search needs
+shared-slice-read-r-2 c = omega arith
 
 add-t : tie.Need-add-t Inv-loop μ-loop
-add-t c = search needs
+add-t c = omega arith
 
 loop-less : tie.Need-loop-less Inv-loop μ-loop
-loop-less c = search needs
+loop-less c = omega arith
 
 loop-again : tie.Need-loop-again Inv-loop μ-loop
-loop-again c = search (difference-again, needs)
+loop-again c = (omega arith, omega arith, search (difference-again, needs))
 
 returns : tie.Need-returns Inv-loop μ-loop
 returns c = search (gathered-done, needs)
