@@ -11,7 +11,8 @@ use Rattle.loops.specs.Loops.{tab, turns}
 use Rattle.loops.proofs.Fill.{tab-length, tab-done}
 use Rattle.loops.proofs.Index.{row-end}
 use Rattle.floats.specs.Ops.{at}
-use Rattle.box_rows.specs.Rows.{row, entry}
+use Rattle.box_rows.specs.Rows.{row}
+use Rattle.box_rows.specs.Private.{entry}
 
 -- n values from place a on
 part-tab : (w : List Float) (a n : ℕ) → a + n ≤ length w → take n (drop a w) ≡ tab (λ (j : ℕ). at w (a + j)) n

@@ -1,10 +1,15 @@
 -- Words of private contracts, here and in the crates above: what they are lent. No promise of a public call stands on them. Definitions only.
-use Prim.Native.Nat.{ℕ, _*_, _≤_}
+use Prim.Native.Nat.{ℕ, _+_, _*_, _≤_}
 use mathlib.Core.Logic.{_⊎_}
 use mathlib.Core.Path.{_≡_}
+use mathlib.Core.Bool.{Bool, not}
 use mathlib.Core.List.{List}
+use lib.Dec.{eqb}
 use lib.ListN.{length}
 use lib.Ieee.{Float}
+use Rattle.floats.specs.Ops.{at}
+use Rattle.floats.specs.Helpers.{none}
+use Rattle.box_rows.specs.Rows.{Problem, size, row}
 
 -- r is the smaller of a and b
 pub record Fewer (a b r : ℕ) : Type 0 where
@@ -19,3 +24,14 @@ Square w n = (n ≤ 32) × (length w ≡ n * n)
 -- the lists of a problem of n rows
 abbrev pub Sized : ℕ → List Float → List Float → List Float → List Float → Type 0
 Sized n w lo hi scale = (n ≤ 32) × (length w ≡ n * n) × (length lo ≡ n) × (length hi ≡ n) × (length scale ≡ n)
+
+-- the entry in row i and column j of a matrix in rows of n
+abbrev pub entry : List Float → ℕ → ℕ → ℕ → Float
+entry w n i j = at w (i * n + j)
+
+abbrev pub rowOf : Problem → ℕ → List Float
+rowOf p i = row (p .w) (size p) i
+
+-- whether an update is stopped, by its side
+abbrev pub isStopped : ℕ → Bool
+isStopped s = not (eqb s none)

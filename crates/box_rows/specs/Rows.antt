@@ -7,7 +7,7 @@ use lib.ListN.{getD, length}
 use lib.Ieee.{Float, le}
 use Rattle.loops.specs.Loops.{tab}
 use Rattle.floats.specs.Ops.{_⊕_, _⊖_, _⊗_, _⊘_, at, 0ᶠ, 1e-9}
-use Rattle.floats.specs.Helpers.{clamp, none, side, abs, isNaN, isFinite}
+use Rattle.floats.specs.Helpers.{clamp, side, abs, isNaN, isFinite}
 
 -- ---- the problem
 
@@ -25,16 +25,9 @@ problem w uFree lo hi scale = record { w = w; uFree = uFree; lo = lo; hi = hi; s
 abbrev pub size : Problem → ℕ
 size p = length (p .uFree)
 
--- the entry in row i and column j of a matrix in rows of n: the value at place i·n + j
-abbrev pub entry : List Float → ℕ → ℕ → ℕ → Float
-entry w n i j = at w (i * n + j)
-
--- row i: its n entries
+-- row i of a matrix in rows of n entries: that of column j is the value at place i·n + j
 unfoldable pub row : List Float → ℕ → ℕ → List Float
-row w n i = tab (entry w n i) n
-
-abbrev pub rowOf : Problem → ℕ → List Float
-rowOf p i = row (p .w) (size p) i
+row w n i = tab (λ (j : ℕ). at w (i * n + j)) n
 
 -- ---- states: a byte a row
 
@@ -79,12 +72,9 @@ rowSum (a ∷ r) u (v ∷ nu) = rowSum r (u ⊕ a ⊗ v) nu
 unfoldable pub update : Float → Float → Float → Float → Float → Float
 update v u d lo hi = clamp (v ⊖ u ⊘ d) lo hi
 
--- the side at which it is stopped, and whether it is
+-- the side at which it is stopped
 unfoldable pub updateSide : Float → Float → Float → Float → Float → ℕ
 updateSide v u d lo hi = side (v ⊖ u ⊘ d) lo hi
-
-abbrev pub isStopped : ℕ → Bool
-isStopped s = not (eqb s none)
 
 unfoldable pub naturalResidual : Float → Float → Float → Float → Float → Float → Float
 naturalResidual v u d lo hi s = abs (v ⊖ update v u d lo hi) ⊘ s
@@ -92,5 +82,6 @@ naturalResidual v u d lo hi s = abs (v ⊖ update v u d lo hi) ⊘ s
 -- row i's own, at the multipliers nu
 unfoldable pub residualAt : Problem → List Float → ℕ → Float
 residualAt p nu i =
-    let u = rowSum (rowOf p i) (at (p .uFree) i) nu in
-    naturalResidual (at nu i) u (at (rowOf p i) i) (at (p .lo) i) (at (p .hi) i) (at (p .scale) i)
+    let r = row (p .w) (size p) i in
+    let u = rowSum r (at (p .uFree) i) nu in
+    naturalResidual (at nu i) u (at r i) (at (p .lo) i) (at (p .hi) i) (at (p .scale) i)

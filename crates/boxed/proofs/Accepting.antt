@@ -1,7 +1,7 @@
 -- What a call that is not refused was lent.
 use Prim.Native.Nat.{ℕ, suc, _*_, _%_, _≤_}
 use mathlib.Core.Path.{_≡_, refl, sym, _∙_}
-use mathlib.Core.Bool.{Bool, true, false, not, _&&_, _||_, true≢false}
+use mathlib.Core.Bool.{Bool, true, false, not, cond, _&&_, _||_, true≢false}
 use mathlib.Core.List.{List, [], _∷_}
 use native.Mathlib.Omega.{arith}
 use lib.Dec.{ltb, eqb}
@@ -12,7 +12,13 @@ use Rattle.loops.specs.Loops.{every}
 use Rattle.loops.proofs.Every.{both-true}
 use Rattle.box_rows.specs.Rows.{Problem, size}
 use Rattle.box_rows.specs.Private.{Sized}
-use Rattle.boxed.specs.Solve.{goodScaleAt, first, refusal}
+use Rattle.boxed.specs.Solve.{refusal}
+use Rattle.boxed.specs.Private.{goodScale, goodScaleAt}
+
+-- the number of the first test that holds
+abbrev first : List (Bool × ℕ) → ℕ
+first [] = 0
+first (c ∷ l) = cond (c .0) (c .1) (first l)
 
 first-false : (c : Bool) (k : ℕ) (l : List (Bool × ℕ)) → first ((c, suc k) ∷ l) ≡ 0 → (c ≡ false) × (first l ≡ 0)
 first-false true k l h = absurd (omega arith)
@@ -48,7 +54,7 @@ four a b c d n h =
     (eqb-true a n (ab .0), eqb-true b n (ab .1), eqb-true c n (abc .1), eqb-true d n (abcd .1))
 
 pub accepted : (p : Problem) (motion nu : List Float) (st l : List ℕ) (room : ℕ) → refusal p motion nu st l room ≡ 0 → Accepted p nu st l room
-unfolding refusal
+unfolding refusal goodScale
 accepted p motion nu st l room h =
     let n = size p in
     let lengths = eqb (length (p .lo)) n && eqb (length (p .hi)) n && eqb (length (p .scale)) n && eqb (length nu) n in

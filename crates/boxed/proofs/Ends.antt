@@ -7,7 +7,7 @@ use lib.Ieee.{Float}
 use Rattle.box_rows.specs.Rows as box
 use Rattle.boxed.specs.Sweep as sweep
 use Rattle.boxed.specs.Solve as def
-use Rattle.boxed.specs.Solve.{Run, going, ended, exact, converged, infeasible, Iterate, iterate}
+use Rattle.boxed.specs.Solve.{Run, going, ended, exact, converged, conflict, Iterate, iterate}
 use Rattle.boxed.specs.Private.{Ran, Finished}
 use Rattle.boxed.specs.declared.Counts.{Counts}
 use Rattle.boxed.specs.declared.Sweeping.{Sweeping}
@@ -48,7 +48,7 @@ finished p idle g nu st c a st′ e f (ended converged s) l₀ l h =
     let n : nu ≡ s .nu = ap (λ (x : Iterate). x .nu) (h .reached) in
     let m : st ≡ s .states = ap (λ (x : Iterate). x .states) (h .reached) in
     record { answer = rw (h .answer, h .reached) at e; multipliers = n; states = rw (← n, ← m) (rw (h .answer) at f); listed = h .listed }
-finished p idle g nu st c a st′ e f (ended (infeasible b r) s) l₀ l h =
+finished p idle g nu st c a st′ e f (ended (conflict b r) s) l₀ l h =
     let n : nu ≡ s .nu = ap (λ (x : Iterate). x .nu) (h .reached) in
     let m : st ≡ s .states = ap (λ (x : Iterate). x .states) (h .reached) in
     record { answer = rw (h .answer, h .reached) at e; multipliers = n; states = (rw (h .answer) at f) ∙ m; listed = h .listed }

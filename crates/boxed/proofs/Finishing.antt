@@ -7,14 +7,15 @@ use lib.Dec.{eqb}
 use lib.Ieee.{Float}
 use Rattle.box_rows.specs.Rows.{Problem, size}
 use Rattle.boxed.specs.Sweep.{Start, start}
-use Rattle.boxed.specs.Solve.{Run, going, ended, exact, converged, infeasible, iterate, counts, Watch, run, left, solved, unfound, result, nothing, solve, used}
+use Rattle.boxed.specs.Solve.{Run, going, ended, exact, converged, conflict, iterate, counts, Watch, run, solved, unfound, result, solve, used}
+use Rattle.boxed.specs.Private.{left, nothing}
 
 result-uses : (p : Problem) (idle : ℕ) (l : List ℕ) (r : Run) → used (result p idle l r .outcome) ≡ 2304
 unfolding result unfound
 result-uses p idle l (going s) = refl
 result-uses p idle l (ended converged s) = refl
 result-uses p idle l (ended exact s) = refl
-result-uses p idle l (ended (infeasible c r) s) = refl
+result-uses p idle l (ended (conflict c r) s) = refl
 
 pub solve-uses : (cap : ℕ) (p : Problem) (m : Watch) (nu : List Float) (st l : List ℕ) → used (solve cap p m nu st l .outcome) ≡ 2304
 unfolding solve

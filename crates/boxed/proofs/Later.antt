@@ -11,6 +11,7 @@ use Rattle.loops.specs.Loops.{turns}
 use Rattle.floats.specs.Ops.{at}
 use Rattle.box_rows.specs.Rows as box
 use Rattle.boxed.specs.Sweep as def
+use Rattle.boxed.specs.Private as private
 
 set-later : (b : Bool) (l : List Float) (i j : ℕ) (v : Float) → suc i ≤ j → at (cond b (set l i v) l) j ≡ at l j
 set-later true l i j v h = getD-set-other l i j v nan (λ e. omega (arith, e, h))
@@ -18,6 +19,6 @@ set-later false l i j v h = refl
 
 module _ (w uFree lo hi : List Float) (st : List ℕ) (nu : List Float) where
   pub sweep-later : (i j : ℕ) → i ≤ j → at (def.sweep w uFree lo hi st nu i) j ≡ at nu j
-  unfolding def.sweep def.sweepRow turns
+  unfolding def.sweep private.sweepRow turns
   sweep-later zero j h = refl
   sweep-later (suc i) j h = set-later (box.acts st i) (def.sweep w uFree lo hi st nu i) i j _ h ∙ sweep-later i j (omega arith)

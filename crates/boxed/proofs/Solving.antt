@@ -9,6 +9,7 @@ use borrow.Author.Tests.{eq-eqb, ne-eqb}
 use Rattle.box_rows.specs.Rows as box
 use Rattle.box_rows.proofs.Matrix.{later}
 use Rattle.boxed.specs.Sweep as sweeps
+use Rattle.boxed.specs.Private as private
 use Rattle.boxed.specs.Solve as def
 use Rattle.boxed.specs.Solve.{iterate, Watch, Left}
 use Rattle.boxed.specs.Private.{Finished}
@@ -20,11 +21,11 @@ use Rattle.boxed.specs.declared.BoxAnswer.the-variants.{Solved, Refused}
 -- ---- from the start of a solve: every row Idle, or not
 
 module _ (cap : ℕ) (p : box.Problem) (m : Watch) (nu : List Float) (st l : List ℕ) (long : length nu ≡ box.size p) (idle : ℕ) (nu₁ : List Float) (st₁ : List ℕ)
-    (starts : sweeps.started nu₁ st₁ idle ≡ sweeps.start (p .w) (length nu) (p .lo) (p .hi) nu st (length nu)) where
-  begun : sweeps.start (p .w) (box.size p) (p .lo) (p .hi) nu st (box.size p) ≡ sweeps.started nu₁ st₁ idle
+    (starts : private.started nu₁ st₁ idle ≡ sweeps.start (p .w) (length nu) (p .lo) (p .hi) nu st (length nu)) where
+  begun : sweeps.start (p .w) (box.size p) (p .lo) (p .hi) nu st (box.size p) ≡ private.started nu₁ st₁ idle
   begun = rw (← long) (sym starts)
 
-  pub all-idle : idle ≡ length nu → (r : BoxReport) → r ≡ def.nothing idle → Finished (def.solve cap p m nu st l) (Solved r) nu₁ st₁ l
+  pub all-idle : idle ≡ length nu → (r : BoxReport) → r ≡ private.nothing idle → Finished (def.solve cap p m nu st l) (Solved r) nu₁ st₁ l
   unfolding def.solve
   all-idle h r e = rw (begun, eq-eqb idle (box.size p) (h ∙ long)) (record { answer = ap Solved e; multipliers = refl; states = refl; listed = refl })
 

@@ -8,6 +8,7 @@ use native.Mathlib.Numerals.{add-one}
 use lib.Ieee.{Float}
 use Rattle.loops.specs.Loops.{turns, counted}
 use Rattle.boxed.specs.Sweep as def
+use Rattle.boxed.specs.Private as private
 
 -- a count of rows is at most the number of rows
 pub counted-within : (b : Bool) (k i q : ℕ) → q ≡ counted b k → k ≤ i → q ≤ i + 1
@@ -21,9 +22,9 @@ module _ (w uFree lo hi : List Float) (st : List ℕ) (nu : List Float) where
   stopped-start = refl
 
   -- v are the multipliers when the sweep comes to row i
-  pub stopped-again : (i k k′ : ℕ) (v : List Float) → k ≡ def.stopped w uFree lo hi st nu i → v ≡ def.sweep w uFree lo hi st nu i → k′ ≡ counted (def.stops w uFree lo hi st i v) k
+  pub stopped-again : (i k k′ : ℕ) (v : List Float) → k ≡ def.stopped w uFree lo hi st nu i → v ≡ def.sweep w uFree lo hi st nu i → k′ ≡ counted (private.stops w uFree lo hi st i v) k
       → k′ ≡ def.stopped w uFree lo hi st nu (i + 1)
-  unfolding def.stopped turns
+  unfolding def.stopped private.stops turns
   stopped-again i k k′ v e f g = rw (add-one i, g, f, e)
 
   pub stopped-done : (i n k : ℕ) → i ≤ n → n ≤ i → k ≡ def.stopped w uFree lo hi st nu i → k ≡ def.stopped w uFree lo hi st nu n

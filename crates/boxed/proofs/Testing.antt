@@ -15,6 +15,7 @@ use Rattle.box_rows.specs.Private.{Sized}
 use Rattle.exact_pass.specs.Ray.{ray}
 use Rattle.exact_pass.specs.Promise.{fits, rayReply, Front}
 use Rattle.boxed.specs.Sweep as sweep
+use Rattle.boxed.specs.Private as private
 use Rattle.boxed.specs.Solve as def
 use Rattle.boxed.specs.Solve.{iterate, watch, going}
 use Rattle.boxed.specs.Private.{Ran}
@@ -46,7 +47,7 @@ all-fit p st v rows z s e h = rw (le-leb _ _ (z .0), eq-eqb _ _ (z .1), eq-eqb _
 
 change-length : (nu before : List Float) (n : ℕ) → length (sweep.change nu before n) ≡ n
 unfolding sweep.change
-change-length nu before n = tab-length (sweep.changeAt nu before) n
+change-length nu before n = tab-length (private.changeAt nu before) n
 
 module _ (nu before y z : List Float) (n : ℕ) (e : y ≡ sweep.change nu before (length nu)) (h : length nu ≡ n) where
   changed : y ≡ sweep.change nu before n

@@ -13,8 +13,9 @@ use Rattle.loops.specs.Gathering.{Gathering}
 use Rattle.loops.proofs.Turns.{stays}
 use Rattle.box_rows.specs.Rows as box
 use Rattle.boxed.specs.Sweep as sweeps
+use Rattle.boxed.specs.Private as private
 use Rattle.boxed.specs.Solve as def
-use Rattle.boxed.specs.Solve.{Run, going, ended, exact, converged, infeasible, Iterate, iterate, Watch}
+use Rattle.boxed.specs.Solve.{Run, going, ended, exact, converged, conflict, Iterate, iterate, Watch}
 use Rattle.boxed.specs.Private.{Ran, isGoing}
 use Rattle.boxed.proofs.Testing.{none-fight, some-fight}
 use Rattle.exact_pass.specs.Promise.{Front}
@@ -30,7 +31,7 @@ module _ (l₀ : List ℕ) (g : Sweeping) (nu : List Float) (st : List ℕ) (c :
   goes-on (going s) h f = (ap going (sym (h .reached)), h .listed)
   goes-on (ended exact s) h f = absurd (true≢false (sym (rw (h .answer) at f)))
   goes-on (ended converged s) h f = absurd (true≢false (sym (rw (h .answer) at f)))
-  goes-on (ended (infeasible k r) s) h f = absurd (true≢false (sym (rw (h .answer) at f)))
+  goes-on (ended (conflict k r) s) h f = absurd (true≢false (sym (rw (h .answer) at f)))
 
   tested-ended : (p : box.Problem) (m : Watch) (before : List Float) (r : Run) → Ran r l₀ g nu st c l → isGoing g ≡ false → def.tested p m before r ≡ r
   unfolding def.tested
@@ -55,7 +56,7 @@ one-more n s t e = rw (add-one (n .sweeps), e)
 module _ (cap : ℕ) (p : box.Problem) (m : Watch) (nu : List Float) (st : List ℕ) (n : Counts) (i : ℕ) (rows : List ℕ) (nu₁ : List Float) (c : Counts) (k : ℕ) (rows₁ : List ℕ)
     (swept : nu₁ ≡ sweeps.sweep (p .w) (p .uFree) (p .lo) (p .hi) st nu (box.size p))
     (counted : c ≡ def.counts (suc (n .sweeps)) (n .passes) (sweeps.stopped (p .w) (p .uFree) (p .lo) (p .hi) st nu (box.size p))) (long : length nu₁ ≡ box.size p)
-    (grew : Gathering (sweeps.grownAt nu₁ (p .scale)) rows (length nu₁) k rows₁) where
+    (grew : Gathering (private.grownAt nu₁ (p .scale)) rows (length nu₁) k rows₁) where
   abbrev after : Run
   after = def.unless cause.Growth (iterate nu₁ st c) (sweeps.grown nu₁ (p .scale) (length nu₁))
 
@@ -64,6 +65,7 @@ module _ (cap : ℕ) (p : box.Problem) (m : Watch) (nu : List Float) (st : List 
   turn-is = rw (long, counted, swept)
 
   front : Front (sweeps.grown nu₁ (p .scale) (length nu₁)) rows k rows₁
+  unfolding private.isGrown
   front = record { count = grew .count; front = grew .front }
 
   pub turn-grown : (k ≡ 0 → ⊥) → Ran (def.turn cap p m i (going (iterate nu st n))) rows (sweeping.Infeasible cause.Growth k) nu₁ st c rows₁

@@ -1,21 +1,27 @@
 -- Words of private contracts: what the code tells of a run between two sweeps, and what it leaves. No promise of a public call stands on them; those are in Solve.antt.
 -- Definitions only.
-use Prim.Native.Nat.{ℕ, _≤_, _<_}
+use Prim.Native.Nat.{ℕ, suc, _≤_, _<_}
 use mathlib.Core.Path.{_≡_}
-use mathlib.Core.Bool.{Bool, true, false}
-use mathlib.Core.List.{List}
-use lib.ListN.{length, drop}
-use lib.Ieee.{Float}
-use Rattle.loops.specs.Loops.{fronted}
+use mathlib.Core.Bool.{Bool, true, false, cond, _&&_}
+use mathlib.Core.List.{List, [], _∷_}
+use lib.ListN.{length, drop, set}
+use lib.Ieee.{Float, lt}
+use Rattle.loops.specs.Loops.{turns, fronted}
+use Rattle.floats.specs.Ops.{_⊕_, _⊖_, _⊗_, at, 0ᶠ, 1e6}
+use Rattle.floats.specs.Helpers.{clamp, larger, abs, isFinite}
+use Rattle.box_rows.specs.Rows as box
+use Rattle.box_rows.specs.Private as lists
 use Rattle.exact_pass.specs.Pass.{Pass}
 use Rattle.exact_pass.specs.Promise.{Passed}
 use Rattle.exact_pass.specs.declared.Exact.{Exact}
 use Rattle.boxed.specs.declared.Counts.{Counts}
 use Rattle.boxed.specs.declared.Sweeping.{Sweeping}
 use Rattle.boxed.specs.declared.Sweeping.the-variants as sweeping
+use Rattle.boxed.specs.declared.BoxReport.{BoxReport}
 use Rattle.boxed.specs.declared.BoxAnswer.{BoxAnswer}
-use Rattle.boxed.specs.Solve.{Run, going, ended, exact, converged, infeasible}
-use Rattle.boxed.specs.Solve.{Iterate, iterate, tried, passed, Result, answerOf}
+use Rattle.boxed.specs.Sweep as sweep
+use Rattle.boxed.specs.Solve.{Run, going, ended, exact, converged, conflict}
+use Rattle.boxed.specs.Solve.{Iterate, iterate, tried, passed, Outcome, Result, answerOf}
 
 abbrev pub isGoing : Sweeping → Bool
 isGoing sweeping.Going = true
@@ -27,7 +33,7 @@ abbrev pub sweepingOf : Run → Sweeping
 sweepingOf (going s) = sweeping.Going
 sweepingOf (ended exact s) = sweeping.Exact
 sweepingOf (ended converged s) = sweeping.Converged
-sweepingOf (ended (infeasible c l) s) = sweeping.Infeasible c (length l)
+sweepingOf (ended (conflict c l) s) = sweeping.Infeasible c (length l)
 
 abbrev pub iterateOf : Run → Iterate
 iterateOf (going s) = s
@@ -38,7 +44,7 @@ abbrev pub listedOf : Run → List ℕ → List ℕ
 listedOf (going s) l = l
 listedOf (ended exact s) l = l
 listedOf (ended converged s) l = l
-listedOf (ended (infeasible c r) s) l = fronted r l
+listedOf (ended (conflict c r) s) l = fronted r l
 
 -- how the code tells a run r, the row list having been l₀
 pub record Ran (r : Run) (l₀ : List ℕ) (g : Sweeping) (nu : List Float) (st : List ℕ) (c : Counts) (l : List ℕ) : Type 0 where
@@ -62,3 +68,65 @@ pub record Finished (x : Result) (r : BoxAnswer) (nu : List Float) (st l : List 
   pub multipliers : nu ≡ x .nu
   pub states : st ≡ x .states
   pub listed : l ≡ x .listed
+
+-- ---- single rows and short words of Sweep.antt, as the functions have them
+
+abbrev pub started : List Float → List ℕ → ℕ → sweep.Start
+started nu st k = record { nu = nu; states = st; idle = k }
+
+-- row i, of which d is the diagonal
+unfoldable pub startRow : Float → Float → Float → ℕ → sweep.Start → sweep.Start
+startRow d lo hi i s =
+    cond (box.isIdle d)
+    (started (set (s .nu) i (clamp 0ᶠ lo hi)) (set (s .states) i box.idle) (suc (s .idle)))
+    (started (set (s .nu) i (clamp (at (s .nu) i) lo hi)) (set (s .states) i box.inside) (s .idle))
+
+unfoldable pub sweepRow : List Float → List Float → List Float → List Float → List ℕ → ℕ → List Float → List Float
+sweepRow w uFree lo hi st i nu =
+    let r = box.row w (length uFree) i in
+    cond (box.acts st i)
+    (set nu i (box.update (at nu i) (box.rowSum r (at uFree i) nu) (at r i) (at lo i) (at hi i)))
+    nu
+
+-- whether row i is stopped at a bound
+unfoldable pub stops : List Float → List Float → List Float → List Float → List ℕ → ℕ → List Float → Bool
+stops w uFree lo hi st i nu =
+    let r = box.row w (length uFree) i in
+    box.acts st i && lists.isStopped (box.updateSide (at nu i) (box.rowSum r (at uFree i) nu) (at r i) (at lo i) (at hi i))
+
+unfoldable pub isGrown : Float → Float → Bool
+isGrown v s = lt (1e6 ⊗ s) (abs v)
+
+abbrev pub grownAt : List Float → List Float → ℕ → Bool
+grownAt nu scale i = isGrown (at nu i) (at scale i)
+
+unfoldable pub residualRow : box.Problem → List ℕ → List Float → ℕ → Float → Float
+residualRow p st nu i worst = cond (box.acts st i) (larger worst (box.residualAt p nu i)) worst
+
+unfoldable pub coordinate : List Float → List Float → List Float → ℕ → Float
+coordinate r nu before i = turns i 0ᶠ λ i s. s ⊕ at r i ⊗ (at nu i ⊖ at before i)
+
+abbrev pub changeAt : List Float → List Float → ℕ → Float
+changeAt nu before i = at nu i ⊖ at before i
+
+unfoldable pub classifyRow : List Float → List Float → List Float → List Float → ℕ → List ℕ → List ℕ
+classifyRow lo hi scale nu i st = cond (box.acts st i) (set st i (box.stateOf (at lo i) (at hi i) (at scale i) (at nu i))) st
+
+-- ---- and of Solve.antt
+
+-- the table of checkpoints
+abbrev pub table : List ℕ
+table = 1 ∷ 2 ∷ 4 ∷ 8 ∷ 16 ∷ 32 ∷ 64 ∷ 128 ∷ []
+
+abbrev pub left : Outcome → List Float → List ℕ → List ℕ → Result
+left o nu st l = record { outcome = o; nu = nu; states = st; listed = l }
+
+-- the report where all rows are Idle
+abbrev pub nothing : ℕ → BoxReport
+nothing idle = record { sweeps = 0; «exact_passes» = 0; converged = true; exact = true; residual = 0ᶠ; idle = idle; stopped = 0 }
+
+unfoldable pub goodScale : Float → Bool
+goodScale s = isFinite s && lt 0ᶠ s
+
+abbrev pub goodScaleAt : List Float → ℕ → Bool
+goodScaleAt scale i = goodScale (at scale i)

@@ -1,5 +1,5 @@
 -- `BoxSolver::solve` of boxed.rs by document 01: the sweeps with their tests, the ending, the refusals. Definitions only.
-use Prim.Native.Nat.{ℕ, zero, suc, _*_, _%_}
+use Prim.Native.Nat.{ℕ, zero, suc, _*_, _/_, _%_}
 use mathlib.Core.Path.{_≡_}
 use mathlib.Core.Bool.{Bool, true, false, not, cond, _&&_, _||_}
 use mathlib.Core.List.{List, [], _∷_, _++_}
@@ -22,15 +22,12 @@ use Rattle.boxed.specs.declared.BoxAnswer.the-variants.{Solved, Infeasib
 
 -- ---- the sweeps after which an exact pass is tried: the table's, and the last that there may be
 
-abbrev pub table : List ℕ
-table = 1 ∷ 2 ∷ 4 ∷ 8 ∷ 16 ∷ 32 ∷ 64 ∷ 128 ∷ []
-
 unfoldable pub member : ℕ → List ℕ → Bool
 member k [] = false
 member k (a ∷ l) = eqb k a || member k l
 
 abbrev pub checkpoint : ℕ → ℕ → Bool
-checkpoint cap k = member k (table ++ (cap ∷ []))
+checkpoint cap k = member k (1 ∷ 2 ∷ 4 ∷ 8 ∷ 16 ∷ 32 ∷ 64 ∷ 128 ∷ cap ∷ [])
 
 -- ---- a solve between two sweeps, or how it ended
 
@@ -48,7 +45,7 @@ iterate nu st c = record { nu = nu; states = st; counts = c }
 
 pub data Ending : Type 0 where
   exact converged : Ending
-  infeasible : Cause → List ℕ → Ending
+  conflict : Cause → List ℕ → Ending
 
 pub data Run : Type 0 where
   going : Iterate → Run
@@ -56,7 +53,7 @@ pub data Run : Type 0 where
 
 unfoldable pub unless : Cause → Iterate → List ℕ → Run
 unless c s [] = going s
-unless c s (a ∷ l) = ended (infeasible c (a ∷ l)) s
+unless c s (a ∷ l) = ended (conflict c (a ∷ l)) s
 
 -- ---- a sweep and its tests
 
@@ -68,7 +65,7 @@ unfoldable pub passed : Iterate → pass.Pass → Run
 passed s (pass.moved t) = going (iterate (s .nu) (t .states) (tried (s .counts)))
 passed s (pass.failed t) = going (iterate (s .nu) (t .states) (tried (s .counts)))
 passed s (pass.found t) = ended exact (iterate (t .nu) (t .states) (tried (s .counts)))
-passed s (pass.infeasible l t) = ended (infeasible cause.Pass l) (iterate (s .nu) (t .states) (tried (s .counts)))
+passed s (pass.infeasible l t) = ended (conflict cause.Pass l) (iterate (s .nu) (t .states) (tried (s .counts)))
 
 unfoldable pub checked : ℕ → box.Problem → Run → Run
 checked cap p (ended e s) = ended e s
@@ -86,7 +83,7 @@ watch motion tolerance = record { motion = motion; tolerance = tolerance }
 unfoldable pub tested : box.Problem → Watch → List Float → Run → Run
 tested p m before (ended e s) = ended e s
 tested p m before (going s) =
-    cond (sweep.hasStopped (m .motion) (m .tolerance) (s .nu) before)
+    cond (le (sweep.moved (m .motion) (s .nu) before (length (m .motion) / length (s .nu))) (m .tolerance))
     (cond (le (sweep.residual p (s .states) (s .nu) (box.size p)) 1e-9) (ended converged s)
     (unless cause.Sweep s (ray p (s .states) (sweep.change (s .nu) before (box.size p)))))
     (going s)
@@ -117,9 +114,6 @@ pub record Result : Type 0 where
   pub states : List ℕ
   pub listed : List ℕ
 
-abbrev pub left : Outcome → List Float → List ℕ → List ℕ → Result
-left o nu st l = record { outcome = o; nu = nu; states = st; listed = l }
-
 unfoldable pub reportOf : box.Problem → ℕ → Bool → Bool → Iterate → BoxReport
 reportOf p idle c e s =
     record {
@@ -135,54 +129,48 @@ reportOf p idle c e s =
 -- where no pass found the solution, the states are those that the multipliers show
 unfoldable pub unfound : box.Problem → ℕ → List ℕ → Bool → Iterate → Result
 unfound p idle l c s =
-    left (solved (reportOf p idle c false s)) (s .nu) (sweep.classified (p .lo) (p .hi) (p .scale) (s .nu) (s .states) (box.size p)) l
+    record {
+      outcome = solved (reportOf p idle c false s);
+      nu = s .nu;
+      states = sweep.classified (p .lo) (p .hi) (p .scale) (s .nu) (s .states) (box.size p);
+      listed = l;
+    }
 
 unfoldable pub result : box.Problem → ℕ → List ℕ → Run → Result
 result p idle l (going s) = unfound p idle l false s
 result p idle l (ended converged s) = unfound p idle l true s
-result p idle l (ended exact s) = left (solved (reportOf p idle true true s)) (s .nu) (s .states) l
-result p idle l (ended (infeasible c r) s) = left (infeasible c r (reportOf p idle false false s)) (s .nu) (s .states) (fronted r l)
+result p idle l (ended exact s) =
+    record { outcome = solved (reportOf p idle true true s); nu = s .nu; states = s .states; listed = l }
+result p idle l (ended (conflict c r) s) =
+    record { outcome = infeasible c r (reportOf p idle false false s); nu = s .nu; states = s .states; listed = fronted r l }
 
--- all rows Idle: nothing to solve
-abbrev pub nothing : ℕ → BoxReport
-nothing idle = record { sweeps = 0; «exact_passes» = 0; converged = true; exact = true; residual = 0ᶠ; idle = idle; stopped = 0 }
-
--- st are n states
+-- st are n states. Where all rows are Idle there is nothing to solve.
 unfoldable pub solve : ℕ → box.Problem → Watch → List Float → List ℕ → List ℕ → Result
 solve cap p m nu st l =
     let b = sweep.start (p .w) (box.size p) (p .lo) (p .hi) nu st (box.size p) in
-    cond (eqb (b .idle) (box.size p)) (left (solved (nothing (b .idle))) (b .nu) (b .states) l)
+    let r : BoxReport =
+    record { sweeps = 0; «exact_passes» = 0; converged = true; exact = true; residual = 0ᶠ; idle = b .idle; stopped = 0 } in
+    cond (eqb (b .idle) (box.size p)) (record { outcome = solved r; nu = b .nu; states = b .states; listed = l })
     (result p (b .idle) l (run cap p m (iterate (b .nu) (b .states) (counts 0 0 0)) cap))
 
 -- ---- refusals, in the order of document 01: 0 is none. `room` is the workspace's length.
 
-unfoldable pub goodScale : Float → Bool
-goodScale s = isFinite s && lt 0ᶠ s
-
-abbrev pub goodScaleAt : List Float → ℕ → Bool
-goodScaleAt scale i = goodScale (at scale i)
-
-abbrev pub first : List (Bool × ℕ) → ℕ
-first [] = 0
-first (c ∷ l) = cond (c .0) (c .1) (first l)
-
 unfoldable pub refusal : box.Problem → List Float → List Float → List ℕ → List ℕ → ℕ → ℕ
 refusal p motion nu st l room =
     let n = box.size p in
-    first
-    ((ltb 32 n || ltb 2048 (length motion), 5) ∷
-    (not (eqb (length (p .w)) (n * n)), 6) ∷
-    (not (eqb (length (p .lo)) n && eqb (length (p .hi)) n && eqb (length (p .scale)) n && eqb (length nu) n), 7) ∷
-    (not (every (goodScaleAt (p .scale)) n), 8) ∷
-    (ltb 0 n && not (eqb (length motion % n) 0), 9) ∷
-    (ltb room 2304 || ltb (length st) n || ltb (length l) n, 10) ∷ [])
+    cond (ltb 32 n || ltb 2048 (length motion)) 5
+    (cond (not (eqb (length (p .w)) (n * n))) 6
+    (cond (not (eqb (length (p .lo)) n && eqb (length (p .hi)) n && eqb (length (p .scale)) n && eqb (length nu) n)) 7
+    (cond (not (every (λ (i : ℕ). isFinite (at (p .scale) i) && lt 0ᶠ (at (p .scale) i)) n)) 8
+    (cond (ltb 0 n && not (eqb (length motion % n) 0)) 9
+    (cond (ltb room 2304 || ltb (length st) n || ltb (length l) n) 10 0)))))
 
 -- states past the n of the problem stay
 unfoldable pub reply : ℕ → box.Problem → Watch → List Float → List ℕ → List ℕ → ℕ → Result
 reply cap p m nu st l zero =
     let x = solve cap p m nu (take (box.size p) st) l in
-    left (x .outcome) (x .nu) (x .states ++ drop (box.size p) st) (x .listed)
-reply cap p m nu st l (suc k) = left (refused (suc k)) nu st l
+    record { outcome = x .outcome; nu = x .nu; states = x .states ++ drop (box.size p) st; listed = x .listed }
+reply cap p m nu st l (suc k) = record { outcome = refused (suc k); nu = nu; states = st; listed = l }
 
 -- the most sweeps one solve runs
 abbrev pub SWEEP_CAP : ℕ

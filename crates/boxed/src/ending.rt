@@ -18,7 +18,7 @@ use crate::tests;
 
 // All rows Idle: nothing to solve.
 pub fn nothing(idle: u32) -> BoxReport
-    ensures { λ q. ⌜ q ≡ def.nothing idle ⌝ }
+    ensures { λ q. ⌜ q ≡ private.nothing idle ⌝ }
 {
     BoxReport {
         sweeps: 0,
@@ -36,7 +36,7 @@ fn classify_row(lo: &[f64], hi: &[f64], scale: &[f64], nu: &[f64], states: &mut 
         (i < length (now states)) × (length (now lo) ≡ length (now states)) × (length (now hi) ≡ length (now states))
         × (length (now scale) ≡ length (now states)) × (length (now nu) ≡ length (now states)) ⌝ }
     ensures { λ q. ⌜ now (states .exit)
-        ≡ sweeps.classifyRow (now (lo .entry)) (now (hi .entry)) (now (scale .entry)) (now (nu .entry)) i
+        ≡ private.classifyRow (now (lo .entry)) (now (hi .entry)) (now (scale .entry)) (now (nu .entry)) i
         (now (states .entry)) ⌝ }
 {
     if read::state(states, i) == box_rows::IDLE {

@@ -5,12 +5,13 @@ ghost use lib.ListN.{length};
 ghost use Rattle.loops.specs.Loops.{counted, noted};
 ghost use Rattle.loops.specs.Gathering.{Gathering};
 ghost use Rattle.boxed.specs.Sweep as def;
+ghost use Rattle.boxed.specs.Private as private;
 use crate::read;
 
 fn grown_row(v: f64, s: f64, i: usize, k: usize, rows: &mut [usize]) -> usize
     requires { ⌜ k < length (now rows) ⌝ }
-    ensures { λ q. ⌜ (q ≡ counted (def.isGrown v s) k)
-        × (now (rows .exit) ≡ noted (def.isGrown v s) (now (rows .entry)) k i) ⌝ }
+    ensures { λ q. ⌜ (q ≡ counted (private.isGrown v s) k)
+        × (now (rows .exit) ≡ noted (private.isGrown v s) (now (rows .entry)) k i) ⌝ }
 {
     if floats::abs(v) > exact_pass::DIVERGENCE * s {
         read::put_number(rows, k, i);
@@ -22,7 +23,7 @@ fn grown_row(v: f64, s: f64, i: usize, k: usize, rows: &mut [usize]) -> usize
 // They stand at the front of `rows`, rising; how many there are.
 pub fn grown(nu: &[f64], scale: &[f64], rows: &mut [usize]) -> usize
     requires { ⌜ (length (now scale) ≡ length (now nu)) × (length (now nu) ≤ length (now rows)) ⌝ }
-    ensures { λ q. ⌜ Gathering (def.grownAt (now (nu .entry)) (now (scale .entry))) (now (rows .entry))
+    ensures { λ q. ⌜ Gathering (private.grownAt (now (nu .entry)) (now (scale .entry))) (now (rows .entry))
         (length (now (nu .entry))) q (now (rows .exit)) ⌝ }
 {
     let n = nu.len();

@@ -7,6 +7,7 @@ ghost use lib.ListN.{length};
 ghost use Rattle.loops.specs.Loops as loop;
 ghost use Rattle.box_rows.specs.Rows as box;
 ghost use Rattle.boxed.specs.Solve as def;
+ghost use Rattle.boxed.specs.Private as private;
 use crate::read;
 
 // 5: more than 32 rows, or motion of more than 2,048 values.
@@ -45,7 +46,7 @@ fn unequal(lo: usize, hi: usize, scale: usize, nu: usize, n: usize) -> bool
 
 // 8: a scale that is NaN, infinite or not above 0.
 fn good_scale(s: f64) -> bool
-    ensures { λ r. ⌜ r ≡ def.goodScale s ⌝ }
+    ensures { λ r. ⌜ r ≡ private.goodScale s ⌝ }
 {
     if floats::is_finite(s) {
         return s > 0.0;
@@ -55,7 +56,7 @@ fn good_scale(s: f64) -> bool
 
 fn good_scales(scale: &[f64], n: usize) -> bool
     requires { ⌜ length (now scale) ≡ n ⌝ }
-    ensures { λ r. ⌜ r ≡ loop.every (def.goodScaleAt (now (scale .entry))) n ⌝ }
+    ensures { λ r. ⌜ r ≡ loop.every (private.goodScaleAt (now (scale .entry))) n ⌝ }
 {
     let mut good = true;
     let mut i = 0;

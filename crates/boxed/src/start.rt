@@ -5,6 +5,7 @@ ghost use Prim.Native.Nat.{_+_, _≤_, _<_};
 ghost use lib.ListN.{length};
 ghost use Rattle.box_rows.specs.Private as lists;
 ghost use Rattle.boxed.specs.Sweep as def;
+ghost use Rattle.boxed.specs.Private as private;
 use crate::read;
 
 // Row i, of which d is the diagonal; how many rows up to it are Idle.
@@ -19,8 +20,8 @@ fn start_row(
 ) -> usize
     requires { ⌜ (i < length (now nu)) × (length (now states) ≡ length (now nu)) × (idle ≤ i) ⌝ }
     ensures { λ q. ⌜
-        (def.started (now (nu .exit)) (now (states .exit)) q
-        ≡ def.startRow d lo hi i (def.started (now (nu .entry)) (now (states .entry)) idle))
+        (private.started (now (nu .exit)) (now (states .exit)) q
+        ≡ private.startRow d lo hi i (private.started (now (nu .entry)) (now (states .entry)) idle))
         × (q ≤ i + 1) ⌝ }
 {
     if box_rows::is_idle(d) {
@@ -40,7 +41,7 @@ pub fn start(w: &[f64], lo: &[f64], hi: &[f64], states: &mut [u8], nu: &mut [f64
     requires { ⌜ lists.Square (now w) (length (now nu)) × (length (now lo) ≡ length (now nu))
         × (length (now hi) ≡ length (now nu)) × (length (now states) ≡ length (now nu)) ⌝ }
     ensures { λ q. ⌜
-        (def.started (now (nu .exit)) (now (states .exit)) q
+        (private.started (now (nu .exit)) (now (states .exit)) q
         ≡ def.start (now (w .entry)) (length (now (nu .entry))) (now (lo .entry)) (now (hi .entry))
         (now (nu .entry)) (now (states .entry)) (length (now (nu .entry))))
         × (q ≤ length (now (nu .entry))) ⌝ }

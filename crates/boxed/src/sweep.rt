@@ -3,15 +3,15 @@ ghost use mathlib.Core.Path.{_≡_};
 ghost use Prim.Native.Nat.{_+_, _≤_, _<_};
 ghost use lib.ListN.{length};
 ghost use Rattle.loops.specs.Loops.{counted};
-ghost use Rattle.box_rows.specs.Rows as box;
 ghost use Rattle.box_rows.specs.Private as lists;
 ghost use Rattle.boxed.specs.Sweep as def;
+ghost use Rattle.boxed.specs.Private as private;
 use crate::read;
 
 // k, and one more where an update is stopped at this side.
 fn count(side: u8, k: u32) -> u32
     requires { ⌜ k < 0xffff_ffff ⌝ }
-    ensures { λ q. ⌜ q ≡ counted (box.isStopped side) k ⌝ }
+    ensures { λ q. ⌜ q ≡ counted (lists.isStopped side) k ⌝ }
 {
     if side == floats::NONE {
         return k;
@@ -34,9 +34,9 @@ fn sweep_row(
         × (length (now hi) ≡ length (now «u_free»)) × (length (now states) ≡ length (now «u_free»))
         × (length (now nu) ≡ length (now «u_free»)) × (i < length (now «u_free»)) × (k ≤ i) ⌝ }
     ensures { λ q. ⌜
-        (now (nu .exit) ≡ def.sweepRow (now (w .entry)) (now («u_free» .entry)) (now (lo .entry)) (now (hi .entry))
+        (now (nu .exit) ≡ private.sweepRow (now (w .entry)) (now («u_free» .entry)) (now (lo .entry)) (now (hi .entry))
         (now (states .entry)) i (now (nu .entry)))
-        × (q ≡ counted (def.stops (now (w .entry)) (now («u_free» .entry)) (now (lo .entry)) (now (hi .entry))
+        × (q ≡ counted (private.stops (now (w .entry)) (now («u_free» .entry)) (now (lo .entry)) (now (hi .entry))
         (now (states .entry)) i (now (nu .entry))) k)
         × (q ≤ i + 1) ⌝ }
 {

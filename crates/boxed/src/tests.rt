@@ -29,7 +29,7 @@ fn residual_row(
     requires { ⌜ lists.Sized (length (now «u_free»)) (now w) (now lo) (now hi) (now scale)
         × (length (now states) ≡ length (now «u_free»)) × (length (now nu) ≡ length (now «u_free»))
         × (i < length (now «u_free»)) ⌝ }
-    ensures { λ q. ⌜ q ≡ def.residualRow
+    ensures { λ q. ⌜ q ≡ private.residualRow
         (box.problem (now (w .entry)) (now («u_free» .entry)) (now (lo .entry)) (now (hi .entry)) (now (scale .entry)))
         (now (states .entry)) (now (nu .entry)) i worst ⌝ }
 {
@@ -79,7 +79,7 @@ pub fn residual(
 fn coordinate(row: &[f64], nu: &[f64], before: &[f64]) -> f64
     requires { ⌜ (length (now row) ≡ length (now nu)) × (length (now before) ≡ length (now nu)) ⌝ }
     ensures { λ q. ⌜
-        q ≡ def.coordinate (now (row .entry)) (now (nu .entry)) (now (before .entry)) (length (now (nu .entry))) ⌝ }
+        q ≡ private.coordinate (now (row .entry)) (now (nu .entry)) (now (before .entry)) (length (now (nu .entry))) ⌝ }
 {
     let n = nu.len();
     let mut s = 0.0;

@@ -16,7 +16,8 @@ use Rattle.loops.proofs.Turns.{turns-keep}
 use Rattle.loops.proofs.Gather.{From, Rising, those-gathered, each-at}
 use Rattle.floats.specs.Ops.{_⊕_, _⊗_, at, 0ᶠ}
 use Rattle.box_rows.specs.Rows.{state}
-use Rattle.exact_pass.specs.Pass.{isFree, freeRows, scattered, advance}
+use Rattle.exact_pass.specs.Pass.{freeRows, scattered, advance}
+use Rattle.exact_pass.specs.Private.{isFree}
 
 -- ---- a rising list has no number twice
 

@@ -1,5 +1,5 @@
 -- A run ends in the sweep that it counts, and until then it goes on; it counts the passes that it makes.
-use Prim.Native.Nat.{ℕ, zero, suc, _+_, _≤_, _<_}
+use Prim.Native.Nat.{ℕ, zero, suc, _+_, _/_, _≤_, _<_}
 use mathlib.Core.Path.{_≡_, refl, sym, _∙_, ap}
 use mathlib.Core.Bool.{Bool, true, false, cond, _&&_, and-false}
 use mathlib.Core.List.{List, [], _∷_}
@@ -7,6 +7,7 @@ use native.Mathlib.Omega.{arith}
 use native.Mathlib.Nat.{le-of-suc-le-suc}
 use lib.Arith.{lt-of-le-ne}
 use lib.Dec.{eqb}
+use lib.ListN.{length}
 use lib.Ieee.{Float, le}
 use borrow.Author.Tests.{eqb-true, eqb-false}
 use Rattle.loops.specs.Loops.{turns}
@@ -48,7 +49,7 @@ tested-counts : (p : Problem) (m : Watch) (before : List Float) (x : Run) → co
 unfolding tested unless
 tested-counts p m before (ended e s) = refl
 tested-counts p m before (going s) =
-    go (sweep.hasStopped (m .motion) (m .tolerance) (s .nu) before) (le (sweep.residual p (s .states) (s .nu) (size p)) 1e-9)
+    go (le (sweep.moved (m .motion) (s .nu) before (length (m .motion) / length (s .nu))) (m .tolerance)) (le (sweep.residual p (s .states) (s .nu) (size p)) 1e-9)
     (ray p (s .states) (sweep.change (s .nu) before (size p)))
   where
     go : (a b : Bool) (l : List ℕ) → countsOf (cond a (cond b (ended converged s) (unless cause.Sweep s l)) (going s)) ≡ s .counts

@@ -1,5 +1,5 @@
 -- What holds of a run after each sweep, going on or ended.
-use Prim.Native.Nat.{ℕ, suc, _-_, _≤_, _<_}
+use Prim.Native.Nat.{ℕ, suc, _-_, _/_, _≤_, _<_}
 use mathlib.Core.Path.{_≡_, refl, sym, _∙_, ap, subst}
 use mathlib.Core.Bool.{Bool, true, false, cond}
 use mathlib.Core.List.{List, [], _∷_}
@@ -16,7 +16,8 @@ use Rattle.exact_pass.specs.Ray.{ray}
 use Rattle.exact_pass.specs.Pass as pass
 use Rattle.exact_pass.specs.Pass.{trial, Pass, found, exactPass}
 use Rattle.boxed.specs.Sweep as sweep
-use Rattle.boxed.specs.Solve.{Ending, exact, converged, infeasible, Iterate, iterate, counts, tried, Run, going, ended, unless, checkpoint, passed, checked, Watch, tested, turn, run, SWEEP_CAP}
+use Rattle.boxed.specs.Private as sweeps
+use Rattle.boxed.specs.Solve.{Ending, exact, converged, conflict, Iterate, iterate, counts, tried, Run, going, ended, unless, checkpoint, passed, checked, Watch, tested, turn, run, SWEEP_CAP}
 use Rattle.boxed.specs.declared.Cause.the-variants as cause
 use Rattle.demand3.specs.Claims.{notAbove, oneSweep, sweptTo, sweepsAlone, stoppedTo, stoppedByLast, firstTried, LastStep}
 use Rattle.demand3.proofs.Rays.{grown-gathered, ray-gathered, ActsUnlimited}
@@ -72,7 +73,7 @@ pub record Exact (p : Problem) (nu₀ : List Float) (s : Iterate) : Type 0 where
 pub record Grew (p : Problem) (nu₀ : List Float) (s : Iterate) (l : List ℕ) : Type 0 where
   pub standing : Stands p nu₀ (s .counts .sweeps - 1) s
   pub some : 0 < length l
-  pub these : Gathered (λ i. sweep.isGrown (at (s .nu) i) (at (p .scale) i) ≡ true) (size p) l
+  pub these : Gathered (λ i. sweeps.isGrown (at (s .nu) i) (at (p .scale) i) ≡ true) (size p) l
 
 pub record Unmet (p : Problem) (nu₀ : List Float) (s : Iterate) (l : List ℕ) : Type 0 where
   pub standing : Stands p nu₀ (s .counts .sweeps) s
@@ -81,9 +82,9 @@ pub record Unmet (p : Problem) (nu₀ : List Float) (s : Iterate) (l : List ℕ)
 abbrev pub Ends : Problem → List Float → Ending → Iterate → Type 0
 Ends p nu₀ converged s = Converged p nu₀ s
 Ends p nu₀ exact s = Exact p nu₀ s
-Ends p nu₀ (infeasible cause.Growth l) s = Grew p nu₀ s l
-Ends p nu₀ (infeasible cause.Pass l) s = Unmet p nu₀ s l
-Ends p nu₀ (infeasible cause.Sweep l) s = Unmet p nu₀ s l
+Ends p nu₀ (conflict cause.Growth l) s = Grew p nu₀ s l
+Ends p nu₀ (conflict cause.Pass l) s = Unmet p nu₀ s l
+Ends p nu₀ (conflict cause.Sweep l) s = Unmet p nu₀ s l
 
 -- after k sweeps, with as many passes as c sweeps have
 abbrev pub Runs : Problem → List Float → ℕ → ℕ → Run → Type 0
@@ -95,7 +96,7 @@ module _ (p : Problem) (m : Watch) (nu₀ : List Float) (k : ℕ) (few : k < 200
   recount s c d e h = subst (λ (c : ℕ). Stands p nu₀ c s) e h
 
   grown-runs : (s : Iterate) (l : List ℕ) → s .counts .sweeps ≡ suc k → Stands p nu₀ k s
-      → Gathered (λ i. sweep.isGrown (at (s .nu) i) (at (p .scale) i) ≡ true) (size p) l → Runs p nu₀ (suc k) k (unless cause.Growth s l)
+      → Gathered (λ i. sweeps.isGrown (at (s .nu) i) (at (p .scale) i) ≡ true) (size p) l → Runs p nu₀ (suc k) k (unless cause.Growth s l)
   unfolding unless
   grown-runs s [] q h g = (q, h)
   grown-runs s (a ∷ l) q h g =
@@ -154,7 +155,7 @@ module _ (p : Problem) (m : Watch) (nu₀ : List Float) (k : ℕ) (few : k < 200
   tested-runs : (before : List Float) (x : Run) → Runs p nu₀ (suc k) (suc k) x → Runs p nu₀ (suc k) (suc k) (tested p m before x)
   unfolding tested
   tested-runs before (ended e s) h = h
-  tested-runs before (going s) h = go (sweep.hasStopped (m .motion) (m .tolerance) (s .nu) before) (le (sweep.residual p (s .states) (s .nu) (size p)) 1e-9) refl
+  tested-runs before (going s) h = go (le (sweep.moved (m .motion) (s .nu) before (length (m .motion) / length (s .nu))) (m .tolerance)) (le (sweep.residual p (s .states) (s .nu) (size p)) 1e-9) refl
     where
       y : List Float
       y = sweep.change (s .nu) before (size p)

@@ -23,10 +23,13 @@ use Rattle.floats.proofs.Maximum.{larger-fits}
 use Rattle.floats.proofs.Order.{le-left, le-right}
 use Rattle.floats.proofs.Box.{inBox}
 use Rattle.floats.proofs.Bound.{nil, above, nil-lo, nil-hi, nil-abs, nil-div, nil-not-above, acting-above, not-lt-negative, not-lt-positive}
-use Rattle.box_rows.specs.Rows.{Problem, size, rowOf, state, acts, isIdle, rowSum, update, naturalResidual, residualAt}
-use Rattle.exact_pass.specs.Pass.{pushed}
+use Rattle.box_rows.specs.Rows.{Problem, size, state, acts, isIdle, rowSum, update, naturalResidual, residualAt}
+use Rattle.box_rows.specs.Private.{rowOf}
+use Rattle.exact_pass.specs.Private.{pushed}
 use Rattle.boxed.specs.Sweep as sweep
-use Rattle.boxed.specs.Solve.{Ending, exact, converged, Iterate, counts, Run, going, ended, Watch, run, Outcome, refused, solved, infeasible, Result, left, reportOf, unfound, result, nothing, solve, reply, SWEEP_CAP}
+use Rattle.boxed.specs.Private as sweeps
+use Rattle.boxed.specs.Private.{left, nothing}
+use Rattle.boxed.specs.Solve.{Ending, exact, converged, conflict, Iterate, counts, Run, going, ended, Watch, run, Outcome, refused, solved, infeasible, Result, reportOf, unfound, result, solve, reply, SWEEP_CAP}
 use Rattle.boxed.proofs.Accepting.{Accepted, accepted}
 use Rattle.boxed.specs.declared.BoxReport.{BoxReport}
 use Rattle.boxed.specs.declared.Cause.{Cause}
@@ -46,8 +49,8 @@ use Rattle.demand3.proofs.Runs.{Stands, Exact, Runs, run-runs, started-
 -- ---- the residual is a value that an f64 holds
 
 residual-fits : (p : Problem) (st : List ℕ) (nu : List Float) → Fits (sweep.residual p st nu (size p))
-unfolding sweep.residual sweep.residualRow residualAt naturalResidual
-residual-fits p st nu = turns-keep (sweep.residualRow p st nu) 0ᶠ (λ i x. Fits x) (size p) (ofBits-fits binary64 0) λ i x b h. go i x h (acts st i)
+unfolding sweep.residual sweeps.residualRow residualAt naturalResidual
+residual-fits p st nu = turns-keep (sweeps.residualRow p st nu) 0ᶠ (λ i x. Fits x) (size p) (ofBits-fits binary64 0) λ i x b h. go i x h (acts st i)
   where
     go : (i : ℕ) (x : Float) → Fits x → (a : Bool) → Fits (cond a (larger x (residualAt p nu i)) x)
     go i x h true =
@@ -108,9 +111,9 @@ result-modest p idle l (going s) nu₀ z h = stands-modest p nu₀ idle false s 
 result-modest p idle l (ended converged s) nu₀ z h = stands-modest p nu₀ idle true s (s .counts .sweeps) z (h .1) (h .2 .standing)
 result-modest p idle l (ended exact s) nu₀ z h =
     report-modest p idle true true s (h .1) (rw (h .2 .passes) (due-most (s .counts .sweeps))) (rw (h .2 .stopped) (last-few p nu₀ z (s .counts .sweeps)))
-result-modest p idle l (ended (infeasible cause.Growth r) s) nu₀ z h = stands-modest p nu₀ idle false s (s .counts .sweeps - 1) z (h .1) (h .2 .standing)
-result-modest p idle l (ended (infeasible cause.Pass r) s) nu₀ z h = stands-modest p nu₀ idle false s (s .counts .sweeps) z (h .1) (h .2 .standing)
-result-modest p idle l (ended (infeasible cause.Sweep r) s) nu₀ z h = stands-modest p nu₀ idle false s (s .counts .sweeps) z (h .1) (h .2 .standing)
+result-modest p idle l (ended (conflict cause.Growth r) s) nu₀ z h = stands-modest p nu₀ idle false s (s .counts .sweeps - 1) z (h .1) (h .2 .standing)
+result-modest p idle l (ended (conflict cause.Pass r) s) nu₀ z h = stands-modest p nu₀ idle false s (s .counts .sweeps) z (h .1) (h .2 .standing)
+result-modest p idle l (ended (conflict cause.Sweep r) s) nu₀ z h = stands-modest p nu₀ idle false s (s .counts .sweeps) z (h .1) (h .2 .standing)
 
 -- ---- the claims of an accepted solve
 
@@ -271,8 +274,8 @@ module _ (c : Call) (zeroth : number c ≡ 0) (fair : BoundsInOrder (c .problem)
         reasons = why;
       }
 
-  grew-reason : (nu : List Float) (i : ℕ) → sweep.isGrown (at nu i) (at (p .scale) i) ≡ true → Reason p nu cause.Growth i
-  unfolding sweep.isGrown
+  grew-reason : (nu : List Float) (i : ℕ) → sweeps.isGrown (at nu i) (at (p .scale) i) ≡ true → Reason p nu cause.Growth i
+  unfolding sweeps.isGrown
   grew-reason nu i h = sym (lt-abs (1e6 ⊗ at (p .scale) i) (at nu i)) ∙ h
 
   unlimited-reason : (nu : List Float) (st : List ℕ) (i : ℕ) → Stated p st → i < size p → ActsUnlimited p st i → Reason p nu cause.Pass i
@@ -310,26 +313,26 @@ module _ (c : Call) (zeroth : number c ≡ 0) (fair : BoundsInOrder (c .problem)
       let g = h .2 .standing in
       (zeroth, plain-sound _ idle true false s refl (ended-in converged s o (h .0) n) (h .1) (g .boxed) (g .alone) (g .passes) (λ z. h .2 .small) (g .stopped))
   result-claims idle (ended exact s) o n h = (zeroth, exact-sound _ idle s refl (row-states (s .states) (h .2 .tries .stated .long)) (ended-in exact s o (h .0) n) (h .1) (h .2))
-  result-claims idle (ended (infeasible cause.Growth r) s) o n h =
+  result-claims idle (ended (conflict cause.Growth r) s) o n h =
       let g = h .2 .standing in (
         zeroth,
-        plain-sound _ idle false true s refl (ended-in (infeasible cause.Growth r) s o (h .0) n) (h .1) (g .boxed) (g .alone)
+        plain-sound _ idle false true s refl (ended-in (conflict cause.Growth r) s o (h .0) n) (h .1) (g .boxed) (g .alone)
             (ended-below (s .counts .passes) (s .counts .sweeps) (h .0) (h .1) (g .passes)) (λ z. absurd (true≢false (sym z))) (g .stopped),
         listed-rows _ cause.Growth r refl (h .2 .some) (h .2 .these)
-            (λ k b. grew-reason (s .nu) (getD r k 0) (each-at (λ i. sweep.isGrown (at (s .nu) i) (at (p .scale) i) ≡ true) r (h .2 .these .passing) k b)),
+            (λ k b. grew-reason (s .nu) (getD r k 0) (each-at (λ i. sweeps.isGrown (at (s .nu) i) (at (p .scale) i) ≡ true) r (h .2 .these .passing) k b)),
       )
-  result-claims idle (ended (infeasible cause.Pass r) s) o n h =
+  result-claims idle (ended (conflict cause.Pass r) s) o n h =
       let g = h .2 .standing in
       let f = h .2 .rows in (
         zeroth,
-        plain-sound _ idle false false s refl (ended-in (infeasible cause.Pass r) s o (h .0) n) (h .1) (g .boxed) (g .alone) (g .passes) (λ z. absurd (true≢false (sym z))) (g .stopped),
+        plain-sound _ idle false false s refl (ended-in (conflict cause.Pass r) s o (h .0) n) (h .1) (g .boxed) (g .alone) (g .passes) (λ z. absurd (true≢false (sym z))) (g .stopped),
         listed-rows _ cause.Pass r refl (f .some) (f .these) (unlimited-reasons (s .nu) (s .states) r (g .stated) (f .these)),
       )
-  result-claims idle (ended (infeasible cause.Sweep r) s) o n h =
+  result-claims idle (ended (conflict cause.Sweep r) s) o n h =
       let g = h .2 .standing in
       let f = h .2 .rows in (
         zeroth,
-        plain-sound _ idle false false s refl (ended-in (infeasible cause.Sweep r) s o (h .0) n) (h .1) (g .boxed) (g .alone) (g .passes) (λ z. absurd (true≢false (sym z))) (g .stopped),
+        plain-sound _ idle false false s refl (ended-in (conflict cause.Sweep r) s o (h .0) n) (h .1) (g .boxed) (g .alone) (g .passes) (λ z. absurd (true≢false (sym z))) (g .stopped),
         listed-rows _ cause.Sweep r refl (f .some) (f .these) (unlimited-reasons (s .nu) (s .states) r (g .stated) (f .these)),
       )
 

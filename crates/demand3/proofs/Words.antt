@@ -18,10 +18,11 @@ use Rattle.floats.specs.Helpers.{abs, clamp, isNaN}
 use Rattle.floats.proofs.Maximum.{not-zero}
 use Rattle.floats.proofs.Meaning.{unsigned, abs-is}
 use Rattle.floats.proofs.Order.{total, not-above, lt-right}
-use Rattle.box_rows.specs.Rows.{Problem, size, entry, row, rowOf, isIdle, rowSum, update, naturalResidual, residualAt}
+use Rattle.box_rows.specs.Rows.{Problem, size, row, isIdle, rowSum, update, naturalResidual, residualAt}
+use Rattle.box_rows.specs.Private.{entry, rowOf}
 use Rattle.box_rows.proofs.Matrix.{row-length}
 use Rattle.box_rows.proofs.Sums.{Summing, sum-start, sum-again, sum-done}
-use Rattle.triangle.proofs.Mirrored.{tab-at}
+use Rattle.loops.proofs.Fill.{tab-at}
 use Rattle.demand3.specs.Claims.{magnitude, cell, sumTo, distance, ownResidual}
 
 -- ---- a magnitude

@@ -18,6 +18,7 @@ use Rattle.floats.specs.Ops.{_⊗_, at, 0ᶠ, 1e-9}
 use Rattle.floats.specs.Helpers.{larger}
 use Rattle.box_rows.specs.Rows as box
 use Rattle.exact_pass.specs.Ray as rays
+use Rattle.exact_pass.specs.Private as private
 use Rattle.exact_pass.specs.Walk as walks
 use Rattle.exact_pass.specs.Walk.{Walked, none, these, walkedAfter}
 use Rattle.exact_pass.specs.Promise.{Front}
@@ -75,18 +76,18 @@ module _ (lo hi scale : List Float) (st : List ℕ) (y : List Float) (least : Fl
   to a = walks.walked lo hi scale st y least a
 
   abbrev drops : ℕ → Bool
-  drops a = rays.dropped (box.acts st a) (rays.sizeAt scale y a) least
+  drops a = walks.dropped (box.acts st a) (walks.sizeAt scale y a) least
 
   abbrev grows : ℕ → Bool
-  grows a = rays.grows (at y a) (at lo a) (at hi a)
+  grows a = walks.grows (at y a) (at lo a) (at hi a)
 
   pub collect-start : Going (to 0) l₀ 0 0 0ᶠ l₀
   unfolding walks.walked turns
   collect-start = record { list = []; is = refl; front = record { count = refl; front = refl }; few = omega arith; below = tt }
 
-  pub collect-again : (a k : ℕ) (far : Float) (l : List ℕ) (v k′ : ℕ) (far′ : Float) (l′ : List ℕ) → Going (to a) l₀ a k far l → v ≡ verdict (drops a) (grows a) → (v ≡ 2 → ⊥) → Turned v a (rays.sizeAt scale y a) k far l k′ far′ l′ → Going (to (a + 1)) l₀ (a + 1) k′ far′ l′
+  pub collect-again : (a k : ℕ) (far : Float) (l : List ℕ) (v k′ : ℕ) (far′ : Float) (l′ : List ℕ) → Going (to a) l₀ a k far l → v ≡ verdict (drops a) (grows a) → (v ≡ 2 → ⊥) → Turned v a (walks.sizeAt scale y a) k far l k′ far′ l′ → Going (to (a + 1)) l₀ (a + 1) k′ far′ l′
   unfolding walks.walked walks.walkRow turns
-  collect-again a k far l v k′ far′ l′ h e s t = rw (add-one a) (going-on (drops a) (grows a) (rays.sizeAt scale y a) (to a) l₀ a k far l v k′ far′ l′ h e s t)
+  collect-again a k far l v k′ far′ l′ h e s t = rw (add-one a) (going-on (drops a) (grows a) (walks.sizeAt scale y a) (to a) l₀ a k far l v k′ far′ l′ h e s t)
 
   still-none : (i : ℕ) → walks.walkRow lo hi scale st y least i none ≡ none
   unfolding walks.walkRow walks.walk
@@ -94,7 +95,7 @@ module _ (lo hi scale : List Float) (st : List ℕ) (y : List Float) (least : Fl
 
   reached : (a k : ℕ) (far : Float) (l : List ℕ) (v : ℕ) → Going (to a) l₀ a k far l → v ≡ verdict (drops a) (grows a) → v ≡ 2 → turns (suc a) (these [] 0ᶠ) (walks.walkRow lo hi scale st y least) ≡ none
   unfolding walks.walked walks.walkRow turns
-  reached a k far l v h e s = stopped (drops a) (grows a) (rays.sizeAt scale y a) (to a) l₀ a k far l v h e s
+  reached a k far l v h e s = stopped (drops a) (grows a) (walks.sizeAt scale y a) (to a) l₀ a k far l v h e s
 
   pub collect-stop : (a n k : ℕ) (far far′ : Float) (l l′ : List ℕ) (v : ℕ) → Going (to a) l₀ a k far l → v ≡ verdict (drops a) (grows a) → v ≡ 2 → a < n → Collecting (to n) l₀ n 0 far′ l′
   unfolding walks.walked
@@ -117,11 +118,11 @@ collected-below {l₀ = l₀} {k = k} (some r e f h b) s = rw (f .front, front-r
 
 -- whether the problem falls along the rows of l, by their farthest
 abbrev pub fallsBy : List Float → List Float → List Float → List ℕ → Float → Bool
-fallsBy w uFree y l far = rays.falls (rays.linear uFree y l (length l)) (rays.quadratic w (length uFree) y l (length l)) far
+fallsBy w uFree y l far = private.falls (private.linear uFree y l (length l)) (private.quadratic w (length uFree) y l (length l)) far
 
 -- no row makes the problem fall
 falls-none : (w uFree y : List Float) (far : Float) → fallsBy w uFree y [] far ≡ false
-unfolding rays.falls rays.linear turns le ofBits
+unfolding private.falls private.linear turns le ofBits
 falls-none w uFree y far = refl
 
 -- the rows along which the problem falls, by what one walk has
@@ -130,7 +131,7 @@ falling p y none = []
 falling p y (these l far) = cond (fallsBy (p .w) (p .uFree) y l far) l []
 
 falling-after : (p : box.Problem) (y : List Float) (c : rays.Collected) → rays.fallingRows p y c ≡ falling p y (walkedAfter (p .scale) y c)
-unfolding rays.fallingRows walkedAfter falling
+unfolding rays.fallingRows private.falls private.linear private.quadratic private.quadraticRow walks.farthest walkedAfter falling
 falling-after p y rays.none = refl
 falling-after p y (rays.these l) = refl
 
@@ -140,20 +141,23 @@ unfolding falling
 falling-read p y c l₀ n k far l (nothing e f) b = rw (e, f, falls-none (p .w) (p .uFree) y far)
 falling-read p y c l₀ n k far l (some r e f h g) b = rw (e, f .front, front-read r l₀ k (f .count) (omega (arith, f .count, h)))
 
+-- the ray, by the largest and the rows collected
+ray-by : (p : box.Problem) (st : List ℕ) (y : List Float) → rays.ray p st y ≡ cond (eq (private.largest (p .scale) st y (box.size p)) 0ᶠ) [] (rays.fallingRows p y (walks.collected (p .lo) (p .hi) (p .scale) st y (1e-9 ⊗ private.largest (p .scale) st y (box.size p)) (box.size p)))
+unfolding rays.ray private.largest private.largestRow walks.collected
+ray-by p st y = refl
+
 -- the answer, where the largest is s
-module _ (p : box.Problem) (st : List ℕ) (y : List Float) (s : Float) (n : ℕ) (largest : s ≡ rays.largest (p .scale) st y n) (size : n ≡ box.size p) (out : List ℕ) where
+module _ (p : box.Problem) (st : List ℕ) (y : List Float) (s : Float) (n : ℕ) (largest : s ≡ private.largest (p .scale) st y n) (size : n ≡ box.size p) (out : List ℕ) where
   pub ray-zero : eq s 0ᶠ ≡ true → Front (rays.ray p st y) out 0 out
-  unfolding rays.ray
-  ray-zero e = rw (← size, ← largest, e) (record { count = refl; front = refl })
+  ray-zero e = rw (ray-by p st y, ← size, ← largest, e) (record { count = refl; front = refl })
 
   module _ (nonzero : eq s 0ᶠ ≡ false) (l₀ : List ℕ) (k : ℕ) (far : Float) (l : List ℕ) (got : Collecting (walks.walked (p .lo) (p .hi) (p .scale) st y (1e-9 ⊗ s) n) l₀ n k far l) (long : n ≤ length l₀) (same : length l ≡ length l₀) where
     ray-is : rays.ray p st y ≡ cond (fallsBy (p .w) (p .uFree) y (take k l) far) (take k l) []
-    unfolding rays.ray
     ray-is =
-        let a : s ≡ rays.largest (p .scale) st y (box.size p) = rw size at largest in
+        let a : s ≡ private.largest (p .scale) st y (box.size p) = rw size at largest in
         let g : Collecting (walks.walked (p .lo) (p .hi) (p .scale) st y (1e-9 ⊗ s) (box.size p)) l₀ (box.size p) k far l = rw size at got in
         let w = one-walk (p .lo) (p .hi) (p .scale) st y (1e-9 ⊗ s) (box.size p) in
-        rw (← a, nonzero, falling-after p y (rays.collected (p .lo) (p .hi) (p .scale) st y (1e-9 ⊗ s) (box.size p)), ← w)
+        rw (ray-by p st y, ← a, nonzero, falling-after p y (walks.collected (p .lo) (p .hi) (p .scale) st y (1e-9 ⊗ s) (box.size p)), ← w)
         (falling-read p y _ l₀ (box.size p) k far l g (rw size at long))
 
     pub ray-found : (out′ : List ℕ) → fallsBy (p .w) (p .uFree) y (take k l) far ≡ true → out′ ≡ fronted (take k l) out → Front (rays.ray p st y) out k out′

@@ -10,6 +10,7 @@ use Rattle.loops.specs.Loops.{turns}
 use Rattle.loops.proofs.Turns.{stays}
 use Rattle.box_rows.specs.Rows as box
 use Rattle.exact_pass.specs.Pass as def
+use Rattle.exact_pass.specs.Private as private
 use Rattle.exact_pass.specs.Pass.{Trial, trial, Pass, moved, found, failed, infeasible}
 use Rattle.exact_pass.specs.Promise.{Passed}
 use Rattle.exact_pass.specs.Private.{isMoved, part}
@@ -99,6 +100,6 @@ pub marked-kept : (p : box.Problem) (nu nu′ : List Float) (st st′ : List ℕ
 marked-kept p nu nu′ st st′ work work′ marks since t e f d h = rw (e, f, d) h
 
 -- the whole pass: nu′ and st′ are the multipliers and states after the start
-pub pass-run : (p : box.Problem) (nu : List Float) (st : List ℕ) (nu′ : List Float) (st′ : List ℕ) (k n : ℕ) (q : List ℕ) (e : Exact) (nu″ : List Float) (st″ q′ : List ℕ) → def.started nu′ st′ k ≡ def.start (p .lo) (p .hi) (p .scale) nu st n → n ≡ box.size p → Passed (def.closed (def.steps p (trial nu′ st′) (8 * k + 8))) q e nu″ st″ q′ → Passed (def.exactPass p st nu) q e nu″ st″ q′
+pub pass-run : (p : box.Problem) (nu : List Float) (st : List ℕ) (nu′ : List Float) (st′ : List ℕ) (k n : ℕ) (q : List ℕ) (e : Exact) (nu″ : List Float) (st″ q′ : List ℕ) → private.started nu′ st′ k ≡ def.start (p .lo) (p .hi) (p .scale) nu st n → n ≡ box.size p → Passed (def.closed (def.steps p (trial nu′ st′) (8 * k + 8))) q e nu″ st″ q′ → Passed (def.exactPass p st nu) q e nu″ st″ q′
 unfolding def.exactPass
 pass-run p nu st nu′ st′ k n q e nu″ st″ q′ s f h = rw (← f, ← s) h

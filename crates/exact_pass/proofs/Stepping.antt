@@ -13,6 +13,7 @@ use Rattle.floats.specs.Helpers.{isFinite}
 use Rattle.box_rows.specs.Rows as box
 use Rattle.exact_pass.specs.Ray.{ray}
 use Rattle.exact_pass.specs.Pass as def
+use Rattle.exact_pass.specs.Private as private
 use Rattle.exact_pass.specs.Pass.{Trial, trial}
 use Rattle.exact_pass.specs.Promise.{Passed, Front}
 use Rattle.exact_pass.specs.declared.Blocking.{Blocking}
@@ -21,38 +22,38 @@ use Rattle.exact_pass.specs.declared.Exact.the-variants.{Moved, Failed, 
 
 -- ---- the blocking row is a row
 
-nearer-row : (n a s : ℕ) (ratio : Float) (r : Blocking) → a < n → r .row < n → def.nearer a s ratio r .row < n
-unfolding def.nearer
+nearer-row : (n a s : ℕ) (ratio : Float) (r : Blocking) → a < n → r .row < n → private.nearer a s ratio r .row < n
+unfolding private.nearer
 nearer-row n a s ratio r h g = go (lt ratio (r .alpha)) refl
   where
-    go : (b : Bool) → lt ratio (r .alpha) ≡ b → def.nearer a s ratio r .row < n
+    go : (b : Bool) → lt ratio (r .alpha) ≡ b → private.nearer a s ratio r .row < n
     go true e = rw e h
     go false e = rw e g
 
-pub ratio-row-below : (n a : ℕ) (v y lo hi : Float) (r q : Blocking) → q ≡ def.ratioRow a v y lo hi r → a < n → r .row < n → q .row < n
-unfolding def.ratioRow
+pub ratio-row-below : (n a : ℕ) (v y lo hi : Float) (r q : Blocking) → q ≡ private.ratioRow a v y lo hi r → a < n → r .row < n → q .row < n
+unfolding private.ratioRow
 ratio-row-below n a v y lo hi r q e h g = rw e (go (lt 0ᶠ y) (lt y 0ᶠ))
   where
-    go : (b c : Bool) → cond b (def.nearer a 2 ((hi ⊖ v) ⊘ y) r) (cond c (def.nearer a 1 ((lo ⊖ v) ⊘ y) r) r) .row < n
+    go : (b c : Bool) → cond b (private.nearer a 2 ((hi ⊖ v) ⊘ y) r) (cond c (private.nearer a 1 ((lo ⊖ v) ⊘ y) r) r) .row < n
     go true c = nearer-row n a 2 ((hi ⊖ v) ⊘ y) r h g
     go false true = nearer-row n a 1 ((lo ⊖ v) ⊘ y) r h g
     go false false = g
 
 -- its state is one of three
 
-nearer-state : (a s : ℕ) (ratio : Float) (r : Blocking) → s < 256 → r .state < 256 → def.nearer a s ratio r .state < 256
-unfolding def.nearer
+nearer-state : (a s : ℕ) (ratio : Float) (r : Blocking) → s < 256 → r .state < 256 → private.nearer a s ratio r .state < 256
+unfolding private.nearer
 nearer-state a s ratio r h g = go (lt ratio (r .alpha)) refl
   where
-    go : (b : Bool) → lt ratio (r .alpha) ≡ b → def.nearer a s ratio r .state < 256
+    go : (b : Bool) → lt ratio (r .alpha) ≡ b → private.nearer a s ratio r .state < 256
     go true e = rw e h
     go false e = rw e g
 
-pub ratio-row-state : (a : ℕ) (v y lo hi : Float) (r q : Blocking) → q ≡ def.ratioRow a v y lo hi r → r .state < 256 → q .state < 256
-unfolding def.ratioRow
+pub ratio-row-state : (a : ℕ) (v y lo hi : Float) (r q : Blocking) → q ≡ private.ratioRow a v y lo hi r → r .state < 256 → q .state < 256
+unfolding private.ratioRow
 ratio-row-state a v y lo hi r q e g = rw e (go (lt 0ᶠ y) (lt y 0ᶠ))
   where
-    go : (b c : Bool) → cond b (def.nearer a 2 ((hi ⊖ v) ⊘ y) r) (cond c (def.nearer a 1 ((lo ⊖ v) ⊘ y) r) r) .state < 256
+    go : (b c : Bool) → cond b (private.nearer a 2 ((hi ⊖ v) ⊘ y) r) (cond c (private.nearer a 1 ((lo ⊖ v) ⊘ y) r) r) .state < 256
     go true c = nearer-state a 2 ((hi ⊖ v) ⊘ y) r (omega arith) g
     go false true = nearer-state a 1 ((lo ⊖ v) ⊘ y) r (omega arith) g
     go false false = g
@@ -72,12 +73,12 @@ module _ (r rows : List ℕ) (c : ℕ) (rows′ : List ℕ) (f : Front r rows c 
 
 module _ (p : box.Problem) (st l : List ℕ) (y d : List Float) (rows : List ℕ) (c : ℕ) (rows′ : List ℕ)
     (scattered : d ≡ def.scattered l y (replicate (box.size p) 0ᶠ) (length l)) (f : Front (ray p st d) rows c rows′) where
-  pub unbounded-failed : c ≡ 0 → (nu : List Float) → Passed (def.unbounded p (trial nu st) l y) rows Failed nu st rows′
-  unfolding def.unbounded
+  pub unbounded-failed : c ≡ 0 → (nu : List Float) → Passed (private.unbounded p (trial nu st) l y) rows Failed nu st rows′
+  unfolding private.unbounded
   unbounded-failed h nu = rw (← scattered) (unmet-failed (ray p st d) rows c rows′ f nu st (ray p st d) refl h)
 
-  pub unbounded-ray : (c ≡ 0 → ⊥) → (nu : List Float) → Passed (def.unbounded p (trial nu st) l y) rows (Infeasible c) nu st rows′
-  unfolding def.unbounded
+  pub unbounded-ray : (c ≡ 0 → ⊥) → (nu : List Float) → Passed (private.unbounded p (trial nu st) l y) rows (Infeasible c) nu st rows′
+  unfolding private.unbounded
   unbounded-ray h nu = rw (← scattered) (unmet-ray (ray p st d) rows c rows′ f nu st (ray p st d) refl h)
 
 -- ---- along y, by how the ratio test comes out
@@ -87,23 +88,23 @@ module _ (p : box.Problem) (nu : List Float) (st l : List ℕ) (y : List Float) 
   tested : def.ratioTest (p .lo) (p .hi) l nu y (def.longest b) (length l) ≡ r
   tested = rw (← far) (sym test)
 
-  pub taken-unbounded : (e : Exact) (rows′ : List ℕ) (f : Bool) → f ≡ isFinite (r .alpha) → f ≡ false → ((v : List Float) → Passed (def.unbounded p (trial v st) l y) rows e v st rows′) → Passed (def.takeStep p (trial nu st) l y b) rows e nu st rows′
-  unfolding def.takeStep def.stepped
+  pub taken-unbounded : (e : Exact) (rows′ : List ℕ) (f : Bool) → f ≡ isFinite (r .alpha) → f ≡ false → ((v : List Float) → Passed (private.unbounded p (trial v st) l y) rows e v st rows′) → Passed (private.takeStep p (trial nu st) l y b) rows e nu st rows′
+  unfolding private.takeStep private.stepped
   taken-unbounded e rows′ f g h k = rw (tested, ← g, h) (k nu)
 
-  pub taken-released : (e : Exact) (nu′ : List Float) (st′ : List ℕ) (f : Bool) → f ≡ isFinite (r .alpha) → f ≡ true → r .state ≡ 0 → nu′ ≡ def.advance l y (r .alpha) nu (length l) → ((m : List ℕ) → Passed (def.release p (trial nu′ st)) m e nu′ st′ m) → Passed (def.takeStep p (trial nu st) l y b) rows e nu′ st′ rows
-  unfolding def.takeStep def.stepped
+  pub taken-released : (e : Exact) (nu′ : List Float) (st′ : List ℕ) (f : Bool) → f ≡ isFinite (r .alpha) → f ≡ true → r .state ≡ 0 → nu′ ≡ def.advance l y (r .alpha) nu (length l) → ((m : List ℕ) → Passed (def.release p (trial nu′ st)) m e nu′ st′ m) → Passed (private.takeStep p (trial nu st) l y b) rows e nu′ st′ rows
+  unfolding private.takeStep private.stepped
   taken-released e nu′ st′ f g h s m k = rw (tested, ← g, h, eq-eqb (r .state) 0 s, ← m) (k rows)
 
-  pub taken-to-bound : (nu′ nu″ : List Float) (st″ : List ℕ) (f : Bool) → f ≡ isFinite (r .alpha) → f ≡ true → (r .state ≡ 0 → ⊥) → nu′ ≡ def.advance l y (r .alpha) nu (length l) → trial nu″ st″ ≡ def.hold (p .lo) (p .hi) (trial nu′ st) r → Passed (def.takeStep p (trial nu st) l y b) rows Moved nu″ st″ rows
-  unfolding def.takeStep def.stepped
+  pub taken-to-bound : (nu′ nu″ : List Float) (st″ : List ℕ) (f : Bool) → f ≡ isFinite (r .alpha) → f ≡ true → (r .state ≡ 0 → ⊥) → nu′ ≡ def.advance l y (r .alpha) nu (length l) → trial nu″ st″ ≡ def.hold (p .lo) (p .hi) (trial nu′ st) r → Passed (private.takeStep p (trial nu st) l y b) rows Moved nu″ st″ rows
+  unfolding private.takeStep private.stepped
   taken-to-bound nu′ nu″ st″ f g h s m k = rw (tested, ← g, h, ne-eqb (r .state) 0 s, ← m) (record { answer = refl; tried = k; listed = refl })
 
 -- ---- toward the target
 
-pub toward-run : (p : box.Problem) (nu : List Float) (st l : List ℕ) (z y₁ y : List Float) (b : Bool) (rows : List ℕ) (e : Exact) (nu′ : List Float) (st′ rows′ : List ℕ) → Passed (def.takeStep p (trial nu st) l y b) rows e nu′ st′ rows′ → y ≡ def.direction b (p .scale) l z nu y₁
-    → def.targeted z y₁ b ≡ def.target (p .w) (p .uFree) (p .scale) st nu l → Passed (def.toward p (trial nu st) l) rows e nu′ st′ rows′
-unfolding def.toward
+pub toward-run : (p : box.Problem) (nu : List Float) (st l : List ℕ) (z y₁ y : List Float) (b : Bool) (rows : List ℕ) (e : Exact) (nu′ : List Float) (st′ rows′ : List ℕ) → Passed (private.takeStep p (trial nu st) l y b) rows e nu′ st′ rows′ → y ≡ def.direction b (p .scale) l z nu y₁
+    → private.targeted z y₁ b ≡ def.target (p .w) (p .uFree) (p .scale) st nu l → Passed (private.toward p (trial nu st) l) rows e nu′ st′ rows′
+unfolding private.toward
 toward-run p nu st l z y₁ y b rows e nu′ st′ rows′ h f g = rw (← g, ← f) h
 
 -- ---- a step, where l lists the free rows
@@ -114,7 +115,7 @@ module _ (p : box.Problem) (t : Trial) (rows : List ℕ) (e : Exact) (nu′ : Li
   step-released [] f g h = h
   step-released (a ∷ l) f g h = absurd (omega (arith, f, g))
 
-  pub step-toward : (l : List ℕ) → k ≡ length l → (k ≡ 0 → ⊥) → Passed (def.toward p t l) rows e nu′ st′ rows′ → Passed (def.stepOf p t l) rows e nu′ st′ rows′
-  unfolding def.stepOf
+  pub step-toward : (l : List ℕ) → k ≡ length l → (k ≡ 0 → ⊥) → Passed (private.toward p t l) rows e nu′ st′ rows′ → Passed (def.stepOf p t l) rows e nu′ st′ rows′
+  unfolding def.stepOf private.toward private.takeStep private.stepped private.unbounded
   step-toward [] f g h = absurd (g f)
   step-toward (a ∷ l) f g h = h

@@ -17,12 +17,13 @@ use Rattle.loops.proofs.Updates.{updated-here, updated-long}
 use Rattle.floats.specs.Ops.{at, _⊖_, _⊗_}
 use borrow.Author.Tests.{le-leb, eq-eqb, eqb-true, eqb-false}
 use Rattle.loops.specs.Loops.{turns, tab}
-use Rattle.loops.proofs.Fill.{tab-length}
+use Rattle.loops.proofs.Fill.{tab-length, tab-at}
 use Rattle.least_norm.specs.LeastNorm.{leastNorm}
 use Rattle.least_norm.specs.Promise as least
 use Rattle.box_rows.specs.Rows as box
 use Rattle.box_rows.proofs.Matrix.{later}
 use Rattle.exact_pass.specs.Pass as def
+use Rattle.exact_pass.specs.Private as private
 use Rattle.exact_pass.specs.Private.{Copied, part, columnTaken}
 
 -- ---- a list filled by parts of k values, g 0, g 1, ..
@@ -54,47 +55,39 @@ module _ {A : Type 0} (g : ℕ → List A) (k : ℕ) (long : (i : ℕ) → lengt
     pub parts-done : (i : ℕ) (m : List A) → length m₀ ≡ k * k → i ≤ k → k ≤ i → m ≡ joined i ++ drop (i * k) m₀ → m ≡ joined k
     parts-done i m s a b e = let q : i ≡ k = omega arith in e ∙ rw (q, drop-of-length-le m₀ {i = k * k} (omega (arith, s)), append-nil)
 
-pub matrix-row-length : (r scale : List Float) (l : List ℕ) (k : ℕ) → length (def.matrixRow r scale l k) ≡ k
-unfolding def.matrixRow
-matrix-row-length r scale l k = tab-length (def.scaled r scale l) k
+pub matrix-row-length : (r scale : List Float) (l : List ℕ) (k : ℕ) → length (private.matrixRow r scale l k) ≡ k
+unfolding private.matrixRow
+matrix-row-length r scale l k = tab-length (private.scaled r scale l) k
+
+-- each row of the matrix has as many entries as there are free rows
+pub matrix-rows-long : (w scale : List Float) (l : List ℕ) (i : ℕ) → length (private.matrixRow (box.row w (length scale) (getD l i 0)) scale l (length l)) ≡ length l
+matrix-rows-long w scale l i = matrix-row-length (box.row w (length scale) (getD l i 0)) scale l (length l)
 
 -- ---- the right-hand side, column by column
-
--- place j of a table is its value at j
-tab-at : {A : Type 0} (f : ℕ → A) (n j : ℕ) (d : A) → j < n → getD (tab f n) j d ≡ f j
-unfolding tab turns
-tab-at f zero j d h = absurd (not-suc-le-zero h)
-tab-at f (suc n) j d h = go (eqb j n) refl (λ c. tab-at f n j d c)
-  where
-    go : (b : Bool) → eqb j n ≡ b → (j < n → getD (tab f n) j d ≡ f j) → getD (tab f n ++ (f n ∷ [])) j d ≡ f j
-    go true e before = rw (eqb-true j n e) (getD-at (tab f n) (f n) [] d n (tab-length f n))
-    go false e before =
-        let c : j < n = lt-of-le-ne (le-of-suc-le-suc h) (eqb-false j n e) in
-        List·getD-append (tab f n) (f n ∷ []) d j (rw (tab-length f n) c) ∙ before c
 
 module _ (w uFree : List Float) (st : List ℕ) (nu : List Float) (l : List ℕ) (k : ℕ) where
   -- row i after j columns
   abbrev after : ℕ → ℕ → Float
-  after j i = def.rightHandRow (box.row w (length nu) (getD l i 0)) st nu (at uFree (getD l i 0)) j
+  after j i = private.rightHandRow (box.row w (length nu) (getD l i 0)) st nu (at uFree (getD l i 0)) j
 
   -- the right-hand side after j columns
   unfoldable pub columns : ℕ → List Float
   columns j = tab (after j) k
 
   pub columns-start : (rhs : List Float) → rhs ≡ tab (λ (i : ℕ). neg (at uFree (getD l i 0))) k → rhs ≡ columns 0
-  unfolding columns def.rightHandRow turns
+  unfolding columns private.rightHandRow turns
   columns-start rhs e = e
 
   module _ (j : ℕ) (rhs rhs′ : List Float) (e : rhs ≡ columns j) where
-    free-kept : def.isFree st j ≡ true → rhs ≡ columns (j + 1)
-    unfolding columns def.rightHandRow turns
+    free-kept : private.isFree st j ≡ true → rhs ≡ columns (j + 1)
+    unfolding columns private.rightHandRow turns
     free-kept f =
         ext-getD nan rhs (columns (j + 1)) (rw (e, tab-length (after j) k, tab-length (after (j + 1)) k)) λ i h.
         let g : i < k = rw (e, tab-length (after j) k) at h in
         rw (e, tab-at (after j) k i nan g, tab-at (after (j + 1)) k i nan g, add-one j, f)
 
-    held-taken : def.isFree st j ≡ false → columnTaken w (length nu) l j (at nu j) k rhs ≡ columns (j + 1)
-    unfolding columns def.rightHandRow turns
+    held-taken : private.isFree st j ≡ false → columnTaken w (length nu) l j (at nu j) k rhs ≡ columns (j + 1)
+    unfolding columns private.rightHandRow turns
     held-taken f =
         let g : ℕ → Float → Float = λ (i : ℕ) (x : Float). x ⊖ at (box.row w (length nu) (getD l i 0)) j ⊗ at nu j in
         let long : length rhs ≡ k = rw e (tab-length (after j) k) in
@@ -115,12 +108,12 @@ module _ (w uFree : List Float) (st : List ℕ) (nu : List Float) (l : List ℕ)
       go false g h = rw g at h ∙ held-taken j rhs rhs′ e g
 
   pub columns-done : (j : ℕ) (rhs : List Float) → j ≤ length nu → length nu ≤ j → rhs ≡ columns j → rhs ≡ def.rightHandSide w uFree st nu l k
-  unfolding columns def.rightHandSide
+  unfolding columns def.rightHandSide private.rightHandRow
   columns-done j rhs g h e = let q : j ≡ length nu = omega arith in rw q at e
 
 pub right-hand-length : (w uFree : List Float) (st : List ℕ) (nu : List Float) (l : List ℕ) (k : ℕ) → length (def.rightHandSide w uFree st nu l k) ≡ k
-unfolding def.rightHandSide
-right-hand-length w uFree st nu l k = tab-length (def.rightHandAt w uFree st nu l) k
+unfolding def.rightHandSide private.rightHandRow
+right-hand-length w uFree st nu l k = tab-length (private.rightHandAt w uFree st nu l) k
 
 -- the part of a matrix of k rows that row i takes
 pub part-length : (m : List Float) (k i : ℕ) → length m ≡ k * k → i < k → length (take (i * k + k - i * k) (drop (i * k) m)) ≡ k
@@ -158,8 +151,8 @@ module _ (w uFree scale : List Float) (st : List ℕ) (nu : List Float) (l : Lis
     side-kept : part 1056 (length l) work₂ ≡ def.rightHandSide w uFree st nu l (length l)
     side-kept = rw (solved, ← side-length) (copied .part) ∙ sided
 
-    pub target-run : (m z y : List Float) (b : Bool) → m ≡ def.matrix w scale l (length l) → z ≡ leastNorm (length y₁) (length y₁) m y₁ .x → y ≡ def.downhill w scale l (part 1056 (length l) work₂) z (length l) → b ≡ def.inconsistent w scale l (part 1056 (length l) work₂) z (length l) → def.targeted z y b ≡ def.target w uFree scale st nu l
-    unfolding def.target
+    pub target-run : (m z y : List Float) (b : Bool) → m ≡ def.matrix w scale l (length l) → z ≡ leastNorm (length y₁) (length y₁) m y₁ .x → y ≡ private.downhill w scale l (part 1056 (length l) work₂) z (length l) → b ≡ private.inconsistent w scale l (part 1056 (length l) work₂) z (length l) → private.targeted z y b ≡ def.target w uFree scale st nu l
+    unfolding def.target private.downhill private.inconsistent private.tooLarge
     target-run m z y b e f g h =
         let zed : z ≡ leastNorm (length l) (length l) (def.matrix w scale l (length l)) (def.rightHandSide w uFree st nu l (length l)) .x = rw (side-length, e, sided) at f in
         rw (g, h, side-kept, zed)

@@ -36,117 +36,83 @@ pub record Start : Type 0 where
   pub trial : Trial
   pub acting : ℕ
 
-abbrev pub started : List Float → List ℕ → ℕ → Start
-started nu st k = record { trial = trial nu st; acting = k }
-
-unfoldable pub startRow : List Float → List Float → List Float → ℕ → Start → Start
-startRow lo hi scale i s =
+unfoldable pub start : List Float → List Float → List Float → List Float → List ℕ → ℕ → Start
+start lo hi scale nu st n =
+    turns n (record { trial = trial nu st; acting = 0 }) λ i s.
     let nu = s .trial .nu in
     let st = s .trial .states in
     let shown = box.stateOf (at lo i) (at hi i) (at scale i) (at nu i) in
-    cond (box.acts st i) (started (set nu i (placed (at lo i) (at hi i) shown (at nu i))) (set st i shown) (suc (s .acting))) s
+    cond (box.acts st i)
+    (record { trial = trial (set nu i (placed (at lo i) (at hi i) shown (at nu i))) (set st i shown); acting = suc (s .acting) })
+    s
 
-unfoldable pub start : List Float → List Float → List Float → List Float → List ℕ → ℕ → Start
-start lo hi scale nu st n = turns n (started nu st 0) (startRow lo hi scale)
-
--- ---- the free rows
-
-abbrev pub isFree : List ℕ → ℕ → Bool
-isFree st i = eqb (box.state st i) box.inside
+-- ---- the free rows, strictly inside their boxes
 
 abbrev pub freeRows : List ℕ → ℕ → List ℕ
-freeRows st n = those (isFree st) n
+freeRows st n = those (λ (i : ℕ). eqb (box.state st i) box.inside) n
 
--- ---- the system of the free rows: what the rows on a bound leave to a row r of the matrix, and the matrix in scaled multipliers
-
-unfoldable pub rightHandRow : List Float → List ℕ → List Float → Float → ℕ → Float
-rightHandRow r st nu u n = turns n (neg u) λ j s. cond (isFree st j) s (s ⊖ at r j ⊗ at nu j)
-
-abbrev pub rightHandAt : List Float → List Float → List ℕ → List Float → List ℕ → ℕ → Float
-rightHandAt w uFree st nu l i =
-    rightHandRow (box.row w (length nu) (getD l i 0)) st nu (at uFree (getD l i 0)) (length nu)
+-- ---- the system of the free rows: what the rows on a bound leave to each, and the matrix in scaled multipliers
 
 unfoldable pub rightHandSide : List Float → List Float → List ℕ → List Float → List ℕ → ℕ → List Float
-rightHandSide w uFree st nu l k = tab (rightHandAt w uFree st nu l) k
-
-abbrev pub scaled : List Float → List Float → List ℕ → ℕ → Float
-scaled r scale l j = at r (getD l j 0) ⊗ at scale (getD l j 0)
-
-unfoldable pub matrixRow : List Float → List Float → List ℕ → ℕ → List Float
-matrixRow r scale l k = tab (scaled r scale l) k
+rightHandSide w uFree st nu l k =
+    tab
+    (λ (i : ℕ).
+    let r = box.row w (length nu) (getD l i 0) in
+    turns (length nu) (neg (at uFree (getD l i 0))) λ j s. cond (eqb (box.state st j) box.inside) s (s ⊖ at r j ⊗ at nu j))
+    k
 
 unfoldable pub matrix : List Float → List Float → List ℕ → ℕ → List Float
-matrix w scale l k = turns k [] λ i m. m ++ matrixRow (box.row w (length scale) (getD l i 0)) scale l (length l)
+matrix w scale l k =
+    turns k [] λ i m.
+    let r = box.row w (length scale) (getD l i 0) in
+    m ++ tab (λ (j : ℕ). at r (getD l j 0) ⊗ at scale (getD l j 0)) (length l)
 
--- ---- what the solution z leaves of a row of the system, and whether that is too much (EXACT_RESIDUAL)
+-- what the solution z leaves of row i of the system
+unfoldable pub residual : List Float → List Float → List ℕ → List Float → List Float → ℕ → Float
+residual w scale l rhs z i =
+    let r = box.row w (length scale) (getD l i 0) in
+    turns (length l) (neg (at rhs i)) λ j s. s ⊕ at r (getD l j 0) ⊗ at scale (getD l j 0) ⊗ at z j
 
-unfoldable pub residualRow : List Float → List Float → List ℕ → List Float → Float → ℕ → Float
-residualRow r scale l z b k = turns k (neg b) λ j s. s ⊕ scaled r scale l j ⊗ at z j
-
-abbrev pub residualAt : List Float → List Float → List ℕ → List Float → List Float → ℕ → Float
-residualAt w scale l rhs z i = residualRow (box.row w (length scale) (getD l i 0)) scale l z (at rhs i) (length l)
-
-unfoldable pub tooLarge : Float → Float → Float → Bool
-tooLarge r d s = lt 1e-9 (abs (r ⊘ d) ⊘ s)
-
-unfoldable pub inconsistentRow : List Float → List Float → List ℕ → List Float → List Float → ℕ → Bool → Bool
-inconsistentRow w scale l rhs z i b =
-    let a = getD l i 0 in
-    b || tooLarge (residualAt w scale l rhs z i) (at (box.row w (length scale) a) a) (at scale a)
-
-unfoldable pub inconsistent : List Float → List Float → List ℕ → List Float → List Float → ℕ → Bool
-inconsistent w scale l rhs z k = turns k false (inconsistentRow w scale l rhs z)
-
-abbrev pub downhillAt : List Float → List Float → List ℕ → List Float → List Float → ℕ → Float
-downhillAt w scale l rhs z i = neg (residualAt w scale l rhs z i)
-
-unfoldable pub downhill : List Float → List Float → List ℕ → List Float → List Float → ℕ → List Float
-downhill w scale l rhs z k = tab (downhillAt w scale l rhs z) k
-
--- the least-norm solution z of the system, minus what it leaves, and whether no multipliers make the free rows still
+-- the least-norm solution z of the system, minus what it leaves, and whether that is too much for some row
+-- (EXACT_RESIDUAL): then no multipliers make the free rows still
 pub record Target : Type 0 where
   pub z : List Float
   pub y : List Float
   pub inconsistent : Bool
-
-abbrev pub targeted : List Float → List Float → Bool → Target
-targeted z y b = record { z = z; y = y; inconsistent = b }
 
 unfoldable pub target : List Float → List Float → List Float → List ℕ → List Float → List ℕ → Target
 target w uFree scale st nu l =
     let k = length l in
     let rhs = rightHandSide w uFree st nu l k in
     let z = leastNorm k k (matrix w scale l k) rhs .x in
-    targeted z (downhill w scale l rhs z k) (inconsistent w scale l rhs z k)
+    record {
+      z = z;
+      y = tab (λ (i : ℕ). neg (residual w scale l rhs z i)) k;
+      inconsistent =
+          turns k false λ i b.
+          let a = getD l i 0 in
+          b || lt 1e-9 (abs (residual w scale l rhs z i ⊘ at (box.row w (length scale) a) a) ⊘ at scale a);
+    }
 
 -- ---- the direction, to the target or along what its solution leaves, and the longest step
 
-abbrev pub toTargetAt : List Float → List ℕ → List Float → List Float → ℕ → Float
-toTargetAt scale l z nu i = at scale (getD l i 0) ⊗ at z i ⊖ at nu (getD l i 0)
-
-unfoldable pub toTarget : List Float → List ℕ → List Float → List Float → ℕ → List Float
-toTarget scale l z nu k = tab (toTargetAt scale l z nu) k
-
 unfoldable pub direction : Bool → List Float → List ℕ → List Float → List Float → List Float → List Float
-direction inconsistent scale l z nu y = cond inconsistent y (toTarget scale l z nu (length l))
+direction inconsistent scale l z nu y =
+    cond inconsistent y (tab (λ (i : ℕ). at scale (getD l i 0) ⊗ at z i ⊖ at nu (getD l i 0)) (length l))
 
 unfoldable pub longest : Bool → Float
 longest inconsistent = cond inconsistent ∞ 1ᶠ
 
 -- ---- the ratio test: how far the boxes let the free rows go along y, and the row that blocks it
 
-unfoldable pub nearer : ℕ → ℕ → Float → Blocking → Blocking
-nearer a s ratio r = cond (lt ratio (r .alpha)) (record { alpha = larger ratio 0ᶠ; row = a; state = s }) r
-
--- row a at v
-unfoldable pub ratioRow : ℕ → Float → Float → Float → Float → Blocking → Blocking
-ratioRow a v y lo hi r =
-    cond (lt 0ᶠ y) (nearer a box.atHi ((hi ⊖ v) ⊘ y) r) (cond (lt y 0ᶠ) (nearer a box.atLo ((lo ⊖ v) ⊘ y) r) r)
-
 unfoldable pub ratioTest : List Float → List Float → List ℕ → List Float → List Float → Float → ℕ → Blocking
 ratioTest lo hi l nu y alpha k =
-    turns k (record { alpha = alpha; row = 0; state = box.inside })
-    λ i r. ratioRow (getD l i 0) (at nu (getD l i 0)) (at y i) (at lo (getD l i 0)) (at hi (getD l i 0)) r
+    turns k (record { alpha = alpha; row = 0; state = box.inside }) λ i r.
+    let a = getD l i 0 in
+    let nearer : ℕ → Float → Blocking =
+    λ (s : ℕ) (ratio : Float). cond (lt ratio (r .alpha)) (record { alpha = larger ratio 0ᶠ; row = a; state = s }) r in
+    cond (lt 0ᶠ (at y i)) (nearer box.atHi ((at hi a ⊖ at nu a) ⊘ at y i))
+    (cond (lt (at y i) 0ᶠ) (nearer box.atLo ((at lo a ⊖ at nu a) ⊘ at y i)) r)
 
 -- the free rows moved by alpha along y
 unfoldable pub advance : List ℕ → List Float → Float → List Float → ℕ → List Float
@@ -160,27 +126,23 @@ hold lo hi t r =
 
 -- ---- the release of the row on a bound pushed inside the hardest, the first of equals; n is none
 
-unfoldable pub pushed : ℕ → Float → Bool
-pushed s u = cond (eqb s box.atLo) (lt u 0ᶠ) (cond (eqb s box.atHi) (lt 0ᶠ u) false)
-
-unfoldable pub worse : ℕ → Float → Worst → Worst
-worse i r best = cond (lt (best .residual) r) (record { residual = r; row = i }) best
-
-unfoldable pub releaseRow : box.Problem → List ℕ → List Float → ℕ → Worst → Worst
-releaseRow p st nu i best =
-    cond (pushed (box.state st i) (box.rowSum (box.rowOf p i) (at (p .uFree) i) nu)) (worse i (box.residualAt p nu i) best) best
-
-unfoldable pub worstRow : box.Problem → List ℕ → List Float → ℕ → Worst
-worstRow p st nu n = turns n (record { residual = 1e-9; row = box.size p }) (releaseRow p st nu)
-
 -- where no row is left to free, the multipliers meet every condition
 unfoldable pub release : box.Problem → Trial → Pass
 release p t =
-    let i = worstRow p (t .states) (t .nu) (box.size p) .row in
-    cond (eqb i (box.size p)) (found t) (moved (trial (t .nu) (set (t .states) i box.inside)))
+    let n = box.size p in
+    let worst : Worst =
+    turns n (record { residual = 1e-9; row = n }) λ i best.
+    let s = box.state (t .states) i in
+    let u = box.rowSum (box.row (p .w) n i) (at (p .uFree) i) (t .nu) in
+    let r = box.residualAt p (t .nu) i in
+    cond (cond (eqb s box.atLo) (lt u 0ᶠ) (cond (eqb s box.atHi) (lt 0ᶠ u) false))
+    (cond (lt (best .residual) r) (record { residual = r; row = i }) best)
+    best in
+    cond (eqb (worst .row) n) (found t) (moved (trial (t .nu) (set (t .states) (worst .row) box.inside)))
 
 -- ---- no bound is met: the rows of a ray, or the pass has failed
 
+-- y as the direction of all rows
 unfoldable pub scattered : List ℕ → List Float → List Float → ℕ → List Float
 scattered l y d k = turns k d λ i d. set d (getD l i 0) (at y i)
 
@@ -188,29 +150,18 @@ unfoldable pub unmet : Trial → List ℕ → Pass
 unmet t [] = failed t
 unmet t (a ∷ l) = infeasible (a ∷ l) t
 
-unfoldable pub unbounded : box.Problem → Trial → List ℕ → List Float → Pass
-unbounded p t l y = unmet t (ray p (t .states) (scattered l y (replicate (box.size p) 0ᶠ) (length l)))
-
--- ---- one step
-
-unfoldable pub stepped : box.Problem → Trial → List ℕ → List Float → Blocking → Pass
-stepped p t l y r =
-    let u = trial (advance l y (r .alpha) (t .nu) (length l)) (t .states) in
-    cond (isFinite (r .alpha)) (cond (eqb (r .state) box.inside) (release p u) (moved (hold (p .lo) (p .hi) u r)))
-    (unbounded p t l y)
-
-unfoldable pub takeStep : box.Problem → Trial → List ℕ → List Float → Bool → Pass
-takeStep p t l y inconsistent =
-    stepped p t l y (ratioTest (p .lo) (p .hi) l (t .nu) y (longest inconsistent) (length l))
-
-unfoldable pub toward : box.Problem → Trial → List ℕ → Pass
-toward p t l =
-    let g = target (p .w) (p .uFree) (p .scale) (t .states) (t .nu) l in
-    takeStep p t l (direction (g .inconsistent) (p .scale) l (g .z) (t .nu) (g .y)) (g .inconsistent)
+-- ---- one step, where l lists the free rows
 
 unfoldable pub stepOf : box.Problem → Trial → List ℕ → Pass
 stepOf p t [] = release p t
-stepOf p t (a ∷ l) = toward p t (a ∷ l)
+stepOf p t (a ∷ r) =
+    let l = a ∷ r in
+    let g = target (p .w) (p .uFree) (p .scale) (t .states) (t .nu) l in
+    let y = direction (g .inconsistent) (p .scale) l (g .z) (t .nu) (g .y) in
+    let b = ratioTest (p .lo) (p .hi) l (t .nu) y (longest (g .inconsistent)) (length l) in
+    let u = trial (advance l y (b .alpha) (t .nu) (length l)) (t .states) in
+    cond (isFinite (b .alpha)) (cond (eqb (b .state) box.inside) (release p u) (moved (hold (p .lo) (p .hi) u b)))
+    (unmet t (ray p (t .states) (scattered l y (replicate (box.size p) 0ᶠ) (length l))))
 
 unfoldable pub step : box.Problem → ℕ → Pass → Pass
 step p k (moved t) = stepOf p t (freeRows (t .states) (box.size p))

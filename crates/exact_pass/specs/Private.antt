@@ -1,16 +1,22 @@
 -- Words of private contracts: what they are lent. No promise of a public call stands on them; those are in Promise.antt. Definitions only.
-use Prim.Native.Nat.{ℕ, _+_, _*_, _≤_, _<_}
+use Prim.Native.Nat.{ℕ, suc, _+_, _*_, _≤_, _<_}
 use mathlib.Core.Path.{_≡_}
-use mathlib.Core.Bool.{Bool, true, false, cond}
+use mathlib.Core.Bool.{Bool, true, false, not, cond, _&&_, _||_}
 use mathlib.Core.List.{List}
-use lib.ListN.{getD, length, take, drop}
-use lib.Ieee.{Float, nan}
+use lib.Dec.{eqb}
+use lib.ListN.{getD, set, length, take, drop, replicate}
+use lib.Ieee.{Float, nan, lt, le, neg}
+use Rattle.loops.specs.Loops.{turns, tab}
 use Rattle.loops.specs.Updates.{updated}
-use Rattle.floats.specs.Ops.{at, _⊖_, _⊗_}
+use Rattle.floats.specs.Ops.{_⊕_, _⊖_, _⊗_, _⊘_, at, 0ᶠ, 1e6, 1e-9}
+use Rattle.floats.specs.Helpers.{larger, abs, isFinite}
 use Rattle.box_rows.specs.Rows as box
+use Rattle.exact_pass.specs.Ray.{ray}
 use Rattle.exact_pass.specs.Pass as def
 use Rattle.exact_pass.specs.Walk as walks
 use Rattle.exact_pass.specs.Promise.{Front}
+use Rattle.exact_pass.specs.declared.Blocking.{Blocking}
+use Rattle.exact_pass.specs.declared.Worst.{Worst}
 use Rattle.exact_pass.specs.declared.Exact.{Exact}
 use Rattle.exact_pass.specs.declared.Exact.the-variants.{Moved, Found, Failed, Infeasible}
 
@@ -60,3 +66,114 @@ abbrev pub Marked : List Float → List ℕ → List Float → List ℕ → ℕ 
 Marked nu st work marks since work′ marks′ since′ =
     (p : box.Problem) → def.steps p (def.trial (part 1088 (length nu) work) (take (length st) marks)) since ≡ def.moved (def.trial nu st)
     → def.steps p (def.trial (part 1088 (length nu) work′) (take (length st) marks′)) since′ ≡ def.moved (def.trial nu st)
+
+-- ---- single rows and short words of Pass.antt, as the functions have them
+
+abbrev pub started : List Float → List ℕ → ℕ → def.Start
+started nu st k = record { trial = def.trial nu st; acting = k }
+
+unfoldable pub startRow : List Float → List Float → List Float → ℕ → def.Start → def.Start
+startRow lo hi scale i s =
+    let nu = s .trial .nu in
+    let st = s .trial .states in
+    let shown = box.stateOf (at lo i) (at hi i) (at scale i) (at nu i) in
+    cond (box.acts st i) (started (set nu i (def.placed (at lo i) (at hi i) shown (at nu i))) (set st i shown) (suc (s .acting))) s
+
+abbrev pub isFree : List ℕ → ℕ → Bool
+isFree st i = eqb (box.state st i) box.inside
+
+unfoldable pub rightHandRow : List Float → List ℕ → List Float → Float → ℕ → Float
+rightHandRow r st nu u n = turns n (neg u) λ j s. cond (isFree st j) s (s ⊖ at r j ⊗ at nu j)
+
+abbrev pub rightHandAt : List Float → List Float → List ℕ → List Float → List ℕ → ℕ → Float
+rightHandAt w uFree st nu l i =
+    rightHandRow (box.row w (length nu) (getD l i 0)) st nu (at uFree (getD l i 0)) (length nu)
+
+abbrev pub scaled : List Float → List Float → List ℕ → ℕ → Float
+scaled r scale l j = at r (getD l j 0) ⊗ at scale (getD l j 0)
+
+unfoldable pub matrixRow : List Float → List Float → List ℕ → ℕ → List Float
+matrixRow r scale l k = tab (scaled r scale l) k
+
+unfoldable pub residualRow : List Float → List Float → List ℕ → List Float → Float → ℕ → Float
+residualRow r scale l z b k = turns k (neg b) λ j s. s ⊕ scaled r scale l j ⊗ at z j
+
+unfoldable pub tooLarge : Float → Float → Float → Bool
+tooLarge r d s = lt 1e-9 (abs (r ⊘ d) ⊘ s)
+
+unfoldable pub inconsistent : List Float → List Float → List ℕ → List Float → List Float → ℕ → Bool
+inconsistent w scale l rhs z k =
+    turns k false λ i b.
+    let a = getD l i 0 in
+    b || tooLarge (def.residual w scale l rhs z i) (at (box.row w (length scale) a) a) (at scale a)
+
+unfoldable pub downhill : List Float → List Float → List ℕ → List Float → List Float → ℕ → List Float
+downhill w scale l rhs z k = tab (λ (i : ℕ). neg (def.residual w scale l rhs z i)) k
+
+abbrev pub targeted : List Float → List Float → Bool → def.Target
+targeted z y b = record { z = z; y = y; inconsistent = b }
+
+unfoldable pub toTarget : List Float → List ℕ → List Float → List Float → ℕ → List Float
+toTarget scale l z nu k = tab (λ (i : ℕ). at scale (getD l i 0) ⊗ at z i ⊖ at nu (getD l i 0)) k
+
+unfoldable pub nearer : ℕ → ℕ → Float → Blocking → Blocking
+nearer a s ratio r = cond (lt ratio (r .alpha)) (record { alpha = larger ratio 0ᶠ; row = a; state = s }) r
+
+-- row a at v
+unfoldable pub ratioRow : ℕ → Float → Float → Float → Float → Blocking → Blocking
+ratioRow a v y lo hi r =
+    cond (lt 0ᶠ y) (nearer a box.atHi ((hi ⊖ v) ⊘ y) r) (cond (lt y 0ᶠ) (nearer a box.atLo ((lo ⊖ v) ⊘ y) r) r)
+
+unfoldable pub pushed : ℕ → Float → Bool
+pushed s u = cond (eqb s box.atLo) (lt u 0ᶠ) (cond (eqb s box.atHi) (lt 0ᶠ u) false)
+
+unfoldable pub worse : ℕ → Float → Worst → Worst
+worse i r best = cond (lt (best .residual) r) (record { residual = r; row = i }) best
+
+unfoldable pub releaseRow : box.Problem → List ℕ → List Float → ℕ → Worst → Worst
+releaseRow p st nu i best =
+    cond (pushed (box.state st i) (box.rowSum (box.row (p .w) (box.size p) i) (at (p .uFree) i) nu)) (worse i (box.residualAt p nu i) best) best
+
+unfoldable pub worstRow : box.Problem → List ℕ → List Float → ℕ → Worst
+worstRow p st nu n = turns n (record { residual = 1e-9; row = box.size p }) (releaseRow p st nu)
+
+unfoldable pub unbounded : box.Problem → def.Trial → List ℕ → List Float → def.Pass
+unbounded p t l y = def.unmet t (ray p (t .states) (def.scattered l y (replicate (box.size p) 0ᶠ) (length l)))
+
+-- a step along y as far as r lets it
+unfoldable pub stepped : box.Problem → def.Trial → List ℕ → List Float → Blocking → def.Pass
+stepped p t l y r =
+    let u = def.trial (def.advance l y (r .alpha) (t .nu) (length l)) (t .states) in
+    cond (isFinite (r .alpha)) (cond (eqb (r .state) box.inside) (def.release p u) (def.moved (def.hold (p .lo) (p .hi) u r)))
+    (unbounded p t l y)
+
+unfoldable pub takeStep : box.Problem → def.Trial → List ℕ → List Float → Bool → def.Pass
+takeStep p t l y inconsistent =
+    stepped p t l y (def.ratioTest (p .lo) (p .hi) l (t .nu) y (def.longest inconsistent) (length l))
+
+unfoldable pub toward : box.Problem → def.Trial → List ℕ → def.Pass
+toward p t l =
+    let g = def.target (p .w) (p .uFree) (p .scale) (t .states) (t .nu) l in
+    takeStep p t l (def.direction (g .inconsistent) (p .scale) l (g .z) (t .nu) (g .y)) (g .inconsistent)
+
+-- ---- and of Ray.antt
+
+unfoldable pub largestRow : List Float → List ℕ → List Float → ℕ → Float → Float
+largestRow scale st y a worst = cond (box.acts st a) (larger worst (walks.sizeAt scale y a)) worst
+
+-- the largest size of the first n rows, of those that act
+unfoldable pub largest : List Float → List ℕ → List Float → ℕ → Float
+largest scale st y n = turns n 0ᶠ (largestRow scale st y)
+
+unfoldable pub linear : List Float → List Float → List ℕ → ℕ → Float
+linear uFree y l k = turns k 0ᶠ λ i s. s ⊕ at uFree (getD l i 0) ⊗ at y (getD l i 0)
+
+-- row r of the matrix, whose own place in y holds v
+unfoldable pub quadraticRow : List Float → Float → List Float → List ℕ → Float → ℕ → Float
+quadraticRow r v y l q k = turns k q λ j q. q ⊕ v ⊗ at r (getD l j 0) ⊗ at y (getD l j 0)
+
+unfoldable pub quadratic : List Float → ℕ → List Float → List ℕ → ℕ → Float
+quadratic w n y l k = turns k 0ᶠ λ i q. quadraticRow (box.row w n (getD l i 0)) (at y (getD l i 0)) y l q (length l)
+
+unfoldable pub falls : Float → Float → Float → Bool
+falls lin quad far = not (le 0ᶠ lin) && (le quad 0ᶠ || lt 1e6 (neg lin ⊘ quad ⊗ far))

@@ -10,7 +10,7 @@ fn to_target(scale: &[f64], free: &[u8], z: &[f64], nu: &[f64], y: &mut [f64])
         × (length (now z) ≡ length (now free))
         × (length (now y) ≡ length (now free)) ⌝ }
     ensures { λ q. ⌜ now (y .exit)
-        ≡ def.toTarget (now (scale .entry)) (now (free .entry)) (now (z .entry)) (now (nu .entry))
+        ≡ private.toTarget (now (scale .entry)) (now (free .entry)) (now (z .entry)) (now (nu .entry))
         (length (now (free .entry))) ⌝ }
 {
     let k = free.len();

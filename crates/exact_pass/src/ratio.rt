@@ -8,7 +8,7 @@ use crate::Blocking;
 use crate::read;
 
 fn nearer(a: usize, state: usize, ratio: f64, r: Blocking) -> Blocking
-    ensures { λ q. ⌜ q ≡ def.nearer a state ratio r ⌝ }
+    ensures { λ q. ⌜ q ≡ private.nearer a state ratio r ⌝ }
 {
     if ratio < r.alpha {
         return Blocking {
@@ -22,7 +22,7 @@ fn nearer(a: usize, state: usize, ratio: f64, r: Blocking) -> Blocking
 
 // Row a at v, which goes along y.
 fn ratio_row(a: usize, v: f64, y: f64, lo: f64, hi: f64, r: Blocking) -> Blocking
-    ensures { λ q. ⌜ q ≡ def.ratioRow a v y lo hi r ⌝ }
+    ensures { λ q. ⌜ q ≡ private.ratioRow a v y lo hi r ⌝ }
 {
     if y > 0.0 {
         return nearer(a, box_rows::AT_HI as usize, (hi - v) / y, r);

@@ -24,7 +24,7 @@ fn size(y: f64, s: f64) -> f64
 fn larger_row(scale: &[f64], states: &[u8], y: &[f64], a: usize, worst: f64) -> f64
     requires { ⌜ (a < length (now y)) × (length (now scale) ≡ length (now y))
         × (length (now states) ≡ length (now y)) ⌝ }
-    ensures { λ q. ⌜ q ≡ rays.largestRow (now (scale .entry)) (now (states .entry)) (now (y .entry)) a worst ⌝ }
+    ensures { λ q. ⌜ q ≡ private.largestRow (now (scale .entry)) (now (states .entry)) (now (y .entry)) a worst ⌝ }
 {
     if read::state(states, a) == box_rows::IDLE {
         return worst;
@@ -34,7 +34,7 @@ fn larger_row(scale: &[f64], states: &[u8], y: &[f64], a: usize, worst: f64) -> 
 
 fn largest(scale: &[f64], states: &[u8], y: &[f64]) -> f64
     requires { ⌜ (length (now scale) ≡ length (now y)) × (length (now states) ≡ length (now y)) ⌝ }
-    ensures { λ q. ⌜ q ≡ rays.largest (now (scale .entry)) (now (states .entry)) (now (y .entry))
+    ensures { λ q. ⌜ q ≡ private.largest (now (scale .entry)) (now (states .entry)) (now (y .entry))
         (length (now (y .entry))) ⌝ }
 {
     let n = y.len();
@@ -49,7 +49,7 @@ fn largest(scale: &[f64], states: &[u8], y: &[f64]) -> f64
 
 // Whether a multiplier may grow without end along y.
 fn grows(y: f64, lo: f64, hi: f64) -> bool
-    ensures { λ q. ⌜ q ≡ rays.grows y lo hi ⌝ }
+    ensures { λ q. ⌜ q ≡ walks.grows y lo hi ⌝ }
 {
     let up = (y > 0.0) & (hi == 1.0 / 0.0);
     let down = (y < 0.0) & (lo == -1.0 / 0.0);
@@ -59,7 +59,7 @@ fn grows(y: f64, lo: f64, hi: f64) -> bool
 // A row is dropped (0) where it is Idle or moves next to nothing; else it is taken (1) if it may grow, and there is no
 // ray (2) if it may not.
 fn verdict(lo: f64, hi: f64, state: u8, size: f64, y: f64, least: f64) -> u8
-    ensures { λ q. ⌜ q ≡ private.verdict (rays.dropped (not (eqb state box.idle)) size least) (rays.grows y lo hi) ⌝ }
+    ensures { λ q. ⌜ q ≡ private.verdict (walks.dropped (not (eqb state box.idle)) size least) (walks.grows y lo hi) ⌝ }
 {
     if state == box_rows::IDLE {
         return 0;
@@ -145,7 +145,7 @@ fn collect(
 
 fn linear(u_free: &[f64], y: &[f64], l: &[usize]) -> f64
     requires { ⌜ private.Below (length (now y)) (now l) × (length (now «u_free») ≡ length (now y)) ⌝ }
-    ensures { λ q. ⌜ q ≡ rays.linear (now («u_free» .entry)) (now (y .entry)) (now (l .entry))
+    ensures { λ q. ⌜ q ≡ private.linear (now («u_free» .entry)) (now (y .entry)) (now (l .entry))
         (length (now (l .entry))) ⌝ }
 {
     let k = l.len();
@@ -161,7 +161,7 @@ fn linear(u_free: &[f64], y: &[f64], l: &[usize]) -> f64
 
 fn quadratic_row(row: &[f64], v: f64, y: &[f64], l: &[usize], quad: f64) -> f64
     requires { ⌜ private.Below (length (now y)) (now l) × (length (now row) ≡ length (now y)) ⌝ }
-    ensures { λ q. ⌜ q ≡ rays.quadraticRow (now (row .entry)) v (now (y .entry)) (now (l .entry)) quad
+    ensures { λ q. ⌜ q ≡ private.quadraticRow (now (row .entry)) v (now (y .entry)) (now (l .entry)) quad
         (length (now (l .entry))) ⌝ }
 {
     let k = l.len();
@@ -177,7 +177,7 @@ fn quadratic_row(row: &[f64], v: f64, y: &[f64], l: &[usize], quad: f64) -> f64
 
 fn quadratic(w: &[f64], y: &[f64], l: &[usize]) -> f64
     requires { ⌜ private.Below (length (now y)) (now l) × lists.Square (now w) (length (now y)) ⌝ }
-    ensures { λ q. ⌜ q ≡ rays.quadratic (now (w .entry)) (length (now (y .entry))) (now (y .entry)) (now (l .entry))
+    ensures { λ q. ⌜ q ≡ private.quadratic (now (w .entry)) (length (now (y .entry))) (now (y .entry)) (now (l .entry))
         (length (now (l .entry))) ⌝ }
 {
     let k = l.len();
@@ -197,9 +197,9 @@ fn quadratic(w: &[f64], y: &[f64], l: &[usize]) -> f64
 fn falls(w: &[f64], u_free: &[f64], y: &[f64], l: &[usize], far: f64) -> bool
     requires { ⌜ private.Below (length (now y)) (now l) × lists.Square (now w) (length (now y))
         × (length (now «u_free») ≡ length (now y)) ⌝ }
-    ensures { λ q. ⌜ q ≡ rays.falls
-        (rays.linear (now («u_free» .entry)) (now (y .entry)) (now (l .entry)) (length (now (l .entry))))
-        (rays.quadratic (now (w .entry)) (length (now («u_free» .entry))) (now (y .entry)) (now (l .entry))
+    ensures { λ q. ⌜ q ≡ private.falls
+        (private.linear (now («u_free» .entry)) (now (y .entry)) (now (l .entry)) (length (now (l .entry))))
+        (private.quadratic (now (w .entry)) (length (now («u_free» .entry))) (now (y .entry)) (now (l .entry))
         (length (now (l .entry))))
         far ⌝ }
 {

@@ -9,6 +9,7 @@ ghost use Rattle.floats.specs.Ops.{at};
 ghost use Rattle.box_rows.specs.Rows as box;
 ghost use Rattle.box_rows.specs.Private as lists;
 ghost use Rattle.exact_pass.specs.Pass as def;
+ghost use Rattle.exact_pass.specs.Private as private;
 ghost use Rattle.exact_pass.specs.Promise as promise;
 use crate::Exact;
 use crate::Worst;
@@ -16,7 +17,7 @@ use crate::read;
 
 // Whether a row on a bound is pushed inside: u is its row sum.
 fn pushed(state: u8, u: f64) -> bool
-    ensures { λ q. ⌜ q ≡ def.pushed state u ⌝ }
+    ensures { λ q. ⌜ q ≡ private.pushed state u ⌝ }
 {
     if state == box_rows::AT_LO {
         return u < 0.0;
@@ -28,7 +29,7 @@ fn pushed(state: u8, u: f64) -> bool
 }
 
 fn worse(i: usize, r: f64, worst: Worst) -> Worst
-    ensures { λ q. ⌜ q ≡ def.worse i r worst ⌝ }
+    ensures { λ q. ⌜ q ≡ private.worse i r worst ⌝ }
 {
     if r > worst.residual {
         return Worst {
@@ -51,8 +52,8 @@ fn bound_row(
     worst: Worst,
 ) -> Worst
     requires { ⌜ (i < length (now nu)) × (length (now row) ≡ length (now nu)) ⌝ }
-    ensures { λ q. ⌜ q ≡ cond (def.pushed state (box.rowSum (now (row .entry)) «u_free» (now (nu .entry))))
-        (def.worse i
+    ensures { λ q. ⌜ q ≡ cond (private.pushed state (box.rowSum (now (row .entry)) «u_free» (now (nu .entry))))
+        (private.worse i
         (box.naturalResidual (at (now (nu .entry)) i) (box.rowSum (now (row .entry)) «u_free» (now (nu .entry)))
         (at (now (row .entry)) i) lo hi s)
         worst)
@@ -84,7 +85,7 @@ fn release_row(
         × (length (now «u_free») ≡ length (now nu)) × (length (now states) ≡ length (now nu))
         × (i < length (now nu)) × (worst .row ≤ length (now nu)) ⌝ }
     ensures { λ q. ⌜ (q
-        ≡ def.releaseRow
+        ≡ private.releaseRow
         (box.problem (now (w .entry)) (now («u_free» .entry)) (now (lo .entry)) (now (hi .entry))
         (now (scale .entry)))
         (now (states .entry)) (now (nu .entry)) i worst)
@@ -124,7 +125,7 @@ fn worst_row(
     requires { ⌜ lists.Sized (length (now nu)) (now w) (now lo) (now hi) (now scale)
         × (length (now «u_free») ≡ length (now nu)) × (length (now states) ≡ length (now nu)) ⌝ }
     ensures { λ q. ⌜ (q
-        ≡ def.worstRow
+        ≡ private.worstRow
         (box.problem (now (w .entry)) (now («u_free» .entry)) (now (lo .entry)) (now (hi .entry))
         (now (scale .entry)))
         (now (states .entry)) (now (nu .entry)) (length (now (nu .entry))) .row)

@@ -3,6 +3,7 @@ ghost use mathlib.Core.Path.{_≡_};
 ghost use Prim.Native.Nat.{_+_, _≤_, _<_};
 ghost use lib.ListN.{length};
 ghost use Rattle.exact_pass.specs.Pass as def;
+ghost use Rattle.exact_pass.specs.Private as private;
 use crate::read;
 
 // The multiplier of a row in a state: a row on a bound has that bound.
@@ -30,9 +31,9 @@ fn start_row(
     requires { ⌜ (i < length (now nu)) × (length (now lo) ≡ length (now nu)) × (length (now hi) ≡ length (now nu))
         × (length (now scale) ≡ length (now nu))
         × (length (now states) ≡ length (now nu)) × (acting ≤ i) ⌝ }
-    ensures { λ q. ⌜ (def.started (now (nu .exit)) (now (states .exit)) q
-        ≡ def.startRow (now (lo .entry)) (now (hi .entry)) (now (scale .entry)) i
-        (def.started (now (nu .entry)) (now (states .entry)) acting))
+    ensures { λ q. ⌜ (private.started (now (nu .exit)) (now (states .exit)) q
+        ≡ private.startRow (now (lo .entry)) (now (hi .entry)) (now (scale .entry)) i
+        (private.started (now (nu .entry)) (now (states .entry)) acting))
         × (q ≤ i + 1) ⌝ }
 {
     if read::state(states, i) == box_rows::IDLE {
@@ -50,7 +51,7 @@ pub fn start(lo: &[f64], hi: &[f64], scale: &[f64], states: &mut [u8], nu: &mut 
     requires { ⌜ (length (now lo) ≡ length (now nu)) × (length (now hi) ≡ length (now nu))
         × (length (now scale) ≡ length (now nu))
         × (length (now states) ≡ length (now nu)) ⌝ }
-    ensures { λ q. ⌜ (def.started (now (nu .exit)) (now (states .exit)) q
+    ensures { λ q. ⌜ (private.started (now (nu .exit)) (now (states .exit)) q
         ≡ def.start (now (lo .entry)) (now (hi .entry)) (now (scale .entry)) (now (nu .entry)) (now (states .entry))
         (length (now (nu .entry))))
         × (q ≤ length (now (nu .entry))) ⌝ }

@@ -98,7 +98,7 @@ fn unbounded(
         × (length (now «u_free») ≤ length (now rows)) ⌝ }
     ensures { λ q. ⌜ ((v : List Float)
         → promise.Passed
-        (def.unbounded
+        (private.unbounded
         (box.problem (now (w .entry)) (now («u_free» .entry)) (now (lo .entry)) (now (hi .entry))
         (now (scale .entry)))
         (def.trial v (now (states .entry))) (now (free .entry)) (now (y .entry)))
@@ -150,7 +150,7 @@ fn take_step(
         × private.Below (length (now nu)) (now free) × (length (now y) ≡ length (now free)) × (0 < length (now nu))
         × (length (now nu) ≤ length (now rows)) ⌝ }
     ensures { λ q. ⌜ promise.Passed
-        (def.takeStep
+        (private.takeStep
         (box.problem (now (w .entry)) (now («u_free» .entry)) (now (lo .entry)) (now (hi .entry))
         (now (scale .entry)))
         (def.trial (now (nu .entry)) (now (states .entry))) (now (free .entry)) (now (y .entry)) inconsistent)
@@ -192,7 +192,7 @@ fn toward(
         × (length (now z) ≡ length (now free)) × (length (now nu) ≤ length (now rows))
         × (1120 ≤ length (now work)) ⌝ }
     ensures { λ q. ⌜ promise.Passed
-        (def.toward
+        (private.toward
         (box.problem (now (w .entry)) (now («u_free» .entry)) (now (lo .entry)) (now (hi .entry))
         (now (scale .entry)))
         (def.trial (now (nu .entry)) (now (states .entry))) (now (free .entry)))

@@ -90,7 +90,7 @@ fn matrix_row(row: &[f64], scale: &[f64], free: &[u8], out: &mut [f64])
     requires { ⌜ (length (now row) ≡ length (now scale)) × private.Below (length (now scale)) (now free)
         × (length (now out) ≡ length (now free)) ⌝ }
     ensures { λ q. ⌜ now (out .exit)
-        ≡ def.matrixRow (now (row .entry)) (now (scale .entry)) (now (free .entry)) (length (now (free .entry))) ⌝ }
+        ≡ private.matrixRow (now (row .entry)) (now (scale .entry)) (now (free .entry)) (length (now (free .entry))) ⌝ }
 {
     let k = free.len();
     let mut j = 0;
@@ -128,7 +128,7 @@ fn residual_row(row: &[f64], scale: &[f64], free: &[u8], z: &[f64], b: f64) -> f
     requires { ⌜ (length (now row) ≡ length (now scale)) × private.Below (length (now scale)) (now free)
         × (length (now z) ≡ length (now free)) ⌝ }
     ensures { λ q. ⌜ q
-        ≡ def.residualRow (now (row .entry)) (now (scale .entry)) (now (free .entry)) (now (z .entry)) b
+        ≡ private.residualRow (now (row .entry)) (now (scale .entry)) (now (free .entry)) (now (z .entry)) b
         (length (now (free .entry))) ⌝ }
 {
     let k = free.len();
@@ -144,7 +144,7 @@ fn residual_row(row: &[f64], scale: &[f64], free: &[u8], z: &[f64], b: f64) -> f
 
 // Whether r, what is left of a row of diagonal d and scale s, is too much.
 fn too_large(r: f64, d: f64, s: f64) -> bool
-    ensures { λ q. ⌜ q ≡ def.tooLarge r d s ⌝ }
+    ensures { λ q. ⌜ q ≡ private.tooLarge r d s ⌝ }
 {
     floats::abs(r / d) / s > crate::EXACT_RESIDUAL
 }
@@ -155,12 +155,12 @@ fn residual(w: &[f64], scale: &[f64], free: &[u8], work: &[f64], z: &[f64], y: &
         × (length (now z) ≡ length (now free))
         × (length (now y) ≡ length (now free)) × (length (now free) ≤ 32) × (1120 ≤ length (now work)) ⌝ }
     ensures { λ q. ⌜ (now (y .exit)
-        ≡ def.downhill (now (w .entry)) (now (scale .entry)) (now (free .entry))
+        ≡ private.downhill (now (w .entry)) (now (scale .entry)) (now (free .entry))
         (private.part 1056 (length (now (free .entry))) (now (work .entry))) (now (z .entry))
         (length (now (free .entry))))
         ×
         (q
-        ≡ def.inconsistent (now (w .entry)) (now (scale .entry)) (now (free .entry))
+        ≡ private.inconsistent (now (w .entry)) (now (scale .entry)) (now (free .entry))
         (private.part 1056 (length (now (free .entry))) (now (work .entry))) (now (z .entry))
         (length (now (free .entry))))
         ⌝ }
@@ -218,7 +218,7 @@ pub fn target(
         × private.Below (length (now nu)) (now free) × (length (now free) ≤ 32)
         × (length (now m) ≡ length (now free) * length (now free))
         × (length (now y) ≡ length (now free)) × (length (now z) ≡ length (now free)) × (1120 ≤ length (now work)) ⌝ }
-    ensures { λ q. ⌜ (def.targeted (now (z .exit)) (now (y .exit)) q
+    ensures { λ q. ⌜ (private.targeted (now (z .exit)) (now (y .exit)) q
         ≡ def.target (now (w .entry)) (now («u_free» .entry)) (now (scale .entry)) (now (states .entry))
         (now (nu .entry)) (now (free .entry)))
         × (drop 1088 (now (work .exit)) ≡ drop 1088 (now (work .entry))) ⌝ }

@@ -5,9 +5,13 @@ use Prim.Native.Nat.{ℕ, zero, suc, _+_, _≤_, _<_}
 use native.Mathlib.Nat.{not-suc-le-zero, le-of-suc-le-suc}
 use native.Mathlib.Numerals.{add-one}
 use native.Mathlib.Omega.{arith}
-use lib.Seq.{drop-cons, set-at}
+use lib.Arith.{lt-of-le-ne}
+use lib.Dec.{eqb}
+use lib.Seq.{drop-cons, set-at, getD-at}
+use mathlib.Core.Bool.{Bool, true, false}
+use borrow.Author.Tests.{eqb-true, eqb-false}
 use Rattle.loops.specs.Loops.{tab, turns}
-use lib.ListN.{length, length-append, set, drop, replicate, drop-of-length-le}
+use lib.ListN.{length, getD, length-append, set, drop, replicate, drop-of-length-le, List·getD-append}
 
 module _ {A : Type 0} where
   pub fill-start : (v : A) (d : List A) → d ≡ replicate 0 v ++ drop 0 d
@@ -44,3 +48,15 @@ module _ {A : Type 0} (f : ℕ → A) where
 
   pub tab-done : (n : ℕ) (d s : List A) → s ≡ tab f n ++ drop n d → length s ≡ length d → n ≤ length d → length s ≤ n → s ≡ tab f (length d)
   tab-done n d s e k g h = let q : n ≡ length d = omega arith in e ∙ rw (drop-of-length-le d {i = n} (omega arith), append-nil, q)
+
+  -- place j of a table is its value at j
+  pub tab-at : (n j : ℕ) (d : A) → j < n → getD (tab f n) j d ≡ f j
+  unfolding tab turns
+  tab-at zero j d h = absurd (not-suc-le-zero h)
+  tab-at (suc n) j d h = go (eqb j n) refl (λ c. tab-at n j d c)
+    where
+      go : (b : Bool) → eqb j n ≡ b → (j < n → getD (tab f n) j d ≡ f j) → getD (tab f n ++ (f n ∷ [])) j d ≡ f j
+      go true e before = rw (eqb-true j n e) (getD-at (tab f n) (f n) [] d n (tab-length n))
+      go false e before =
+          let c : j < n = lt-of-le-ne (le-of-suc-le-suc h) (eqb-false j n e) in
+          List·getD-append (tab f n) (f n ∷ []) d j (rw (tab-length n) c) ∙ before c

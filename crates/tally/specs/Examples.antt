@@ -314,17 +314,14 @@ unfolding
     least.lastCleared least.known least.substituted least.turn least.turned least.firstTurned least.unpermuted
     least.solved least.ranked least.leastNorm
     box.row box.isIdle box.onBound box.stateOf box.rowSum box.update box.updateSide box.naturalResidual box.residualAt
-    rays.sizeOf rays.largestRow rays.largest rays.dropped rays.grows rays.collect rays.collectRow rays.collected
-    rays.linear rays.quadraticRow rays.quadratic rays.farthest rays.falls rays.fallingRows rays.ray
-    pass.startRow pass.start pass.rightHandRow pass.rightHandSide pass.matrixRow pass.matrix pass.residualRow
-    pass.tooLarge pass.inconsistentRow pass.inconsistent pass.downhill pass.target pass.toTarget pass.direction
-    pass.longest pass.nearer pass.ratioRow pass.ratioTest pass.advance pass.hold pass.pushed pass.worse pass.releaseRow
-    pass.worstRow pass.release pass.scattered pass.unmet pass.unbounded pass.stepped pass.takeStep pass.toward pass.stepOf
-    pass.step pass.steps pass.closed pass.exactPass
-    sweep.startRow sweep.start sweep.sweepRow sweep.sweep sweep.stops sweep.stopped sweep.isGrown sweep.residualRow sweep.residual
-    sweep.coordinate sweep.moved sweep.change sweep.classifyRow sweep.classified
-    solve.member solve.unless solve.passed solve.checked solve.tested solve.turn solve.run solve.reportOf solve.unfound
-    solve.result solve.solve solve.goodScale solve.refusal solve.reply rowStart withinLimits wrongLength triangleRefusal refusalOf
+    rays.sizeOf rays.collect rays.fallingRows rays.ray
+    pass.start pass.rightHandSide pass.matrix pass.residual pass.target pass.direction pass.longest pass.ratioTest
+    pass.advance pass.hold pass.release pass.scattered pass.unmet pass.stepOf pass.step pass.steps pass.closed
+    pass.exactPass
+    sweep.start sweep.sweep sweep.stopped sweep.residual sweep.moved sweep.change sweep.classified
+    solve.member solve.unless solve.passed solve.checked solve.tested solve.turn solve.run solve.reportOf
+    solve.unfound solve.result solve.solve solve.refusal solve.reply solve.solveReply
+    rowStart withinLimits wrongLength triangleRefusal refusalOf
     add sub mul div ofBits toBits lt le eq ne neg
     report.sumFits report.sumsFit report.allSumsFit report.and
     def.alone def.noNaN def.turned def.taken def.full def.numberOn def.answerOn def.with def.tallied def.before def.all

@@ -13,7 +13,7 @@ use lib.Seq.{getD-at, getD-append-add}
 use lib.Ieee.{Float, nan}
 use borrow.Author.Tests.{le-leb, lt-leb, leb-true, leb-false, eq-eqb, eqb-true, eqb-false}
 use Rattle.loops.specs.Loops.{turns, tab}
-use Rattle.loops.proofs.Fill.{tab-length}
+use Rattle.loops.proofs.Fill.{tab-length, tab-at}
 use Rattle.loops.proofs.Index as index
 use Rattle.floats.specs.Ops.{at}
 use Rattle.box_rows.specs.Rows as box
@@ -38,18 +38,6 @@ row-fits (suc n) i h =
     (eq-or-lt-of-le (le-of-suc-le-suc h))
 
 -- ---- a table and a list of tables, by their places
-
-pub tab-at : {A : Type 0} (f : ℕ → A) (n j : ℕ) (d : A) → j < n → getD (tab f n) j d ≡ f j
-unfolding tab turns
-tab-at f zero j d h = absurd (not-suc-le-zero h)
-tab-at f (suc n) j d h = go (eqb j n) refl (λ c. tab-at f n j d c)
-  where
-    go : (b : Bool) → eqb j n ≡ b → (j < n → getD (tab f n) j d ≡ f j) → getD (tab f n ++ (f n ∷ [])) j d ≡ f j
-    go true e before = rw (eqb-true j n e) (getD-at (tab f n) (f n) [] d n (tab-length f n))
-    go false e before =
-        let q = eqb-false j n e in
-        let c : j < n = omega arith in
-        List·getD-append (tab f n) (f n ∷ []) d j (rw (tab-length f n) c) ∙ before c
 
 module _ {A : Type 0} (g : ℕ → List A) (k : ℕ) (long : (i : ℕ) → length (g i) ≡ k) where
   abbrev joined : ℕ → List A
@@ -76,7 +64,7 @@ unfolding mirrorRow
 mirror-row-length t n i = tab-length (mirror t i) n
 
 -- every row and column
-pub mirrored-at : (n : ℕ) (t : List Float) (i j : ℕ) → i < n → j < n → box.entry (mirrored n t) n i j ≡ mirror t i j
+pub mirrored-at : (n : ℕ) (t : List Float) (i j : ℕ) → i < n → j < n → at (mirrored n t) (i * n + j) ≡ mirror t i j
 unfolding mirrored rowsMirrored mirrorRow
 mirrored-at n t i j h l = joined-at (mirrorRow t n) n (mirror-row-length t n) n i j nan h l ∙ tab-at (mirror t i) n j nan l
 

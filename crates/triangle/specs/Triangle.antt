@@ -38,8 +38,8 @@ mirrored n t = rowsMirrored t n n
 -- The triangle's value in row i and column j stands in the matrix at (i, j) and at (j, i). Of every n, every triangle and every place; the theorem is `mirrors` in proofs/Mirrored.antt.
 pub record Mirrors (n : ℕ) (t : List Float) : Type 0 where
   pub square : length (mirrored n t) ≡ n * n
-  pub below : (i j : ℕ) → i < n → j ≤ i → box.entry (mirrored n t) n i j ≡ at t (rowStart i + j)
-  pub above : (i j : ℕ) → i < n → j ≤ i → box.entry (mirrored n t) n j i ≡ at t (rowStart i + j)
+  pub below : (i j : ℕ) → i < n → j ≤ i → at (mirrored n t) (i * n + j) ≡ at t (rowStart i + j)
+  pub above : (i j : ℕ) → i < n → j ≤ i → at (mirrored n t) (j * n + i) ≡ at t (rowStart i + j)
 
 -- ---- the solve
 

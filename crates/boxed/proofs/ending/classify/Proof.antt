@@ -4,6 +4,7 @@ use native.Mathlib.Omega.{arith}
 use lib.ListN.{length}
 use borrow.Author.Needs.{needs}
 use Rattle.boxed.specs.Sweep as def
+use Rattle.boxed.specs.Private as private
 use Rattle.loops.proofs.Turns.{turns-from, turns-again, turns-done}
 use Rattle.boxed.proofs.ending.classify.Statement.{statement}
 use Rattle.boxed.proofs.ending.classify.Tie as tie
@@ -15,7 +16,7 @@ abbrev μ-loop : tie.MeasureT-loop
 μ-loop lo hi scale nu states₀ n i₀ states i = n - i
 
 loop-holds : tie.Need-loop-holds Inv-loop μ-loop
-unfolding def.classified
+unfolding def.classified private.classifyRow
 loop-holds c = (search needs, search needs, search needs, turns-from _ _)
 
 classify-row-requires : tie.Need-classify-row-requires Inv-loop μ-loop
@@ -28,7 +29,7 @@ loop-less : tie.Need-loop-less Inv-loop μ-loop
 loop-less c = omega arith
 
 loop-again : tie.Need-loop-again Inv-loop μ-loop
-unfolding def.classified
+unfolding def.classified private.classifyRow
 loop-again c =
     let at-classify-row = c .before .before in
     let at-loop = at-classify-row .before .before .before in
@@ -38,7 +39,7 @@ same-length : tie.Need-same-length Inv-loop μ-loop
 same-length c = c .before .loop .inv .2
 
 returns : tie.Need-returns Inv-loop μ-loop
-unfolding def.classified
+unfolding def.classified private.classifyRow
 returns c = turns-done _ _ _ _ _ (omega arith) (omega arith) (c .before .loop .inv .3)
 
 pub classify-spec : {M : Type 1} → statement M

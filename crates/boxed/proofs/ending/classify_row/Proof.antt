@@ -2,6 +2,7 @@ use native.Mathlib.Omega.{arith}
 use mathlib.Core.Path.{_≡_, sym, _∙_, refl}
 use borrow.Author.Tests.{eq-eqb, ne-eqb}
 use Rattle.boxed.specs.Sweep as def
+use Rattle.boxed.specs.Private as private
 use Rattle.box_rows.specs.Rows as box
 use Rattle.boxed.proofs.ending.classify_row.Statement.{statement}
 use Rattle.boxed.proofs.ending.classify_row.Tie as tie
@@ -13,7 +14,7 @@ same-length : tie.Need-same-length
 same-length c = refl
 
 returns : tie.Need-returns
-unfolding def.classifyRow
+unfolding private.classifyRow
 returns c =
     let at-state = c .before in
     rw (eq-eqb _ _ (sym (at-state .state .ensures) ∙ c .if1 .taken))
@@ -40,7 +41,7 @@ same-length-2 : tie.Need-same-length-2
 same-length-2 c = c .before .before .put-state .kept .0
 
 returns-2 : tie.Need-returns-2
-unfolding def.classifyRow
+unfolding private.classifyRow
 returns-2 c =
     let at-put-state = c .before .before in
     let at-state-of = at-put-state .before .before in

@@ -4,13 +4,14 @@ use native.Mathlib.Omega.{arith}
 use lib.ListN.{length}
 use borrow.Author.Needs.{needs}
 use Rattle.boxed.specs.Sweep as def
+use Rattle.boxed.specs.Private as private
 use Rattle.loops.proofs.Gather.{gather-start, gather-again, gather-done, gather-le}
 use Rattle.loops.specs.Gathering.{Gathering}
 use Rattle.boxed.proofs.growth.grown.Statement.{statement}
 use Rattle.boxed.proofs.growth.grown.Tie as tie
 
 abbrev Inv-loop : tie.InvT-loop
-Inv-loop nu scale rows₀ n k₀ i₀ rows k i = (i ≤ n) × (n ≡ length nu) × (length rows ≡ length rows₀) × Gathering (def.grownAt nu scale) rows₀ i k rows
+Inv-loop nu scale rows₀ n k₀ i₀ rows k i = (i ≤ n) × (n ≡ length nu) × (length rows ≡ length rows₀) × Gathering (private.grownAt nu scale) rows₀ i k rows
 
 abbrev μ-loop : tie.MeasureT-loop
 μ-loop nu scale rows₀ n k₀ i₀ rows k i = n - i

@@ -2,6 +2,7 @@ use native.Mathlib.Omega.{arith}
 use mathlib.Core.Path.{refl}
 use native.Mathlib.Numerals.{add-one}
 use Rattle.boxed.specs.Sweep as def
+use Rattle.boxed.specs.Private as private
 use Rattle.loops.specs.Loops.{counted, noted}
 use Rattle.boxed.proofs.growth.grown_row.Statement.{statement}
 use Rattle.boxed.proofs.growth.grown_row.Tie as tie
@@ -19,7 +20,7 @@ same-length : tie.Need-same-length
 same-length c = c .before .before .put-number .kept .0
 
 returns : tie.Need-returns
-unfolding counted noted def.isGrown
+unfolding counted noted private.isGrown
 returns c =
     let at-put-number = c .before .before in
     let at-if1 = at-put-number .before .before in
@@ -27,7 +28,7 @@ returns c =
     rw (← at-abs .abs .ensures, at-if1 .if1 .taken) (add-one _, at-put-number .put-number .ensures)
 
 returns-2 : tie.Need-returns-2
-unfolding counted noted def.isGrown
+unfolding counted noted private.isGrown
 returns-2 c =
     let at-abs = c .before in
     rw (← at-abs .abs .ensures, c .if1 .left) (refl, refl)

@@ -1,4 +1,5 @@
 use Rattle.boxed.specs.Solve as def
+use Rattle.boxed.specs.Private as private
 use Rattle.boxed.proofs.refusal.good_scale.Statement.{statement}
 use Rattle.boxed.proofs.refusal.good_scale.Tie as tie
 
@@ -6,11 +7,11 @@ is-finite-requires : tie.Need-is-finite-requires
 is-finite-requires c κs = tt
 
 returns : tie.Need-returns
-unfolding def.goodScale
+unfolding private.goodScale
 returns c = rw (← c .before .is-finite .ensures, c .if1 .taken)
 
 returns-2 : tie.Need-returns-2
-unfolding def.goodScale
+unfolding private.goodScale
 returns-2 c = rw (← c .before .is-finite .ensures, c .if1 .left)
 
 pub good-scale-spec : {M : Type 1} → statement M

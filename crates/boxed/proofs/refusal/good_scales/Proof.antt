@@ -4,12 +4,13 @@ use native.Mathlib.Numerals.{add-one}
 use native.Mathlib.Omega.{arith}
 use borrow.Author.Needs.{needs}
 use Rattle.boxed.specs.Solve as def
+use Rattle.boxed.specs.Private as private
 use Rattle.loops.specs.Loops.{every}
 use Rattle.boxed.proofs.refusal.good_scales.Statement.{statement}
 use Rattle.boxed.proofs.refusal.good_scales.Tie as tie
 
 abbrev Inv-loop : tie.InvT-loop
-Inv-loop scale n good₀ i₀ good i = (i ≤ n) × (good ≡ every (def.goodScaleAt scale) i)
+Inv-loop scale n good₀ i₀ good i = (i ≤ n) × (good ≡ every (private.goodScaleAt scale) i)
 
 abbrev μ-loop : tie.MeasureT-loop
 μ-loop scale n good₀ i₀ good i = n - i

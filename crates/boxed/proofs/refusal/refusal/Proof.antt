@@ -4,6 +4,7 @@ use mathlib.Core.Path.{_≡_, refl, sym, _∙_}
 use lib.Dec.{eqb}
 use borrow.Author.Tests.{ltb-false, eqb-true, not-false}
 use Rattle.boxed.specs.Solve as def
+use Rattle.boxed.specs.Private as private
 use Rattle.loops.proofs.Every.{both-true}
 use Rattle.boxed.proofs.refusal.refusal.Statement.{statement}
 use Rattle.boxed.proofs.refusal.refusal.Tie as tie
@@ -12,7 +13,7 @@ too-large-requires : tie.Need-too-large-requires
 too-large-requires c κs = tt
 
 returns : tie.Need-returns
-unfolding def.refusal
+unfolding def.refusal private.goodScale
 returns c =
     let at-too-large = c .before in
     rw (← at-too-large .too-large .ensures, c .if1 .taken)
@@ -27,7 +28,7 @@ not-square-requires c κs =
     ltb-false _ _ (or-left _ _ (sym (at-too-large .too-large .ensures) ∙ c .if1 .left))
 
 returns-2 : tie.Need-returns-2
-unfolding def.refusal
+unfolding def.refusal private.goodScale
 returns-2 c =
     let at-not-square = c .before in
     let at-if1 = at-not-square .before in
@@ -38,7 +39,7 @@ unequal-requires : tie.Need-unequal-requires
 unequal-requires c κs = tt
 
 returns-3 : tie.Need-returns-3
-unfolding def.refusal
+unfolding def.refusal private.goodScale
 returns-3 c =
     let at-unequal = c .before in
     let at-if2 = at-unequal .before in
@@ -59,7 +60,7 @@ good-scales-requires c κs =
     equal-third _ _ _ _ _ _ (at-unequal .unequal .ensures) (c .if3 .left)
 
 returns-4 : tie.Need-returns-4
-unfolding def.refusal
+unfolding def.refusal private.goodScale
 returns-4 c =
     let at-good-scales = c .before in
     let at-if3 = at-good-scales .before in
@@ -74,7 +75,7 @@ uneven-requires : tie.Need-uneven-requires
 uneven-requires c κs = tt
 
 returns-5 : tie.Need-returns-5
-unfolding def.refusal
+unfolding def.refusal private.goodScale
 returns-5 c =
     let at-uneven = c .before in
     let at-if4 = at-uneven .before in
@@ -91,7 +92,7 @@ too-short-requires : tie.Need-too-short-requires
 too-short-requires c κs = tt
 
 returns-6 : tie.Need-returns-6
-unfolding def.refusal
+unfolding def.refusal private.goodScale
 returns-6 c =
     let at-too-short = c .before in
     let at-if5 = at-too-short .before in
@@ -107,7 +108,7 @@ returns-6 c =
     rw (← at-too-large .too-large .ensures, at-if1 .if1 .left, ← at-not-square .not-square .ensures, at-if2 .if2 .left, ← at-unequal .unequal .ensures, at-if3 .if3 .left, ← at-good-scales .good-scales .ensures, at-if4 .if4 .left, ← at-uneven .uneven .ensures, at-if5 .if5 .left, ← at-too-short .too-short .ensures, c .if6 .taken)
 
 returns-7 : tie.Need-returns-7
-unfolding def.refusal
+unfolding def.refusal private.goodScale
 returns-7 c =
     let at-too-short = c .before in
     let at-if5 = at-too-short .before in

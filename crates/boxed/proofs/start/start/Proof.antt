@@ -4,19 +4,20 @@ use native.Mathlib.Omega.{arith}
 use lib.ListN.{length}
 use borrow.Author.Needs.{needs}
 use Rattle.boxed.specs.Sweep as def
+use Rattle.boxed.specs.Private as private
 use Rattle.box_rows.proofs.Matrix.{row-fits, row-length}
 use Rattle.loops.proofs.Turns.{turns-from, turns-again, turns-done}
 use Rattle.boxed.proofs.start.start.Statement.{statement}
 use Rattle.boxed.proofs.start.start.Tie as tie
 
 abbrev Inv-loop : tie.InvT-loop
-Inv-loop w lo hi states₀ nu₀ n idle₀ i₀ states nu idle i = (i ≤ n) × (idle ≤ i) × (length nu ≡ length nu₀) × (length states ≡ length states₀) × (n ≡ length nu₀) × (def.started nu states idle ≡ def.start w n lo hi nu₀ states₀ i)
+Inv-loop w lo hi states₀ nu₀ n idle₀ i₀ states nu idle i = (i ≤ n) × (idle ≤ i) × (length nu ≡ length nu₀) × (length states ≡ length states₀) × (n ≡ length nu₀) × (private.started nu states idle ≡ def.start w n lo hi nu₀ states₀ i)
 
 abbrev μ-loop : tie.MeasureT-loop
 μ-loop w lo hi states₀ nu₀ n idle₀ i₀ states nu idle i = n - i
 
 loop-holds : tie.Need-loop-holds Inv-loop μ-loop
-unfolding def.start
+unfolding def.start private.startRow
 loop-holds c = (search needs, search needs, search needs, search needs, search needs, turns-from _ _)
 
 row-requires : tie.Need-row-requires Inv-loop μ-loop
@@ -44,7 +45,7 @@ loop-less : tie.Need-loop-less Inv-loop μ-loop
 loop-less c = omega arith
 
 loop-again : tie.Need-loop-again Inv-loop μ-loop
-unfolding def.start
+unfolding def.start private.startRow
 loop-again c =
     let at-start-row = c .before .before .before .before in
     let at-at3 = at-start-row .before .before .before in
@@ -61,7 +62,7 @@ same-length-2 : tie.Need-same-length-2 Inv-loop μ-loop
 same-length-2 c = c .before .loop .inv .2
 
 returns : tie.Need-returns Inv-loop μ-loop
-unfolding def.start
+unfolding def.start private.startRow
 returns c = (turns-done _ _ _ _ _ (omega arith) (omega arith) (c .before .loop .inv .5), search needs)
 
 pub start-spec : {M : Type 1} → statement M

@@ -3,6 +3,7 @@ use mathlib.Core.Path.{sym, _∙_}
 use native.Mathlib.Numerals.{add-one}
 use borrow.Author.Needs.{needs}
 use Rattle.boxed.specs.Sweep as def
+use Rattle.boxed.specs.Private as private
 use Rattle.boxed.proofs.start.start_row.Statement.{statement}
 use Rattle.boxed.proofs.start.start_row.Tie as tie
 
@@ -28,7 +29,7 @@ same-length-2 : tie.Need-same-length-2
 same-length-2 c = c .before .before .put .kept .0
 
 returns : tie.Need-returns
-unfolding def.startRow
+unfolding private.startRow
 returns c =
     let at-put = c .before .before in
     let at-clamp = at-put .before .before in
@@ -56,7 +57,7 @@ same-length-4 : tie.Need-same-length-4
 same-length-4 c = c .before .before .put2 .kept .0
 
 returns-2 : tie.Need-returns-2
-unfolding def.startRow
+unfolding private.startRow
 returns-2 c =
     let at-put2 = c .before .before in
     let at-clamp2 = at-put2 .before .before in

@@ -1,4 +1,5 @@
 use Rattle.boxed.specs.Sweep as def
+use Rattle.boxed.specs.Private as private
 use Rattle.loops.proofs.Turns.{turns-from, turns-again, turns-done}
 use Prim.Native.Nat.{_+_, _*_, _≤_, _<_, _-_}
 use mathlib.Core.Path.{_≡_, refl, sym, ap, _∙_}
@@ -27,7 +28,7 @@ abbrev μ-loop : tie.MeasureT-loop
 μ-loop w u-free lo hi states nu₀ before₀ n k₀ i₀ nu before k i = n - i
 
 loop-holds : tie.Need-loop-holds Inv-loop μ-loop
-unfolding def.sweep
+unfolding def.sweep private.sweepRow
 loop-holds c =
     let at-args = c .before .before .before .before .before .before .before in
     (search needs, search needs, search needs, turns-from _ _, search needs, front-start (at-args .args .nu .now) (at-args .args .before .now), search needs, stopped-start _ _ _ _ _ _)
@@ -50,7 +51,7 @@ loop-less : tie.Need-loop-less Inv-loop μ-loop
 loop-less c = omega arith
 
 loop-again : tie.Need-loop-again Inv-loop μ-loop
-unfolding def.sweep
+unfolding def.sweep private.sweepRow
 loop-again c =
     let at-sweep-row = c .before .before in
     let at-put = at-sweep-row .before .before .before .before in
@@ -76,7 +77,7 @@ same-length-2 : tie.Need-same-length-2 Inv-loop μ-loop
 same-length-2 c = c .before .loop .inv .4
 
 returns : tie.Need-returns Inv-loop μ-loop
-unfolding def.sweep
+unfolding def.sweep private.sweepRow
 returns c =
     let at-loop = c .before in
     let at-args = at-loop .before .before .before .before .before .before .before .before in (

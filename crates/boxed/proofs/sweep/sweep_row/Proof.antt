@@ -5,6 +5,7 @@ use borrow.Author.Tests.{eq-eqb, ne-eqb}
 use borrow.Author.Needs.{needs}
 use Rattle.loops.specs.Loops.{counted}
 use Rattle.boxed.specs.Sweep as def
+use Rattle.boxed.specs.Private as private
 use Rattle.box_rows.specs.Rows as box
 use Rattle.box_rows.proofs.Matrix.{row-fits, row-length}
 use Rattle.boxed.proofs.Stopping.{counted-within}
@@ -15,7 +16,7 @@ state-requires : tie.Need-state-requires
 state-requires c κs = omega arith
 
 returns : tie.Need-returns
-unfolding def.sweepRow def.stops counted
+unfolding private.sweepRow private.stops counted
 returns c =
     let at-state = c .before in
     let idle = eq-eqb _ _ (sym (at-state .state .ensures) ∙ c .if1 .taken) in
@@ -62,7 +63,7 @@ same-length : tie.Need-same-length
 same-length c = c .before .before .before .put .kept .0
 
 returns-2 : tie.Need-returns-2
-unfolding def.sweepRow def.stops
+unfolding private.sweepRow private.stops
 returns-2 c =
     let at-count = c in
     let at-put = at-count .before .before .before in

@@ -5,6 +5,7 @@ use native.Mathlib.Omega.{arith}
 use lib.ListN.{drop, length}
 use borrow.Author.Needs.{needs}
 use Rattle.boxed.specs.Sweep as def
+use Rattle.boxed.specs.Private as private
 use Rattle.loops.specs.Loops.{tab}
 use Rattle.box_rows.proofs.Matrix.{tab-filled}
 use Rattle.loops.proofs.Fill.{tab-start, tab-again}
@@ -12,7 +13,7 @@ use Rattle.boxed.proofs.tests.change.Statement.{statement}
 use Rattle.boxed.proofs.tests.change.Tie as tie
 
 abbrev Inv-loop : tie.InvT-loop
-Inv-loop nu before y₀ n i₀ y i = (i ≤ n) × (n ≡ length nu) × (length y ≡ length y₀) × (y ≡ tab (def.changeAt nu before) i ++ drop i y₀)
+Inv-loop nu before y₀ n i₀ y i = (i ≤ n) × (n ≡ length nu) × (length y ≡ length y₀) × (y ≡ tab (private.changeAt nu before) i ++ drop i y₀)
 
 abbrev μ-loop : tie.MeasureT-loop
 μ-loop nu before y₀ n i₀ y i = n - i

@@ -4,18 +4,19 @@ use native.Mathlib.Omega.{arith}
 use lib.ListN.{length}
 use borrow.Author.Needs.{needs}
 use Rattle.boxed.specs.Sweep as def
+use Rattle.boxed.specs.Private as private
 use Rattle.loops.proofs.Turns.{turns-from, turns-again, turns-done}
 use Rattle.boxed.proofs.tests.coordinate.Statement.{statement}
 use Rattle.boxed.proofs.tests.coordinate.Tie as tie
 
 abbrev Inv-loop : tie.InvT-loop
-Inv-loop row nu before n s₀ i₀ s i = (i ≤ n) × (n ≡ length nu) × (s ≡ def.coordinate row nu before i)
+Inv-loop row nu before n s₀ i₀ s i = (i ≤ n) × (n ≡ length nu) × (s ≡ private.coordinate row nu before i)
 
 abbrev μ-loop : tie.MeasureT-loop
 μ-loop row nu before n s₀ i₀ s i = n - i
 
 loop-holds : tie.Need-loop-holds Inv-loop μ-loop
-unfolding def.coordinate
+unfolding private.coordinate
 loop-holds c = search (turns-from, needs)
 
 at-requires : tie.Need-at-requires Inv-loop μ-loop
@@ -34,7 +35,7 @@ loop-less : tie.Need-loop-less Inv-loop μ-loop
 loop-less c = omega arith
 
 loop-again : tie.Need-loop-again Inv-loop μ-loop
-unfolding def.coordinate
+unfolding private.coordinate
 loop-again c =
     let at-at2 = c .before in
     let at-at = at-at2 .before in
@@ -42,7 +43,7 @@ loop-again c =
     (search needs, search needs, turns-again _ _ _ _ _ (at-loop .loop .inv .2) (rw (at-at .at .ensures, at-at2 .at2 .ensures, c .at3 .ensures)))
 
 returns : tie.Need-returns Inv-loop μ-loop
-unfolding def.coordinate
+unfolding private.coordinate
 returns c = turns-done _ _ _ _ _ (omega arith) (omega arith) (c .before .loop .inv .2)
 
 pub coordinate-spec : {M : Type 1} → statement M

@@ -5,6 +5,7 @@ use native.Mathlib.Omega.{arith}
 use lib.ListN.{length}
 use borrow.Author.Needs.{needs}
 use Rattle.boxed.specs.Sweep as def
+use Rattle.boxed.specs.Private as private
 use Rattle.box_rows.proofs.Matrix.{row-length}
 use Rattle.boxed.proofs.Rows.{rows-fit}
 use Rattle.loops.proofs.Turns.{turns-from, turns-again, turns-done}
@@ -21,7 +22,7 @@ div-coords : tie.Need-div-coords Inv-loop μ-loop
 div-coords c = search needs
 
 loop-holds : tie.Need-loop-holds Inv-loop μ-loop
-unfolding def.moved
+unfolding def.moved private.coordinate
 loop-holds c = (search needs, search needs, search needs, turns-from _ _)
 
 row-requires : tie.Need-row-requires Inv-loop μ-loop
@@ -51,7 +52,7 @@ loop-less : tie.Need-loop-less Inv-loop μ-loop
 loop-less c = omega arith
 
 loop-again : tie.Need-loop-again Inv-loop μ-loop
-unfolding def.moved
+unfolding def.moved private.coordinate
 loop-again c =
     let at-abs = c .before in
     let at-coordinate = at-abs .before in
@@ -60,7 +61,7 @@ loop-again c =
     (search needs, search needs, search needs, turns-again _ _ _ _ _ (at-loop .loop .inv .3) (rw (c .larger .ensures, at-abs .abs .ensures, at-coordinate .coordinate .ensures, at-row .row .ensures)))
 
 returns : tie.Need-returns Inv-loop μ-loop
-unfolding def.moved
+unfolding def.moved private.coordinate
 returns c =
     let at-loop = c .before in
     turns-done _ _ _ _ _ (at-loop .loop .inv .0) (c .loop-test .left) (at-loop .loop .inv .3)

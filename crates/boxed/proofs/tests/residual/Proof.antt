@@ -4,6 +4,7 @@ use native.Mathlib.Omega.{arith}
 use lib.ListN.{length}
 use borrow.Author.Needs.{needs}
 use Rattle.boxed.specs.Sweep as def
+use Rattle.boxed.specs.Private as private
 use Rattle.box_rows.specs.Rows as box
 use Rattle.loops.proofs.Turns.{turns-from, turns-again, turns-done}
 use Rattle.boxed.proofs.tests.residual.Statement.{statement}
@@ -16,7 +17,7 @@ abbrev μ-loop : tie.MeasureT-loop
 μ-loop w u-free lo hi scale states nu n worst₀ i₀ worst i = n - i
 
 loop-holds : tie.Need-loop-holds Inv-loop μ-loop
-unfolding def.residual
+unfolding def.residual private.residualRow
 loop-holds c = search (turns-from, needs)
 
 residual-row-requires : tie.Need-residual-row-requires Inv-loop μ-loop
@@ -29,13 +30,13 @@ loop-less : tie.Need-loop-less Inv-loop μ-loop
 loop-less c = omega arith
 
 loop-again : tie.Need-loop-again Inv-loop μ-loop
-unfolding def.residual
+unfolding def.residual private.residualRow
 loop-again c =
     let at-loop = c .before .before in
     (search needs, search needs, turns-again _ _ _ _ _ (at-loop .loop .inv .2) (c .residual-row .ensures))
 
 returns : tie.Need-returns Inv-loop μ-loop
-unfolding def.residual
+unfolding def.residual private.residualRow
 returns c = turns-done _ _ _ _ _ (omega arith) (omega arith) (c .before .loop .inv .2)
 
 pub residual-spec : {M : Type 1} → statement M

@@ -3,6 +3,7 @@ use native.Mathlib.Omega.{arith}
 use lib.ListN.{length}
 use borrow.Author.Tests.{eq-eqb, ne-eqb}
 use Rattle.boxed.specs.Sweep as def
+use Rattle.boxed.specs.Private as private
 use Rattle.box_rows.specs.Rows as box
 use Rattle.box_rows.proofs.Matrix.{row-fits, row-length}
 use Rattle.boxed.proofs.tests.residual_row.Statement.{statement}
@@ -12,7 +13,7 @@ state-requires : tie.Need-state-requires
 state-requires c κs = omega arith
 
 returns : tie.Need-returns
-unfolding def.residualRow
+unfolding private.residualRow
 returns c =
     let at-state = c .before in
     rw (eq-eqb _ _ (sym (at-state .state .ensures) ∙ c .if1 .taken))
@@ -53,7 +54,7 @@ larger-requires : tie.Need-larger-requires
 larger-requires c κs = tt
 
 returns-2 : tie.Need-returns-2
-unfolding def.residualRow box.residualAt
+unfolding private.residualRow box.residualAt
 returns-2 c =
     let at-natural-residual = c .before in
     let at-at6 = at-natural-residual .before in

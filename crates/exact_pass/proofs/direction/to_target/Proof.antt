@@ -7,6 +7,7 @@ use Prim.Native.Nat.{_+_, _*_, _≤_, _<_, _-_}
 use mathlib.Core.Path.{_≡_, refl, sym, ap, _∙_}
 use lib.ListN.{length}
 use Rattle.exact_pass.specs.Pass as def
+use Rattle.exact_pass.specs.Private as private
 use Rattle.loops.proofs.Turns.{turns-from, turns-again, turns-done}
 use borrow.Author.Needs.{needs}
 use native.Mathlib.Omega.{arith}
@@ -14,13 +15,13 @@ use Rattle.exact_pass.proofs.direction.to_target.Statement.{statement}
 use Rattle.exact_pass.proofs.direction.to_target.Tie as tie
 
 abbrev Inv-loop : tie.InvT-loop
-Inv-loop scale free z nu y₀ k i₀ y i = (i ≤ k) × (k ≡ length free) × (length y ≡ length y₀) × (y ≡ def.toTarget scale free z nu i ++ drop i y₀)
+Inv-loop scale free z nu y₀ k i₀ y i = (i ≤ k) × (k ≡ length free) × (length y ≡ length y₀) × (y ≡ private.toTarget scale free z nu i ++ drop i y₀)
 
 abbrev μ-loop : tie.MeasureT-loop
 μ-loop scale free z nu y₀ k i₀ y i = k - i
 
 loop-holds : tie.Need-loop-holds Inv-loop μ-loop
-unfolding def.toTarget
+unfolding private.toTarget
 loop-holds c = (search needs, search needs, search needs, tab-start _ _)
 
 row-number-requires : tie.Need-row-number-requires Inv-loop μ-loop
@@ -45,7 +46,7 @@ loop-less : tie.Need-loop-less Inv-loop μ-loop
 loop-less c = omega arith
 
 loop-again : tie.Need-loop-again Inv-loop μ-loop
-unfolding def.toTarget
+unfolding private.toTarget
 loop-again c =
     let at-put = c .before .before in
     let at-at3 = at-put .before in
@@ -60,7 +61,7 @@ same-length : tie.Need-same-length Inv-loop μ-loop
 same-length c = c .before .loop .inv .2
 
 returns : tie.Need-returns Inv-loop μ-loop
-unfolding def.toTarget
+unfolding private.toTarget
 returns c =
     let at-loop = c .before in
     let at-pre = at-loop .before .before .before .before .before .before in

@@ -5,13 +5,14 @@ use Prim.Native.Nat.{_+_, _*_, _≤_, _<_, _-_}
 use mathlib.Core.Path.{_≡_, refl, sym, ap, _∙_}
 use lib.ListN.{length}
 use Rattle.exact_pass.specs.Pass as def
+use Rattle.exact_pass.specs.Private as private
 use borrow.Author.Needs.{needs}
 use native.Mathlib.Omega.{arith}
 use Rattle.exact_pass.proofs.free_rows.free_rows.Statement.{statement}
 use Rattle.exact_pass.proofs.free_rows.free_rows.Tie as tie
 
 abbrev Inv-loop : tie.InvT-loop
-Inv-loop states free₀ n k₀ i₀ free k i = (i ≤ n) × (n ≡ length states) × (length free ≡ length free₀) × Gathering (def.isFree states) free₀ i k free
+Inv-loop states free₀ n k₀ i₀ free k i = (i ≤ n) × (n ≡ length states) × (length free ≡ length free₀) × Gathering (private.isFree states) free₀ i k free
 
 abbrev μ-loop : tie.MeasureT-loop
 μ-loop states free₀ n k₀ i₀ free k i = n - i

@@ -1,4 +1,7 @@
 use Rattle.exact_pass.specs.Pass as def
+use Rattle.exact_pass.specs.Private as private
+use native.Mathlib.Omega.{arith}
+use borrow.Author.Needs.{needs}
 use Rattle.exact_pass.proofs.ratio.nearer.Statement.{statement}
 use Rattle.exact_pass.proofs.ratio.nearer.Tie as tie
 
@@ -6,11 +9,11 @@ larger-requires : tie.Need-larger-requires
 larger-requires c κs = tt
 
 returns : tie.Need-returns
-unfolding def.nearer
+unfolding private.nearer
 returns c = rw (c .before .if1 .taken, c .larger .ensures)
 
 returns-2 : tie.Need-returns-2
-unfolding def.nearer
+unfolding private.nearer
 returns-2 c = rw (c .if1 .left)
 
 pub nearer-spec : {M : Type 1} → statement M

@@ -4,6 +4,7 @@ use Prim.Native.Nat.{_+_, _*_, _≤_, _<_, _-_}
 use mathlib.Core.Path.{_≡_, refl, sym, ap, _∙_}
 use lib.ListN.{length}
 use Rattle.exact_pass.specs.Pass as def
+use Rattle.exact_pass.specs.Private as private
 use Rattle.loops.proofs.Turns.{turns-from, turns-again, turns-done}
 use borrow.Author.Needs.{needs}
 use native.Mathlib.Omega.{arith}
@@ -20,7 +21,7 @@ cast-t11 : tie.Need-cast-t11 Inv-loop μ-loop
 cast-t11 c = search needs
 
 loop-holds : tie.Need-loop-holds Inv-loop μ-loop
-unfolding def.ratioTest
+unfolding def.ratioTest private.ratioRow private.nearer
 loop-holds c = (search needs, search needs, search needs, omega arith, turns-from _ _)
 
 row-number-requires : tie.Need-row-number-requires Inv-loop μ-loop
@@ -48,7 +49,7 @@ loop-less : tie.Need-loop-less Inv-loop μ-loop
 loop-less c = omega arith
 
 loop-again : tie.Need-loop-again Inv-loop μ-loop
-unfolding def.ratioTest
+unfolding def.ratioTest private.ratioRow private.nearer
 loop-again c =
     let at-at4 = c .before in
     let at-at3 = at-at4 .before in
@@ -67,7 +68,7 @@ loop-again c =
     )
 
 returns : tie.Need-returns Inv-loop μ-loop
-unfolding def.ratioTest
+unfolding def.ratioTest private.ratioRow private.nearer
 returns c = (turns-done _ _ _ _ _ (omega arith) (omega arith) (c .before .loop .inv .4), c .before .loop .inv .2, c .before .loop .inv .3)
 
 pub ratio-test-spec : {M : Type 1} → statement M

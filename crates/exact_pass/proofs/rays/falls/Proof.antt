@@ -1,6 +1,7 @@
+use Rattle.exact_pass.specs.Ray as rays
+use Rattle.exact_pass.specs.Private as private
 use borrow.Author.Needs.{needs}
 use native.Mathlib.Omega.{arith}
-use Rattle.exact_pass.specs.Ray as rays
 use Rattle.exact_pass.proofs.rays.falls.Statement.{statement}
 use Rattle.exact_pass.proofs.rays.falls.Tie as tie
 
@@ -8,14 +9,14 @@ linear-requires : tie.Need-linear-requires
 linear-requires c κs = search needs
 
 returns : tie.Need-returns
-unfolding rays.falls
+unfolding private.falls
 returns c = rw (← c .before .linear .ensures, c .if1 .taken)
 
 quadratic-requires : tie.Need-quadratic-requires
 quadratic-requires c κs = search needs
 
 returns-2 : tie.Need-returns-2
-unfolding rays.falls
+unfolding private.falls
 returns-2 c =
     let at-quadratic = c .before in
     let at-if1 = at-quadratic .before in
@@ -24,7 +25,7 @@ returns-2 c =
     rw (← at-linear .linear .ensures, at-if1 .if1 .left, at-pre .pre .2, ← at-quadratic .quadratic .ensures, c .if2 .taken)
 
 returns-3 : tie.Need-returns-3
-unfolding rays.falls
+unfolding private.falls
 returns-3 c =
     let at-quadratic = c .before in
     let at-if1 = at-quadratic .before in

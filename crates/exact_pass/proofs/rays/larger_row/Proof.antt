@@ -1,6 +1,7 @@
 use borrow.Author.Tests.{eq-eqb, ne-eqb}
 use mathlib.Core.Path.{_≡_, refl, sym, ap, _∙_}
 use Rattle.exact_pass.specs.Ray as rays
+use Rattle.exact_pass.specs.Private as private
 use native.Mathlib.Omega.{arith}
 use Rattle.exact_pass.proofs.rays.larger_row.Statement.{statement}
 use Rattle.exact_pass.proofs.rays.larger_row.Tie as tie
@@ -9,7 +10,7 @@ state-requires : tie.Need-state-requires
 state-requires c κs = omega arith
 
 returns : tie.Need-returns
-unfolding rays.largestRow
+unfolding private.largestRow
 returns c = rw (eq-eqb _ _ (sym (c .before .state .ensures) ∙ c .if1 .taken))
 
 at-requires : tie.Need-at-requires
@@ -25,7 +26,7 @@ larger-requires : tie.Need-larger-requires
 larger-requires c κs = tt
 
 returns-2 : tie.Need-returns-2
-unfolding rays.largestRow
+unfolding private.largestRow
 returns-2 c =
     let at-size = c .before in
     let at-at2 = at-size .before in

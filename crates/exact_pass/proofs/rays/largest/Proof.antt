@@ -1,4 +1,4 @@
-use Rattle.exact_pass.specs.Ray as rays
+use Rattle.exact_pass.specs.Private as private
 use Rattle.exact_pass.proofs.Rows.{free-row}
 use Prim.Native.Nat.{_+_, _*_, _≤_, _<_, _-_}
 use mathlib.Core.Path.{_≡_, refl, sym, ap, _∙_}
@@ -11,13 +11,13 @@ use Rattle.exact_pass.proofs.rays.largest.Statement.{statement}
 use Rattle.exact_pass.proofs.rays.largest.Tie as tie
 
 abbrev Inv-loop : tie.InvT-loop
-Inv-loop scale states y n worst₀ a₀ worst a = (a ≤ n) × (n ≡ length y) × (worst ≡ rays.largest scale states y a)
+Inv-loop scale states y n worst₀ a₀ worst a = (a ≤ n) × (n ≡ length y) × (worst ≡ private.largest scale states y a)
 
 abbrev μ-loop : tie.MeasureT-loop
 μ-loop scale states y n worst₀ a₀ worst a = n - a
 
 loop-holds : tie.Need-loop-holds Inv-loop μ-loop
-unfolding rays.largest
+unfolding private.largest private.largestRow
 loop-holds c = search (turns-from, needs)
 
 larger-row-requires : tie.Need-larger-row-requires Inv-loop μ-loop
@@ -30,11 +30,11 @@ loop-less : tie.Need-loop-less Inv-loop μ-loop
 loop-less c = omega arith
 
 loop-again : tie.Need-loop-again Inv-loop μ-loop
-unfolding rays.largest
+unfolding private.largest private.largestRow
 loop-again c = search (turns-again, needs)
 
 returns : tie.Need-returns Inv-loop μ-loop
-unfolding rays.largest
+unfolding private.largest private.largestRow
 returns c = search (turns-done, needs)
 
 pub largest-spec : {M : Type 1} → statement M

@@ -1,4 +1,4 @@
-use Rattle.exact_pass.specs.Ray as rays
+use Rattle.exact_pass.specs.Private as private
 use Rattle.exact_pass.proofs.Rows.{free-row}
 use Prim.Native.Nat.{_+_, _*_, _≤_, _<_, _-_}
 use mathlib.Core.Path.{_≡_, refl, sym, ap, _∙_}
@@ -11,13 +11,13 @@ use Rattle.exact_pass.proofs.rays.linear.Statement.{statement}
 use Rattle.exact_pass.proofs.rays.linear.Tie as tie
 
 abbrev Inv-loop : tie.InvT-loop
-Inv-loop u-free y l k s₀ i₀ s i = (i ≤ k) × (k ≡ length l) × (s ≡ rays.linear u-free y l i)
+Inv-loop u-free y l k s₀ i₀ s i = (i ≤ k) × (k ≡ length l) × (s ≡ private.linear u-free y l i)
 
 abbrev μ-loop : tie.MeasureT-loop
 μ-loop u-free y l k s₀ i₀ s i = k - i
 
 loop-holds : tie.Need-loop-holds Inv-loop μ-loop
-unfolding rays.linear
+unfolding private.linear
 loop-holds c = search (turns-from, needs)
 
 number-requires : tie.Need-number-requires Inv-loop μ-loop
@@ -36,7 +36,7 @@ loop-less : tie.Need-loop-less Inv-loop μ-loop
 loop-less c = omega arith
 
 loop-again : tie.Need-loop-again Inv-loop μ-loop
-unfolding rays.linear
+unfolding private.linear
 loop-again c =
     let at-at = c .before in
     let at-number = at-at .before in
@@ -44,7 +44,7 @@ loop-again c =
     (search needs, search needs, turns-again _ _ _ _ _ (at-loop .loop .inv .2) (rw (at-at .at .ensures, c .at2 .ensures, at-number .number .ensures)))
 
 returns : tie.Need-returns Inv-loop μ-loop
-unfolding rays.linear
+unfolding private.linear
 returns c = search (turns-done, needs)
 
 pub linear-spec : {M : Type 1} → statement M

@@ -1,5 +1,5 @@
 use Rattle.box_rows.proofs.Matrix.{tab-filled, row-length}
-use Rattle.exact_pass.specs.Ray as rays
+use Rattle.exact_pass.specs.Private as private
 use Rattle.exact_pass.proofs.Rows.{free-row}
 use Prim.Native.Nat.{_+_, _*_, _≤_, _<_, _-_}
 use mathlib.Core.Path.{_≡_, refl, sym, ap, _∙_}
@@ -12,13 +12,13 @@ use Rattle.exact_pass.proofs.rays.quadratic.Statement.{statement}
 use Rattle.exact_pass.proofs.rays.quadratic.Tie as tie
 
 abbrev Inv-loop : tie.InvT-loop
-Inv-loop w y l k n q₀ i₀ q i = (i ≤ k) × (k ≡ length l) × (n ≡ length y) × (q ≡ rays.quadratic w (length y) y l i)
+Inv-loop w y l k n q₀ i₀ q i = (i ≤ k) × (k ≡ length l) × (n ≡ length y) × (q ≡ private.quadratic w (length y) y l i)
 
 abbrev μ-loop : tie.MeasureT-loop
 μ-loop w y l k n q₀ i₀ q i = k - i
 
 loop-holds : tie.Need-loop-holds Inv-loop μ-loop
-unfolding rays.quadratic
+unfolding private.quadratic private.quadraticRow
 loop-holds c = search (turns-from, needs)
 
 number-requires : tie.Need-number-requires Inv-loop μ-loop
@@ -48,7 +48,7 @@ loop-less : tie.Need-loop-less Inv-loop μ-loop
 loop-less c = omega arith
 
 loop-again : tie.Need-loop-again Inv-loop μ-loop
-unfolding rays.quadratic
+unfolding private.quadratic private.quadraticRow
 loop-again c =
     let at-at = c .before in
     let at-row = at-at .before in
@@ -57,7 +57,7 @@ loop-again c =
     (search needs, search needs, search needs, turns-again _ _ _ _ _ (at-loop .loop .inv .3) (rw (c .quadratic-row .ensures, at-row .row .ensures, at-at .at .ensures, at-number .number .ensures)))
 
 returns : tie.Need-returns Inv-loop μ-loop
-unfolding rays.quadratic
+unfolding private.quadratic private.quadraticRow
 returns c = search (turns-done, needs)
 
 pub quadratic-spec : {M : Type 1} → statement M

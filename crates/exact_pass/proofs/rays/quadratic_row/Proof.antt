@@ -1,4 +1,5 @@
 use Rattle.exact_pass.specs.Ray as rays
+use Rattle.exact_pass.specs.Private as private
 use Rattle.exact_pass.proofs.Rows.{free-row}
 use Prim.Native.Nat.{_+_, _*_, _≤_, _<_, _-_}
 use mathlib.Core.Path.{_≡_, refl, sym, ap, _∙_}
@@ -11,13 +12,13 @@ use Rattle.exact_pass.proofs.rays.quadratic_row.Statement.{statement}
 use Rattle.exact_pass.proofs.rays.quadratic_row.Tie as tie
 
 abbrev Inv-loop : tie.InvT-loop
-Inv-loop row v y l quad k q₀ j₀ q j = (j ≤ k) × (k ≡ length l) × (q ≡ rays.quadraticRow row v y l quad j)
+Inv-loop row v y l quad k q₀ j₀ q j = (j ≤ k) × (k ≡ length l) × (q ≡ private.quadraticRow row v y l quad j)
 
 abbrev μ-loop : tie.MeasureT-loop
 μ-loop row v y l quad k q₀ j₀ q j = k - j
 
 loop-holds : tie.Need-loop-holds Inv-loop μ-loop
-unfolding rays.quadraticRow
+unfolding private.quadraticRow
 loop-holds c = search (turns-from, needs)
 
 number-requires : tie.Need-number-requires Inv-loop μ-loop
@@ -36,7 +37,7 @@ loop-less : tie.Need-loop-less Inv-loop μ-loop
 loop-less c = omega arith
 
 loop-again : tie.Need-loop-again Inv-loop μ-loop
-unfolding rays.quadraticRow
+unfolding private.quadraticRow
 loop-again c =
     let at-at = c .before in
     let at-number = at-at .before in
@@ -44,7 +45,7 @@ loop-again c =
     (search needs, search needs, turns-again _ _ _ _ _ (at-loop .loop .inv .2) (rw (at-at .at .ensures, c .at2 .ensures, at-number .number .ensures)))
 
 returns : tie.Need-returns Inv-loop μ-loop
-unfolding rays.quadraticRow
+unfolding private.quadraticRow
 returns c = search (turns-done, needs)
 
 pub quadratic-row-spec : {M : Type 1} → statement M

@@ -1,18 +1,21 @@
 use borrow.Author.Tests.{eq-eqb, ne-eqb}
 use Rattle.exact_pass.specs.Pass as def
+use Rattle.exact_pass.specs.Private as private
+use borrow.Author.Needs.{needs}
+use native.Mathlib.Omega.{arith}
 use Rattle.exact_pass.proofs.release.pushed.Statement.{statement}
 use Rattle.exact_pass.proofs.release.pushed.Tie as tie
 
 returns : tie.Need-returns
-unfolding def.pushed
+unfolding private.pushed
 returns c = rw (eq-eqb _ _ (c .if1 .taken))
 
 returns-2 : tie.Need-returns-2
-unfolding def.pushed
+unfolding private.pushed
 returns-2 c = rw (ne-eqb _ _ (c .before .if1 .left), eq-eqb _ _ (c .if2 .taken))
 
 returns-3 : tie.Need-returns-3
-unfolding def.pushed
+unfolding private.pushed
 returns-3 c = rw (ne-eqb _ _ (c .before .if1 .left), ne-eqb _ _ (c .if2 .left))
 
 pub pushed-spec : {M : Type 1} → statement M

@@ -1,13 +1,16 @@
 use Rattle.exact_pass.specs.Pass as def
+use Rattle.exact_pass.specs.Private as private
+use borrow.Author.Needs.{needs}
+use native.Mathlib.Omega.{arith}
 use Rattle.exact_pass.proofs.release.worse.Statement.{statement}
 use Rattle.exact_pass.proofs.release.worse.Tie as tie
 
 returns : tie.Need-returns
-unfolding def.worse
+unfolding private.worse
 returns c = rw (c .if1 .taken)
 
 returns-2 : tie.Need-returns-2
-unfolding def.worse
+unfolding private.worse
 returns-2 c = rw (c .if1 .left)
 
 pub worse-spec : {M : Type 1} → statement M

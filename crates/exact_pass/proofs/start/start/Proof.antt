@@ -3,6 +3,7 @@ use Prim.Native.Nat.{_+_, _*_, _≤_, _<_, _-_}
 use mathlib.Core.Path.{_≡_, refl, sym, ap, _∙_}
 use lib.ListN.{length}
 use Rattle.exact_pass.specs.Pass as def
+use Rattle.exact_pass.specs.Private as private
 use Rattle.loops.proofs.Turns.{turns-from, turns-again, turns-done}
 use borrow.Author.Needs.{needs}
 use native.Mathlib.Omega.{arith}
@@ -10,13 +11,13 @@ use Rattle.exact_pass.proofs.start.start.Statement.{statement}
 use Rattle.exact_pass.proofs.start.start.Tie as tie
 
 abbrev Inv-loop : tie.InvT-loop
-Inv-loop lo hi scale states₀ nu₀ n acting₀ i₀ states nu acting i = (i ≤ n) × (acting ≤ i) × (length nu ≡ length nu₀) × (length states ≡ length states₀) × (n ≡ length nu₀) × (def.started nu states acting ≡ def.start lo hi scale nu₀ states₀ i)
+Inv-loop lo hi scale states₀ nu₀ n acting₀ i₀ states nu acting i = (i ≤ n) × (acting ≤ i) × (length nu ≡ length nu₀) × (length states ≡ length states₀) × (n ≡ length nu₀) × (private.started nu states acting ≡ def.start lo hi scale nu₀ states₀ i)
 
 abbrev μ-loop : tie.MeasureT-loop
 μ-loop lo hi scale states₀ nu₀ n acting₀ i₀ states nu acting i = n - i
 
 loop-holds : tie.Need-loop-holds Inv-loop μ-loop
-unfolding def.start
+unfolding def.start private.startRow
 loop-holds c = search (turns-from, needs)
 
 start-row-requires : tie.Need-start-row-requires Inv-loop μ-loop
@@ -29,7 +30,7 @@ loop-less : tie.Need-loop-less Inv-loop μ-loop
 loop-less c = omega arith
 
 loop-again : tie.Need-loop-again Inv-loop μ-loop
-unfolding def.start
+unfolding def.start private.startRow
 loop-again c =
     let at-start-row = c .before .before .before .before in
     let at-loop = at-start-row .before .before .before .before in
@@ -42,7 +43,7 @@ same-length-2 : tie.Need-same-length-2 Inv-loop μ-loop
 same-length-2 c = c .before .loop .inv .2
 
 returns : tie.Need-returns Inv-loop μ-loop
-unfolding def.start
+unfolding def.start private.startRow
 returns c = (turns-done _ _ _ _ _ (omega arith) (omega arith) (c .before .loop .inv .5), search needs)
 
 pub start-spec : {M : Type 1} → statement M

@@ -8,6 +8,7 @@ use borrow.Author.Tests.{eq-eqb, ne-eqb}
 use Rattle.box_rows.specs.Rows as box
 use mathlib.Core.Path.{_≡_, refl, sym, ap, _∙_}
 use Rattle.exact_pass.specs.Pass as def
+use Rattle.exact_pass.specs.Private as private
 use native.Mathlib.Omega.{arith}
 use borrow.Author.Needs.{needs}
 use Rattle.exact_pass.proofs.start.start_row.Statement.{statement}
@@ -15,8 +16,8 @@ use Rattle.exact_pass.proofs.start.start_row.Tie as tie
 
 -- a row that acts: v is its multiplier, shown the state that v shows, and p where that puts it
 acting-row : (lo hi scale nu : List Float) (st : List ℕ) (i k : ℕ) (nu′ : List Float) (st′ : List ℕ) (v l h s l′ h′ p : Float) (shown : ℕ) → (box.state st i ≡ 3 → ⊥) → v ≡ at nu i → l ≡ at lo i → h ≡ at hi i → s ≡ at scale i
-    → shown ≡ box.stateOf l h s v → l′ ≡ at lo i → h′ ≡ at hi i → p ≡ def.placed l′ h′ shown v → st′ ≡ set st i shown → nu′ ≡ set nu i p → def.started nu′ st′ (k + 1) ≡ def.startRow lo hi scale i (def.started nu st k)
-unfolding def.startRow
+    → shown ≡ box.stateOf l h s v → l′ ≡ at lo i → h′ ≡ at hi i → p ≡ def.placed l′ h′ shown v → st′ ≡ set st i shown → nu′ ≡ set nu i p → private.started nu′ st′ (k + 1) ≡ private.startRow lo hi scale i (private.started nu st k)
+unfolding private.startRow
 acting-row lo hi scale nu st i k nu′ st′ v l h s l′ h′ p shown idle ev el eh es e el′ eh′ ep f g =
     rw (ne-eqb _ _ idle, add-one, g, f, ep, el′, eh′, e, el, eh, es, ev)
 
@@ -27,7 +28,7 @@ same-length : tie.Need-same-length
 same-length c = refl
 
 returns : tie.Need-returns
-unfolding def.startRow
+unfolding private.startRow
 returns c = (rw (eq-eqb _ _ (sym (c .before .state .ensures) ∙ c .if1 .taken)), search needs)
 
 at-requires : tie.Need-at-requires
@@ -70,7 +71,7 @@ same-length-3 : tie.Need-same-length-3
 same-length-3 c = c .before .before .put .kept .0
 
 returns-2 : tie.Need-returns-2
-unfolding def.startRow
+unfolding private.startRow
 returns-2 c =
     let at-placed = c .before .before .before in
     let at-at6 = at-placed .before in

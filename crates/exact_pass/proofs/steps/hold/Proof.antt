@@ -4,7 +4,7 @@ use Rattle.exact_pass.proofs.steps.hold.Statement.{statement}
 use Rattle.exact_pass.proofs.steps.hold.Tie as tie
 
 cast-state : tie.Need-cast-state
-cast-state c = search needs
+cast-state c = omega arith
 
 at-requires : tie.Need-at-requires
 at-requires c κs = omega arith

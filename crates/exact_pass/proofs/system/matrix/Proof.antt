@@ -4,7 +4,7 @@ use lib.ListN.{getD}
 use Rattle.exact_pass.proofs.Systems.{part-length, square}
 use Rattle.loops.proofs.Index.{product}
 use native.Mathlib.Nat.{mul-le-mul-right, suc-mul}
-use Rattle.exact_pass.proofs.Systems.{parts-start, parts-again, parts-done, matrix-row-length, right-hand-length, solved-x, solved-work, target-run, target-work}
+use Rattle.exact_pass.proofs.Systems.{parts-start, parts-again, parts-done, matrix-rows-long, right-hand-length, solved-x, solved-work, target-run, target-work}
 use Rattle.box_rows.proofs.Matrix.{tab-filled, row-length}
 use lib.ListN.{drop}
 use mathlib.Core.List.{_++_}
@@ -14,6 +14,7 @@ use Prim.Native.Nat.{_+_, _*_, _≤_, _<_, _-_}
 use mathlib.Core.Path.{_≡_, refl, sym, ap, _∙_}
 use lib.ListN.{length}
 use Rattle.exact_pass.specs.Pass as def
+use Rattle.exact_pass.specs.Private as private
 use Rattle.loops.proofs.Turns.{turns-from, turns-again, turns-done}
 use borrow.Author.Needs.{needs}
 use native.Mathlib.Omega.{arith}
@@ -27,10 +28,10 @@ abbrev μ-loop : tie.MeasureT-loop
 μ-loop w scale free m₀ k n i₀ m i = k - i
 
 loop-holds : tie.Need-loop-holds Inv-loop μ-loop
-unfolding def.matrix
+unfolding def.matrix private.matrixRow
 loop-holds c =
     let at-args = c .before .before .before .before in
-    (search needs, search needs, search needs, search needs, parts-start (λ (i : ℕ). def.matrixRow (box.row (at-args .args .w .now) (length (at-args .args .scale .now)) (getD (at-args .args .free .now) i 0)) (at-args .args .scale .now) (at-args .args .free .now) (length (at-args .args .free .now))) (length (at-args .args .free .now)) (λ i. matrix-row-length _ _ _ _) _)
+    (search needs, search needs, search needs, search needs, parts-start (λ (i : ℕ). private.matrixRow (box.row (at-args .args .w .now) (length (at-args .args .scale .now)) (getD (at-args .args .free .now) i 0)) (at-args .args .scale .now) (at-args .args .free .now) (length (at-args .args .free .now))) (length (at-args .args .free .now)) (matrix-rows-long (at-args .args .w .now) (at-args .args .scale .now) (at-args .args .free .now)) _)
 
 mul-a : tie.Need-mul-a Inv-loop μ-loop
 mul-a c = omega (arith, product (c .before .loop .i) (length (c .before .before .before .before .before .before .args .free .now)) (omega arith) (omega arith))
@@ -83,7 +84,7 @@ loop-less : tie.Need-loop-less Inv-loop μ-loop
 loop-less c = omega arith
 
 loop-again : tie.Need-loop-again Inv-loop μ-loop
-unfolding def.matrix
+unfolding def.matrix private.matrixRow
 loop-again c =
     let at-matrix-row = c .before .before in
     let at-row = at-matrix-row .before .before in
@@ -94,20 +95,20 @@ loop-again c =
       search needs,
       search needs,
       search needs,
-      parts-again (λ (i : ℕ). def.matrixRow (box.row (at-args .args .w .now) (length (at-args .args .scale .now)) (getD (at-args .args .free .now) i 0)) (at-args .args .scale .now) (at-args .args .free .now) (length (at-args .args .free .now))) (length (at-args .args .free .now))
-          (λ i. matrix-row-length _ _ _ _) (at-args .args .m .now) (at-loop .loop .i) (at-loop .loop .m) (at-matrix-row .matrix-row .last .1 .1 .1 .0) (at-loop .loop .inv .4) (rw (at-matrix-row .matrix-row .ensures, at-row .row .ensures, at-row-number .row-number .ensures)),
+      parts-again (λ (i : ℕ). private.matrixRow (box.row (at-args .args .w .now) (length (at-args .args .scale .now)) (getD (at-args .args .free .now) i 0)) (at-args .args .scale .now) (at-args .args .free .now) (length (at-args .args .free .now))) (length (at-args .args .free .now))
+          (matrix-rows-long (at-args .args .w .now) (at-args .args .scale .now) (at-args .args .free .now)) (at-args .args .m .now) (at-loop .loop .i) (at-loop .loop .m) (at-matrix-row .matrix-row .last .1 .1 .1 .0) (at-loop .loop .inv .4) (rw (at-matrix-row .matrix-row .ensures, at-row .row .ensures, at-row-number .row-number .ensures)),
     )
 
 same-length : tie.Need-same-length Inv-loop μ-loop
 same-length c = c .before .loop .inv .3
 
 returns : tie.Need-returns Inv-loop μ-loop
-unfolding def.matrix
+unfolding def.matrix private.matrixRow
 returns c =
     let at-loop = c .before in
     let at-args = at-loop .before .before .before .before .before in
     let at-pre = at-args in
-    parts-done (λ (i : ℕ). def.matrixRow (box.row (at-args .args .w .now) (length (at-args .args .scale .now)) (getD (at-args .args .free .now) i 0)) (at-args .args .scale .now) (at-args .args .free .now) (length (at-args .args .free .now))) (length (at-args .args .free .now)) (λ i. matrix-row-length _ _ _ _) _ (at-loop .loop .i)
+    parts-done (λ (i : ℕ). private.matrixRow (box.row (at-args .args .w .now) (length (at-args .args .scale .now)) (getD (at-args .args .free .now) i 0)) (at-args .args .scale .now) (at-args .args .free .now) (length (at-args .args .free .now))) (length (at-args .args .free .now)) (matrix-rows-long (at-args .args .w .now) (at-args .args .scale .now) (at-args .args .free .now)) _ (at-loop .loop .i)
     (at-loop .loop .m) (at-pre .pre .3) (omega arith) (omega arith) (at-loop .loop .inv .4)
 
 pub matrix-spec : {M : Type 1} → statement M

@@ -7,6 +7,7 @@ use Prim.Native.Nat.{_+_, _*_, _≤_, _<_, _-_}
 use mathlib.Core.Path.{_≡_, refl, sym, ap, _∙_}
 use lib.ListN.{length}
 use Rattle.exact_pass.specs.Pass as def
+use Rattle.exact_pass.specs.Private as private
 use Rattle.loops.proofs.Turns.{turns-from, turns-again, turns-done}
 use borrow.Author.Needs.{needs}
 use native.Mathlib.Omega.{arith}
@@ -14,13 +15,13 @@ use Rattle.exact_pass.proofs.system.matrix_row.Statement.{statement}
 use Rattle.exact_pass.proofs.system.matrix_row.Tie as tie
 
 abbrev Inv-loop : tie.InvT-loop
-Inv-loop row scale free out₀ k j₀ out j = (j ≤ k) × (k ≡ length free) × (length out ≡ length out₀) × (out ≡ def.matrixRow row scale free j ++ drop j out₀)
+Inv-loop row scale free out₀ k j₀ out j = (j ≤ k) × (k ≡ length free) × (length out ≡ length out₀) × (out ≡ private.matrixRow row scale free j ++ drop j out₀)
 
 abbrev μ-loop : tie.MeasureT-loop
 μ-loop row scale free out₀ k j₀ out j = k - j
 
 loop-holds : tie.Need-loop-holds Inv-loop μ-loop
-unfolding def.matrixRow
+unfolding private.matrixRow
 loop-holds c = (search needs, search needs, search needs, tab-start _ _)
 
 row-number-requires : tie.Need-row-number-requires Inv-loop μ-loop
@@ -42,7 +43,7 @@ loop-less : tie.Need-loop-less Inv-loop μ-loop
 loop-less c = omega arith
 
 loop-again : tie.Need-loop-again Inv-loop μ-loop
-unfolding def.matrixRow
+unfolding private.matrixRow
 loop-again c =
     let at-put = c .before .before in
     let at-at2 = at-put .before in
@@ -56,7 +57,7 @@ same-length : tie.Need-same-length Inv-loop μ-loop
 same-length c = c .before .loop .inv .2
 
 returns : tie.Need-returns Inv-loop μ-loop
-unfolding def.matrixRow
+unfolding private.matrixRow
 returns c =
     let at-loop = c .before in
     let at-pre = at-loop .before .before .before .before .before in

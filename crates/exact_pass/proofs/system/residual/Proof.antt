@@ -20,21 +20,24 @@ use Rattle.exact_pass.proofs.system.residual.Statement.{statement}
 use Rattle.exact_pass.proofs.system.residual.Tie as tie
 
 abbrev Inv-loop : tie.InvT-loop
-Inv-loop w scale free work z y₀ k n inconsistent₀ i₀ y inconsistent i = (i ≤ k) × (k ≡ length free) × (n ≡ length scale) × (length y ≡ length y₀) × (y ≡ def.downhill w scale free (private.part 1056 (length free) work) z i ++ drop i y₀) × (inconsistent ≡ def.inconsistent w scale free (private.part 1056 (length free) work) z i)
+Inv-loop w scale free work z y₀ k n inconsistent₀ i₀ y inconsistent i = (i ≤ k) × (k ≡ length free) × (n ≡ length scale) × (length y ≡ length y₀) × (y ≡ private.downhill w scale free (private.part 1056 (length free) work) z i ++ drop i y₀) × (inconsistent ≡ private.inconsistent w scale free (private.part 1056 (length free) work) z i)
 
 abbrev μ-loop : tie.MeasureT-loop
 μ-loop w scale free work z y₀ k n inconsistent₀ i₀ y inconsistent i = k - i
 
 -- r is what z leaves of row a, the i-th free row, and b its right-hand side
-row-left : (w scale : List Float) (l : List ℕ) (rhs z : List Float) (i a : ℕ) (row : List Float) (b r : Float) → a ≡ getD l i 0 → row ≡ box.row w (length scale) a → b ≡ at rhs i → r ≡ def.residualRow row scale l z b (length l) → r ≡ def.residualAt w scale l rhs z i
+row-left : (w scale : List Float) (l : List ℕ) (rhs z : List Float) (i a : ℕ) (row : List Float) (b r : Float)
+    → a ≡ getD l i 0 → row ≡ box.row w (length scale) a → b ≡ at rhs i → r ≡ private.residualRow row scale l z b (length l) → r ≡ def.residual w scale l rhs z i
+unfolding def.residual private.residualRow
 row-left w scale l rhs z i a row b r f g h e = rw (e, g, f, h)
 
-large-row : (w scale : List Float) (l : List ℕ) (rhs z : List Float) (i a : ℕ) (row : List Float) (d s r : Float) (q t : Bool) → a ≡ getD l i 0 → row ≡ box.row w (length scale) a → r ≡ def.residualAt w scale l rhs z i → d ≡ at row a → s ≡ at scale a → q ≡ def.tooLarge r d s → (t || q) ≡ def.inconsistentRow w scale l rhs z i t
-unfolding def.inconsistentRow
+large-row : (w scale : List Float) (l : List ℕ) (rhs z : List Float) (i a : ℕ) (row : List Float) (d s r : Float) (q t : Bool)
+    → a ≡ getD l i 0 → row ≡ box.row w (length scale) a → r ≡ def.residual w scale l rhs z i → d ≡ at row a → s ≡ at scale a → q ≡ private.tooLarge r d s
+    → (t || q) ≡ (t || private.tooLarge (def.residual w scale l rhs z i) (at (box.row w (length scale) (getD l i 0)) (getD l i 0)) (at scale (getD l i 0)))
 large-row w scale l rhs z i a row d s r q t f g e h k m = rw (m, h, k, e, g, f)
 
 loop-holds : tie.Need-loop-holds Inv-loop μ-loop
-unfolding def.downhill def.inconsistent
+unfolding private.downhill private.inconsistent
 loop-holds c = (search needs, search needs, search needs, search needs, tab-start _ _, turns-from _ _)
 
 row-number-requires : tie.Need-row-number-requires Inv-loop μ-loop
@@ -95,7 +98,7 @@ loop-less : tie.Need-loop-less Inv-loop μ-loop
 loop-less c = omega arith
 
 loop-again : tie.Need-loop-again Inv-loop μ-loop
-unfolding def.downhill def.inconsistent
+unfolding private.downhill private.inconsistent
 loop-again c =
     let at-residual-row = c .before .before .before .before .before .before .before in
     let at-at = at-residual-row .before in
@@ -114,14 +117,14 @@ loop-again c =
       at-loop .loop .inv .2,
       c .before .before .before .before .before .put .kept .0 ∙ at-loop .loop .inv .3,
       rw (c .before .before .before .before .before .put .ensures, left) (tab-again _ _ _ _ (at-loop .loop .inv .4) (at-loop .loop .inv .3) (omega (arith, at-pre .pre .3, at-loop .loop .inv .3))),
-      turns-again _ _ _ _ _ (at-loop .loop .inv .5) (large-row (a .w .now) (a .scale .now) (a .free .now) rhs (a .z .now) (at-loop .loop .i) _ _ _ _ _ _ _ number row left (c .before .before .at2 .ensures) (c .before .at3 .ensures) (c .too-large .ensures)),
+      turns-again _ _ _ _ _ (at-loop .loop .inv .5) (large-row (a .w .now) (a .scale .now) (a .free .now) rhs (a .z .now) (at-loop .loop .i) _ _ _ _ _ _ (at-loop .loop .inconsistent) number row left (c .before .before .at2 .ensures) (c .before .at3 .ensures) (c .too-large .ensures)),
     )
 
 same-length : tie.Need-same-length Inv-loop μ-loop
 same-length c = c .before .loop .inv .3
 
 returns : tie.Need-returns Inv-loop μ-loop
-unfolding def.downhill def.inconsistent
+unfolding private.downhill private.inconsistent
 returns c =
     let at-loop = c .before in
     let at-pre = at-loop .before .before .before .before .before .before .before in

@@ -3,6 +3,7 @@ use Prim.Native.Nat.{_+_, _*_, _≤_, _<_, _-_}
 use mathlib.Core.Path.{_≡_, refl, sym, ap, _∙_}
 use lib.ListN.{length}
 use Rattle.exact_pass.specs.Pass as def
+use Rattle.exact_pass.specs.Private as private
 use Rattle.loops.proofs.Turns.{turns-from, turns-again, turns-done}
 use borrow.Author.Needs.{needs}
 use native.Mathlib.Omega.{arith}
@@ -10,13 +11,13 @@ use Rattle.exact_pass.proofs.system.residual_row.Statement.{statement}
 use Rattle.exact_pass.proofs.system.residual_row.Tie as tie
 
 abbrev Inv-loop : tie.InvT-loop
-Inv-loop row scale free z b k s₀ j₀ s j = (j ≤ k) × (k ≡ length free) × (s ≡ def.residualRow row scale free z b j)
+Inv-loop row scale free z b k s₀ j₀ s j = (j ≤ k) × (k ≡ length free) × (s ≡ private.residualRow row scale free z b j)
 
 abbrev μ-loop : tie.MeasureT-loop
 μ-loop row scale free z b k s₀ j₀ s j = k - j
 
 loop-holds : tie.Need-loop-holds Inv-loop μ-loop
-unfolding def.residualRow
+unfolding private.residualRow
 loop-holds c = search (turns-from, needs)
 
 row-number-requires : tie.Need-row-number-requires Inv-loop μ-loop
@@ -38,7 +39,7 @@ loop-less : tie.Need-loop-less Inv-loop μ-loop
 loop-less c = omega arith
 
 loop-again : tie.Need-loop-again Inv-loop μ-loop
-unfolding def.residualRow
+unfolding private.residualRow
 loop-again c =
     let at-at2 = c .before in
     let at-at = at-at2 .before in
@@ -47,7 +48,7 @@ loop-again c =
     (search needs, search needs, turns-again _ _ _ _ _ (at-loop .loop .inv .2) (rw (at-at .at .ensures, at-at2 .at2 .ensures, c .at3 .ensures, at-row-number .row-number .ensures)))
 
 returns : tie.Need-returns Inv-loop μ-loop
-unfolding def.residualRow
+unfolding private.residualRow
 returns c = search (turns-done, needs)
 
 pub residual-row-spec : {M : Type 1} → statement M

@@ -49,7 +49,7 @@ loop-again c =
     (search needs, search needs, search needs, columns-again _ _ _ _ _ _ _ _ _ _ _ (at-loop .loop .inv .3) (at-state .state .ensures) (at-at .at .ensures) (rw (at-loop .loop .inv .1) at (at-held .held-column .ensures)))
 
 same-length : tie.Need-same-length Inv-loop μ-loop
-same-length c = c .before .loop .inv .3
+same-length c = search needs
 
 returns : tie.Need-returns Inv-loop μ-loop
 returns c =

@@ -1,4 +1,7 @@
 use Rattle.exact_pass.specs.Pass as def
+use Rattle.exact_pass.specs.Private as private
+use native.Mathlib.Omega.{arith}
+use borrow.Author.Needs.{needs}
 use Rattle.exact_pass.proofs.system.too_large.Statement.{statement}
 use Rattle.exact_pass.proofs.system.too_large.Tie as tie
 
@@ -6,7 +9,7 @@ abs-requires : tie.Need-abs-requires
 abs-requires c κs = tt
 
 returns : tie.Need-returns
-unfolding def.tooLarge
+unfolding private.tooLarge
 returns c = rw (c .abs .ensures)
 
 pub too-large-spec : {M : Type 1} → statement M
