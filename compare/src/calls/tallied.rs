@@ -192,8 +192,12 @@ fn any_solve(rng: &mut Rng) -> Option<One> {
     Some(One::whole(cases::case(family, rng)?))
 }
 
-/// Solves some of which have a torn wire, a third of them as triangles.
+/// Solves some of which have a torn wire, a third of them as triangles; now and
+/// then a triangle of any length.
 fn torn_solve(rng: &mut Rng) -> Option<One> {
+    if rng.chance(3) {
+        return Some(One::lower(triangles::of_family("solve/lengths", rng)?));
+    }
     let case = torn::solve(rng)?;
     Some(if rng.chance(33) {
         One::lower(triangles::of_case(case))
