@@ -1,18 +1,19 @@
--- Adjacent columns together, row by row, are the same as each by itself: norms, factors, and the reflected matrix place by place.
+-- Adjacent columns together, row by row, are the same as each by itself: norms, factors, and the reflected matrix place
+-- by place.
 use Prim.Native.Nat.{ℕ, zero, suc, _+_, _-_, _*_, _≤_, _<_}
-use mathlib.Core.Path.{_≡_, refl, sym, _∙_, ap}
+use mathlib.Core.Path.{_≡_, sym, _∙_, ap}
 use mathlib.Core.List.{List}
 use mathlib.Core.Logic.{⊎-elim, _⊎_, inl, inr}
 use native.Mathlib.Omega.{arith}
 use native.Mathlib.Nat.{add-zero, add-suc, zero-add, add-assoc}
 use native.Mathlib.Numerals.{add-one}
-use lib.ListN.{length, set}
+use lib.ListN.{length}
 use lib.Ieee.{Float, nan, binary64, add}
 use Rattle.loops.specs.Loops.{between}
 use Rattle.loops.specs.Updates.{updated}
 use Rattle.loops.proofs.Turns.{between-start, between-step, between-first}
 use Rattle.loops.proofs.Updates.{between-ext, updated-long, nested-long, nested-away, nested-here}
-use Rattle.loops.proofs.Exchange.{row-is, row-long, rows-are}
+use Rattle.loops.proofs.Exchange.{row-is, rows-are}
 use Rattle.loops.proofs.Index.{place, same-row, same-column, ext-matrix}
 use Rattle.floats.specs.Ops.{_⊕_, _⊖_, _⊗_, _⊘_, at, 0ᶠ, 2ᶠ}
 use Rattle.floats.specs.Sums.{gathered}
@@ -24,7 +25,8 @@ use Rattle.least_norm.specs.Blocks.{squares, products, lessRows}
 
 -- ---- norms and products
 
-pub norms-are : (a : List Float) (n j m c k : ℕ) (s : List Float) → k ≤ length s → j ≤ m → (t : ℕ) → t < k → at s t ≡ 0ᶠ → at (squares a n c k s j m) t ≡ def.norm2 a n (c + t) j m
+pub norms-are : (a : List Float) (n j m c k : ℕ) (s : List Float) → k ≤ length s → j ≤ m → (t : ℕ) → t < k → at s t ≡ 0ᶠ
+    → at (squares a n c k s j m) t ≡ def.norm2 a n (c + t) j m
 unfolding squares def.norm2 updated gathered
 norms-are a n j m c k s f h t u z =
     rows-are nan (λ r t x. x ⊕ at a (r * n + c + t) ⊗ at a (r * n + c + t)) j 0 k s f (omega arith) m t h (omega arith) u
@@ -51,23 +53,32 @@ module _ (a : List Float) (n j m c k : ℕ) (v : List Float) (vtv : Float) (s : 
   unfolding products
   summed-long zero h = rw (add-zero, between-start) first-long
   summed-long (suc d) h =
-      rw (add-suc, between-step _ _ (suc j) (suc j + d) (omega arith), updated-long nan (λ t. t) (λ t x. x ⊕ at v (suc j + d) ⊗ at a ((suc j + d) * n + c + t)) 0 (products a n c k v first (suc j) (suc j + d)) k (omega arith))
+      rw (
+        add-suc,
+        between-step _ _ (suc j) (suc j + d) (omega arith),
+        updated-long nan (λ t. t)
+            (λ t x. x ⊕ at v (suc j + d) ⊗ at a ((suc j + d) * n + c + t)) 0 (products a n c k v first (suc j) (suc j + d)) k
+            (omega arith),
+      )
       (summed-long d (omega arith))
 
   all-long : length summed ≡ length s
   unfolding summed
   all-long = let q : suc j + (m - suc j) ≡ m = omega arith in rw q at (summed-long (m - suc j) (omega arith))
 
-  factors-at : (t : ℕ) → t < k → at (updated nan (λ t. t) (λ t x. 2ᶠ ⊗ x ⊘ vtv) 0 k summed) t ≡ factor (j * n + (c + t)) (λ row. row * n + (c + t)) (at v j) (λ row. at v row) vtv (suc j) m a
+  factors-at : (t : ℕ) → t < k
+      → at (updated nan (λ t. t) (λ t x. 2ᶠ ⊗ x ⊘ vtv) 0 k summed) t
+      ≡ factor (j * n + (c + t)) (λ row. row * n + (c + t)) (at v j) (λ row. at v row) vtv (suc j) m a
   unfolding factor gathered updated
   factors-at t u =
       row-is nan (λ t x. 2ᶠ ⊗ x ⊘ vtv) 0 summed k t (omega (arith, all-long)) (omega arith) u
       ∙ rw (summed-at t u, add-assoc (j * n) c t)
       (ap (λ (x : Float). 2ᶠ ⊗ x ⊘ vtv) (between-ext (at v j ⊗ at a (j * n + (c + t))) _ _ (suc j) m low λ r x l g. rw (add-assoc (r * n) c t)))
 
-pub factors-are : (a : List Float) (n j m c k : ℕ) (v : List Float) (vtv : Float) (s p q r : List Float) (i : ℕ) →
-    r ≡ updated nan (λ t. t) (λ t x. 2ᶠ ⊗ x ⊘ vtv) 0 k q → q ≡ products a n c k v p (j + 1) m → p ≡ updated nan (λ t. t) (λ t x. at v j ⊗ at a (i + t)) 0 k s → i ≡ j * n + c → k ≤ length s → j < m →
-    (t : ℕ) → t < k → at r t ≡ factor (j * n + (c + t)) (λ row. row * n + (c + t)) (at v j) (λ row. at v row) vtv (suc j) m a
+pub factors-are : (a : List Float) (n j m c k : ℕ) (v : List Float) (vtv : Float) (s p q r : List Float) (i : ℕ)
+    → r ≡ updated nan (λ t. t) (λ t x. 2ᶠ ⊗ x ⊘ vtv) 0 k q → q ≡ products a n c k v p (j + 1) m
+    → p ≡ updated nan (λ t. t) (λ t x. at v j ⊗ at a (i + t)) 0 k s → i ≡ j * n + c → k ≤ length s → j < m → (t : ℕ)
+    → t < k → at r t ≡ factor (j * n + (c + t)) (λ row. row * n + (c + t)) (at v j) (λ row. at v row) vtv (suc j) m a
 unfolding summed first
 factors-are a n j m c k v vtv s p q r i er eq ep ei f h t u = rw (er, eq, ep, ei, add-one) (factors-at a n j m c k v vtv s f h t u)
 
@@ -110,14 +121,23 @@ module _ (m n j : ℕ) (v : List Float) (vtv : Float) (low : j < m) where
     unfolding share factor
     share-same d h =
         rw (later d j (c + d) (omega arith) h)
-        (ap (λ (x : Float). 2ᶠ ⊗ x ⊘ vtv) (gathered-ext (add binary64) (at v j ⊗ at A (j * n + (c + d))) _ (suc j) _ m low λ row a b. rw (later d row (c + d) (omega arith) h)))
+        (ap (λ (x : Float). 2ᶠ ⊗ x ⊘ vtv)
+        (gathered-ext (add binary64) (at v j ⊗ at A (j * n + (c + d))) _ (suc j) _ m low
+        λ row a b. rw (later d row (c + d) (omega arith) h)))
 
     done-is : (d : ℕ) → c + d ≤ n → between c (c + d) A column ≡ done d
     unfolding done lessened
     done-is zero h = rw (add-zero, between-start, between-start)
     done-is (suc d) h =
         let s : share (c + d) (done d) ≡ share (c + d) A = share-same d (omega arith) in
-        rw (add-suc, between-step A column c (c + d) (omega arith), between-step _ _ c (c + d) (omega arith), done-is d (omega arith), column-is (c + d) (done d), s)
+        rw (
+          add-suc,
+          between-step A column c (c + d) (omega arith),
+          between-step _ _ c (c + d) (omega arith),
+          done-is d (omega arith),
+          column-is (c + d) (done d),
+          s,
+        )
 
     module _ (k : ℕ) (f : List Float) (fits : c + k ≤ n) (sized : length A ≡ m * n) (shares : (t : ℕ) → t < k → at f t ≡ share (c + t) A) where
       rows : List Float
@@ -171,7 +191,8 @@ module _ (m n j : ℕ) (v : List Float) (vtv : Float) (low : j < m) where
 
       inside : (r t : ℕ) → t < k → j ≤ r → r < m → at rows (r * n + (c + t)) ≡ at (done k) (r * n + (c + t))
       inside r t u g h =
-          rw (in-columns r t u g h, ← add-assoc (r * n) c t, in-rows r t u g h, zero-add t, shares t u) (ap (λ (x : Float). at A (r * n + c + t) ⊖ x) (product-comm (at v r) (share (c + t) A)))
+          rw (in-columns r t u g h, ← add-assoc (r * n) c t, in-rows r t u g h, zero-add t, shares t u)
+          (ap (λ (x : Float). at A (r * n + c + t) ⊖ x) (product-comm (at v r) (share (c + t) A)))
 
       agree : (r q : ℕ) → r < m → q < n → at rows (r * n + q) ≡ at (done k) (r * n + q)
       agree r q h g =
@@ -196,8 +217,10 @@ module _ (m n j : ℕ) (v : List Float) (vtv : Float) (low : j < m) where
           (nested-long nan (λ q row. row * n + q) (λ q row x. x ⊖ share q A ⊗ at v row) j m (omega arith) c A (c + k) (omega arith) ∙ sized)
           agree
 
-pub block-is : (m n j c k : ℕ) (v : List Float) (vtv : Float) (A f R : List Float) → R ≡ lessRows n c k v f A j m →
-    ((t : ℕ) → t < k → at f t ≡ factor (j * n + (c + t)) (λ row. row * n + (c + t)) (at v j) (λ row. at v row) vtv (suc j) m A) → j < m → c + k ≤ n → 0 < k → length A ≡ m * n →
-    R ≡ between c (c + k) A (def.reflectColumn m n j (at v j) (λ row. at v row) vtv)
+pub block-is : (m n j c k : ℕ) (v : List Float) (vtv : Float) (A f R : List Float) → R ≡ lessRows n c k v f A j m
+    → ((t : ℕ) → t < k
+    → at f t ≡ factor (j * n + (c + t)) (λ row. row * n + (c + t)) (at v j) (λ row. at v row) vtv (suc j) m A)
+    → j < m → c + k ≤ n → 0 < k → length A ≡ m * n
+    → R ≡ between c (c + k) A (def.reflectColumn m n j (at v j) (λ row. at v row) vtv)
 unfolding lessRows less share column rows
 block-is m n j c k v vtv A f R e s low fits some sized = e ∙ same m n j v vtv low c A k f fits sized s some ∙ sym (done-is m n j v vtv low c A k fits)

@@ -31,27 +31,36 @@ use Rattle.least_norm.proofs.Blocks.{norms-are}
 
 -- ---- a reflector on other places and entries that are the same
 
-module _ (first : ℕ) (π ρ : ℕ → ℕ) (v0 : Float) (v w : ℕ → Float) (vtv : Float) (lo hi : ℕ) (z : List Float) (some : lo ≤ hi) (places : (t : ℕ) → lo ≤ t → t < hi → π t ≡ ρ t) (entries : (t : ℕ) → lo ≤ t → t < hi → v t ≡ w t) where
-  factor-ext : H.factor first π v0 v vtv lo hi z ≡ H.factor first ρ v0 w vtv lo hi z
-  unfolding H.factor
-  factor-ext = ap (λ (x : Float). 2ᶠ ⊗ x ⊘ vtv) (gathered-ext (add binary64) (v0 ⊗ at z first) _ lo _ hi some λ t l u. rw (places t l u, entries t l u))
+module _ (first : ℕ) (π ρ : ℕ → ℕ) (v0 : Float) (v w : ℕ → Float) (vtv : Float) (lo hi : ℕ) (z : List Float)
+    (some : lo ≤ hi) (places : (t : ℕ) → lo ≤ t → t < hi → π t ≡ ρ t) (entries : (t : ℕ) → lo ≤ t → t < hi → v t ≡ w t)
+  where
+    factor-ext : H.factor first π v0 v vtv lo hi z ≡ H.factor first ρ v0 w vtv lo hi z
+    unfolding H.factor
+    factor-ext =
+        ap (λ (x : Float). 2ᶠ ⊗ x ⊘ vtv)
+        (gathered-ext (add binary64) (v0 ⊗ at z first) _ lo _ hi some λ t l u. rw (places t l u, entries t l u))
 
-  pub reflect-ext : H.reflect first π v0 v vtv lo hi z ≡ H.reflect first ρ v0 w vtv lo hi z
-  unfolding H.reflect H.less updated
-  reflect-ext = rw factor-ext (between-ext _ _ _ lo hi some λ t x l u. rw (places t l u, entries t l u))
+    pub reflect-ext : H.reflect first π v0 v vtv lo hi z ≡ H.reflect first ρ v0 w vtv lo hi z
+    unfolding H.reflect H.less updated
+    reflect-ext = rw factor-ext (between-ext _ _ _ lo hi some λ t x l u. rw (places t l u, entries t l u))
 
 -- u0's product comes first, then those of u, whose entries are one place apart
-pub reflect-run : (first p k : ℕ) (u0 : Float) (u : List Float) (q : ℕ) (utu : Float) (lo hi : ℕ) (z z1 r : List Float) (s : Float) →
-    r ≡ H.less (λ (t : ℕ). p + t * k) (2ᶠ ⊗ s ⊘ utu) (λ (t : ℕ). at u (q + t)) lo hi z1 → z1 ≡ set z first (at z first ⊖ 2ᶠ ⊗ s ⊘ utu ⊗ u0) → s ≡ sum (u0 ⊗ at z first) (λ (t : ℕ). at u (q + t * 1) ⊗ at z (p + t * k)) lo hi → lo ≤ hi →
-    r ≡ H.reflect first (λ (t : ℕ). p + t * k) u0 (λ (t : ℕ). at u (q + t)) utu lo hi z
+pub reflect-run : (first p k : ℕ) (u0 : Float) (u : List Float) (q : ℕ) (utu : Float) (lo hi : ℕ) (z z1 r : List Float)
+    (s : Float)
+    → r ≡ H.less (λ (t : ℕ). p + t * k) (2ᶠ ⊗ s ⊘ utu) (λ (t : ℕ). at u (q + t)) lo hi z1
+    → z1 ≡ set z first (at z first ⊖ 2ᶠ ⊗ s ⊘ utu ⊗ u0)
+    → s ≡ sum (u0 ⊗ at z first) (λ (t : ℕ). at u (q + t * 1) ⊗ at z (p + t * k)) lo hi → lo ≤ hi
+    → r ≡ H.reflect first (λ (t : ℕ). p + t * k) u0 (λ (t : ℕ). at u (q + t)) utu lo hi z
 unfolding H.reflect H.factor
 reflect-run first p k u0 u q utu lo hi z z1 r s e w f h =
-    let g : s ≡ sum (u0 ⊗ at z first) (λ (t : ℕ). at u (q + t) ⊗ at z (p + t * k)) lo hi = f ∙ gathered-ext (add binary64) (u0 ⊗ at z first) _ lo _ hi h (λ t l m. rw (mul-one t)) in
+    let g : s ≡ sum (u0 ⊗ at z first) (λ (t : ℕ). at u (q + t) ⊗ at z (p + t * k)) lo hi =
+    f ∙ gathered-ext (add binary64) (u0 ⊗ at z first) _ lo _ hi h (λ t l m. rw (mul-one t)) in
     rw (e, w, g)
 
 -- ---- the pivot
 
-pub column-norm-run : (a : List Float) (n j m c : ℕ) (r : Float) → r ≡ sum 0ᶠ (λ (t : ℕ). at a (c + t * n) ⊗ at a (c + t * n)) j m → j ≤ m → r ≡ def.norm2 a n c j m
+pub column-norm-run : (a : List Float) (n j m c : ℕ) (r : Float)
+    → r ≡ sum 0ᶠ (λ (t : ℕ). at a (c + t * n) ⊗ at a (c + t * n)) j m → j ≤ m → r ≡ def.norm2 a n c j m
 unfolding def.norm2
 column-norm-run a n j m c r e h = e ∙ gathered-ext (add binary64) 0ᶠ _ j _ m h λ t l u. rw (add-comm c (t * n))
 
@@ -62,32 +71,47 @@ no-norm (suc (suc zero)) h = refl
 no-norm (suc (suc (suc zero))) h = refl
 no-norm (suc (suc (suc (suc t)))) h = absurd (omega arith)
 
-pub four-picked : (a : List Float) (m n j c : ℕ) (best r : Pivot) (s : List Float) → r ≡ between 0 4 best (λ (t : ℕ) (p : Pivot). def.picked (c + t) (at s t) p) → s ≡ squares a n c 4 zeros j m → j ≤ m → r ≡ between c (c + 4) best (def.better a m n j)
+pub four-picked : (a : List Float) (m n j c : ℕ) (best r : Pivot) (s : List Float)
+    → r ≡ between 0 4 best (λ (t : ℕ) (p : Pivot). def.picked (c + t) (at s t) p) → s ≡ squares a n c 4 zeros j m
+    → j ≤ m → r ≡ between c (c + 4) best (def.better a m n j)
 unfolding def.better
 four-picked a m n j c best r s e f h =
-    e ∙ rw f (between-ext best _ _ 0 4 (omega arith) λ t p l u. rw (norms-are a n j m c 4 zeros (omega arith) h t u (no-norm t u))) ∙ sym (between-shift best _ c 4)
+    e ∙ rw f
+    (between-ext best _ _ 0 4 (omega arith)
+    λ t p l u. rw (norms-are a n j m c 4 zeros (omega arith) h t u (no-norm t u))) ∙ sym (between-shift best _ c 4)
 
-pub one-picked : (a : List Float) (m n j c k : ℕ) (best p r : Pivot) (norm : Float) → r ≡ def.picked k norm p → norm ≡ def.norm2 a n k j m → p ≡ between c k best (def.better a m n j) → c ≤ k → r ≡ between c (k + 1) best (def.better a m n j)
+pub one-picked : (a : List Float) (m n j c k : ℕ) (best p r : Pivot) (norm : Float) → r ≡ def.picked k norm p
+    → norm ≡ def.norm2 a n k j m → p ≡ between c k best (def.better a m n j) → c ≤ k
+    → r ≡ between c (k + 1) best (def.better a m n j)
 unfolding def.better
 one-picked a m n j c k best p r norm e f g h = between-again best _ c k p r h g (rw f at e)
 
-pub find-run : (a : List Float) (m n j : ℕ) (norm : Float) (e : Scan) (g : Pivot) → g ≡ between (e .next) n (e .best) (def.better a m n j) → private.Scanned a m n j (j + 1) (record { col = j; norm = norm }) e → norm ≡ def.norm2 a n j j m → g ≡ def.pivot a m n j
+pub find-run : (a : List Float) (m n j : ℕ) (norm : Float) (e : Scan) (g : Pivot)
+    → g ≡ between (e .next) n (e .best) (def.better a m n j)
+    → private.Scanned a m n j (j + 1) (record { col = j; norm = norm }) e → norm ≡ def.norm2 a n j j m
+    → g ≡ def.pivot a m n j
 unfolding def.pivot
 find-run a m n j norm e g eg se en =
-    let x : e .best ≡ between (suc j) (e .next) (record { col = j; norm = def.norm2 a n j j m }) (def.better a m n j) = rw (add-one, en) at (se .pivot) in
+    let x : e .best ≡ between (suc j) (e .next) (record { col = j; norm = def.norm2 a n j j m }) (def.better a m n j) =
+    rw (add-one, en) at (se .pivot) in
     between-more _ _ (suc j) (e .next) n (e .best) g eg x (omega (arith, se .from)) (se .to)
 
 pub brought-still : (m n j c : ℕ) (a b : List Float) (p : List ℕ) → c ≡ j → def.factors a b p ≡ def.brought m n j c (def.factors a b p)
 unfolding def.brought
 brought-still m n j c a b p e = rw (eq-eqb c j e)
 
-pub brought-run : (m n j c : ℕ) (a b : List Float) (p : List ℕ) (a1 : List Float) (p1 : List ℕ) → p1 ≡ swap 0 p j c → a1 ≡ def.swapColumns n j c a m → (c ≡ j → ⊥) → def.factors a1 b p1 ≡ def.brought m n j c (def.factors a b p)
+pub brought-run : (m n j c : ℕ) (a b : List Float) (p : List ℕ) (a1 : List Float) (p1 : List ℕ) → p1 ≡ swap 0 p j c
+    → a1 ≡ def.swapColumns n j c a m → (c ≡ j → ⊥) → def.factors a1 b p1 ≡ def.brought m n j c (def.factors a b p)
 unfolding def.brought
 brought-run m n j c a b p a1 p1 ep ea e = rw (ne-eqb c j e, ep, ea)
 
 -- ---- a column's reflector
 
-module _ (a : List Float) (m n j : ℕ) (v v1 : List Float) (sigma beta : Float) (copied : v1 ≡ updated nan (λ (row : ℕ). row) (λ (row : ℕ) (x : Float). at a (row * n + j)) j m v) (room : m ≤ length v) (low : j < m) (sums : sigma ≡ sum 0ᶠ (λ (t : ℕ). at v1 (0 + t * 1) ⊗ at v1 (0 + t * 1)) (j + 1) m) (signed : beta ≡ H.beta (at v1 j) sigma) where
+module _ (a : List Float) (m n j : ℕ) (v v1 : List Float) (sigma beta : Float)
+    (copied : v1 ≡ updated nan (λ (row : ℕ). row) (λ (row : ℕ) (x : Float). at a (row * n + j)) j m v)
+    (room : m ≤ length v) (low : j < m)
+    (sums : sigma ≡ sum 0ᶠ (λ (t : ℕ). at v1 (0 + t * 1) ⊗ at v1 (0 + t * 1)) (j + 1) m)
+    (signed : beta ≡ H.beta (at v1 j) sigma) where
   entry : (row : ℕ) → j ≤ row → row < m → at v1 row ≡ at a (row * n + j)
   entry row l u = rw copied (updated-here nan (λ row. row) (λ row x. at a (row * n + j)) j v (λ t w h e. omega arith) m row l u (omega arith))
 
@@ -102,7 +126,9 @@ module _ (a : List Float) (m n j : ℕ) (v v1 : List Float) (sigma beta : Float)
   unfolding def.householder
   parts = rw (signed, sigma-is, entry j (omega arith) low)
 
-  pub householder-run : private.Reflects a m n j (record { beta = beta; v0 = at v1 j ⊖ beta; vtv = (at v1 j ⊖ beta) ⊗ (at v1 j ⊖ beta) ⊕ sigma }) (set v1 j (at v1 j ⊖ beta))
+  pub householder-run : private.Reflects a m n j
+      (record { beta = beta; v0 = at v1 j ⊖ beta; vtv = (at v1 j ⊖ beta) ⊗ (at v1 j ⊖ beta) ⊕ sigma })
+      (set v1 j (at v1 j ⊖ beta))
   householder-run =
       record {
         parts = parts;
@@ -110,40 +136,58 @@ module _ (a : List Float) (m n j : ℕ) (v v1 : List Float) (sigma beta : Float)
         below = λ row l u. getD-set-other v1 j row (at v1 j ⊖ beta) nan (λ e. omega arith) ∙ entry row (omega arith) u;
       }
 
-pub reflect-column-run : (m n j : ℕ) (v : List Float) (vtv : Float) (c first : ℕ) (a r : List Float) → r ≡ H.reflect first (λ (t : ℕ). c + t * n) (at v j) (λ (t : ℕ). at v (0 + t)) vtv (j + 1) m a → first ≡ j * n + c → j < m → r ≡ def.reflectColumn m n j (at v j) (λ row. at v row) vtv c a
+pub reflect-column-run : (m n j : ℕ) (v : List Float) (vtv : Float) (c first : ℕ) (a r : List Float)
+    → r ≡ H.reflect first (λ (t : ℕ). c + t * n) (at v j) (λ (t : ℕ). at v (0 + t)) vtv (j + 1) m a → first ≡ j * n + c
+    → j < m → r ≡ def.reflectColumn m n j (at v j) (λ row. at v row) vtv c a
 unfolding def.reflectColumn
 reflect-column-run m n j v vtv c first a r e f h =
-    e ∙ rw (f, add-one) (reflect-ext (j * n + c) (λ t. c + t * n) (λ row. row * n + c) (at v j) (λ t. at v (0 + t)) (λ row. at v row) vtv (suc j) m a h (λ t l u. add-comm c (t * n)) (λ t l u. rw (zero-add t)))
+    e ∙ rw (f, add-one)
+    (reflect-ext (j * n + c) (λ t. c + t * n) (λ row. row * n + c) (at v j) (λ t. at v (0 + t)) (λ row. at v row) vtv
+    (suc j) m a h (λ t l u. add-comm c (t * n)) (λ t l u. rw (zero-add t)))
 
-pub columns-run : (n j c : ℕ) (f : ℕ → List Float → List Float) (a a1 a2 : List Float) → a2 ≡ between c n a1 f → a1 ≡ between (j + 1) c a f → j + 1 ≤ c → c ≤ n → a2 ≡ between (suc j) n a f
-columns-run n j c f a a1 a2 e2 e1 h1 h2 = let x : a1 ≡ between (suc j) c a f = rw add-one at e1 in between-more a f (suc j) c n a1 a2 e2 x (omega arith) h2
+pub columns-run : (n j c : ℕ) (f : ℕ → List Float → List Float) (a a1 a2 : List Float) → a2 ≡ between c n a1 f
+    → a1 ≡ between (j + 1) c a f → j + 1 ≤ c → c ≤ n → a2 ≡ between (suc j) n a f
+columns-run n j c f a a1 a2 e2 e1 h1 h2 = let x : a1 ≡ between (suc j) c a f = rw add-one at e1 in
+    between-more a f (suc j) c n a1 a2 e2 x (omega arith) h2
 
 module _ (m n j : ℕ) (a b v : List Float) (h : Householder) (refl-of : private.Reflects a m n j h v) (low : j < m) (small : j < n) where
-  columns-same : between (suc j) n a (def.reflectColumn m n j (at v j) (λ row. at v row) (h .vtv)) ≡ between (suc j) n a (def.reflectColumn m n j (h .v0) (λ row. at a (row * n + j)) (h .vtv))
+  columns-same : between (suc j) n a (def.reflectColumn m n j (at v j) (λ row. at v row) (h .vtv))
+      ≡ between (suc j) n a (def.reflectColumn m n j (h .v0) (λ row. at a (row * n + j)) (h .vtv))
   unfolding def.reflectColumn
   columns-same =
       between-ext a _ _ (suc j) n small λ c x l u.
-      rw (refl-of .first) (reflect-ext (j * n + c) (λ row. row * n + c) (λ row. row * n + c) (h .v0) (λ row. at v row) (λ row. at a (row * n + j)) (h .vtv) (suc j) m x low (λ t l u. refl) (refl-of .below))
+      rw (refl-of .first)
+      (reflect-ext (j * n + c) (λ row. row * n + c) (λ row. row * n + c) (h .v0) (λ row. at v row)
+      (λ row. at a (row * n + j)) (h .vtv) (suc j) m x low (λ t l u. refl) (refl-of .below))
 
-  side-same : H.reflect j (λ (t : ℕ). 0 + t * 1) (h .v0) (λ (t : ℕ). at v (0 + t)) (h .vtv) (suc j) m b ≡ H.reflect j (λ row. row) (h .v0) (λ row. at a (row * n + j)) (h .vtv) (suc j) m b
-  side-same = reflect-ext j (λ t. 0 + t * 1) (λ row. row) (h .v0) (λ t. at v (0 + t)) (λ row. at a (row * n + j)) (h .vtv) (suc j) m b low (λ t l u. rw (mul-one t, zero-add t)) (λ t l u. rw (zero-add t) (refl-of .below t l u))
+  side-same : H.reflect j (λ (t : ℕ). 0 + t * 1) (h .v0) (λ (t : ℕ). at v (0 + t)) (h .vtv) (suc j) m b
+      ≡ H.reflect j (λ row. row) (h .v0) (λ row. at a (row * n + j)) (h .vtv) (suc j) m b
+  side-same =
+      reflect-ext j (λ t. 0 + t * 1) (λ row. row) (h .v0) (λ t. at v (0 + t)) (λ row. at a (row * n + j)) (h .vtv)
+      (suc j) m b low (λ t l u. rw (mul-one t, zero-add t)) (λ t l u. rw (zero-add t) (refl-of .below t l u))
 
-  pub eliminated-run : (p : List ℕ) (a1 a2 a3 b1 : List Float) → a3 ≡ def.zeroBelow n j a2 m → a2 ≡ set a1 (j * n + j) (h .beta) → b1 ≡ H.reflect j (λ (t : ℕ). 0 + t * 1) (h .v0) (λ (t : ℕ). at v (0 + t)) (h .vtv) (j + 1) m b →
-      a1 ≡ between (suc j) n a (def.reflectColumn m n j (at v j) (λ row. at v row) (h .vtv)) → def.factors a3 b1 p ≡ def.eliminated m n j (def.factors a b p)
+  pub eliminated-run : (p : List ℕ) (a1 a2 a3 b1 : List Float) → a3 ≡ def.zeroBelow n j a2 m
+      → a2 ≡ set a1 (j * n + j) (h .beta)
+      → b1 ≡ H.reflect j (λ (t : ℕ). 0 + t * 1) (h .v0) (λ (t : ℕ). at v (0 + t)) (h .vtv) (j + 1) m b
+      → a1 ≡ between (suc j) n a (def.reflectColumn m n j (at v j) (λ row. at v row) (h .vtv))
+      → def.factors a3 b1 p ≡ def.eliminated m n j (def.factors a b p)
   unfolding def.eliminated
   eliminated-run p a1 a2 a3 b1 e3 e2 eb e1 =
       let x : b1 ≡ H.reflect j (λ (t : ℕ). 0 + t * 1) (h .v0) (λ (t : ℕ). at v (0 + t)) (h .vtv) (suc j) m b = rw add-one at eb in
       rw (e3, e2, x, e1, columns-same, side-same, refl-of .parts)
 
-pub reduce-run : (m n j : ℕ) (a b : List Float) (p : List ℕ) (a2 b1 a1 : List Float) (p1 : List ℕ) (q : Pivot) →
-    ((r : List ℕ) → def.factors a2 b1 r ≡ def.eliminated m n j (def.factors a1 b r)) → ((b : List Float) → def.factors a1 b p1 ≡ def.brought m n j (q .col) (def.factors a b p)) → eq (q .norm) 0ᶠ ≡ false → q ≡ def.pivot a m n j →
-    private.standing true j (def.factors a2 b1 p1) ≡ def.reduce m n j (def.going (def.factors a b p))
+pub reduce-run : (m n j : ℕ) (a b : List Float) (p : List ℕ) (a2 b1 a1 : List Float) (p1 : List ℕ) (q : Pivot)
+    → ((r : List ℕ) → def.factors a2 b1 r ≡ def.eliminated m n j (def.factors a1 b r))
+    → ((b : List Float) → def.factors a1 b p1 ≡ def.brought m n j (q .col) (def.factors a b p))
+    → eq (q .norm) 0ᶠ ≡ false → q ≡ def.pivot a m n j
+    → private.standing true j (def.factors a2 b1 p1) ≡ def.reduce m n j (def.going (def.factors a b p))
 unfolding def.reduce
 reduce-run m n j a b p a2 b1 a1 p1 q er eb et eq0 = let t : eq (def.pivot a m n j .norm) 0ᶠ ≡ false = rw (← eq0) et in rw (er p1, eb b, t, ← eq0)
 
-pub reduce-ended : (m n j : ℕ) (a b : List Float) (p : List ℕ) (a1 : List Float) (p1 : List ℕ) (q : Pivot) →
-    ((b : List Float) → def.factors a1 b p1 ≡ def.brought m n j (q .col) (def.factors a b p)) → eq (q .norm) 0ᶠ ≡ true → q ≡ def.pivot a m n j →
-    private.standing false j (def.factors a1 b p1) ≡ def.reduce m n j (def.going (def.factors a b p))
+pub reduce-ended : (m n j : ℕ) (a b : List Float) (p : List ℕ) (a1 : List Float) (p1 : List ℕ) (q : Pivot)
+    → ((b : List Float) → def.factors a1 b p1 ≡ def.brought m n j (q .col) (def.factors a b p)) → eq (q .norm) 0ᶠ ≡ true
+    → q ≡ def.pivot a m n j
+    → private.standing false j (def.factors a1 b p1) ≡ def.reduce m n j (def.going (def.factors a b p))
 unfolding def.reduce
 reduce-ended m n j a b p a1 p1 q eb et eq0 = let t : eq (def.pivot a m n j .norm) 0ᶠ ≡ true = rw (← eq0) et in rw (eb b, t, ← eq0)
 
@@ -153,22 +197,26 @@ pub reduced-from : (m n : ℕ) (a b : List Float) (p : List ℕ) → p ≡ tab (
 unfolding def.reduced
 reduced-from m n a b p e = rw e (turns-from _ _)
 
-module _ (m n : ℕ) (a b : List Float) (j : ℕ) (s t : def.Factors) (r : Bool) (work : private.standing r j t ≡ def.reduce m n j (def.going s)) (so-far : def.going s ≡ def.reduced m n a b j) where
-  next : private.standing r j t ≡ def.reduced m n a b (suc j)
-  unfolding def.reduced turns
-  next = work ∙ ap (def.reduce m n j) so-far
+module _ (m n : ℕ) (a b : List Float) (j : ℕ) (s t : def.Factors) (r : Bool)
+    (work : private.standing r j t ≡ def.reduce m n j (def.going s)) (so-far : def.going s ≡ def.reduced m n a b j)
+  where
+    next : private.standing r j t ≡ def.reduced m n a b (suc j)
+    unfolding def.reduced turns
+    next = work ∙ ap (def.reduce m n j) so-far
 
-  pub reduced-again : r ≡ true → def.going t ≡ def.reduced m n a b (j + 1)
-  reduced-again h = let g : private.standing true j t ≡ def.reduced m n a b (suc j) = rw h at next in rw add-one g
+    pub reduced-again : r ≡ true → def.going t ≡ def.reduced m n a b (j + 1)
+    reduced-again h = let g : private.standing true j t ≡ def.reduced m n a b (suc j) = rw h at next in rw add-one g
 
-  pub reduced-ended : (k : ℕ) → r ≡ false → j < k → private.Stopped k (def.reduced m n a b k) j t
-  unfolding def.reduced def.reduce
-  reduced-ended k h l =
-      let g : private.standing false j t ≡ def.reduced m n a b (suc j) = rw h at next in
-      let i : def.reduced m n a b k ≡ def.ended j t = stays (def.reduce m n) (def.going (def.factors a b (tab (λ (i : ℕ). i) n))) (def.ended j t) (suc j) (sym g) (λ i b. refl) k l in
-      rw i (record { columns = refl; most = omega arith; factors = refl })
+    pub reduced-ended : (k : ℕ) → r ≡ false → j < k → private.Stopped k (def.reduced m n a b k) j t
+    unfolding def.reduced def.reduce
+    reduced-ended k h l =
+        let g : private.standing false j t ≡ def.reduced m n a b (suc j) = rw h at next in
+        let i : def.reduced m n a b k ≡ def.ended j t = stays (def.reduce m n)
+        (def.going (def.factors a b (tab (λ (i : ℕ). i) n))) (def.ended j t) (suc j) (sym g) (λ i b. refl) k l in
+        rw i (record { columns = refl; most = omega arith; factors = refl })
 
-pub reduced-done : (m n : ℕ) (a b : List Float) (j k : ℕ) (s : def.Factors) → def.going s ≡ def.reduced m n a b j → j ≤ k → k ≤ j → private.Stopped k (def.reduced m n a b k) k s
+pub reduced-done : (m n : ℕ) (a b : List Float) (j k : ℕ) (s : def.Factors) → def.going s ≡ def.reduced m n a b j
+    → j ≤ k → k ≤ j → private.Stopped k (def.reduced m n a b k) k s
 reduced-done m n a b j k s e g h =
     let q : j ≡ k = omega arith in
     let f : def.going s ≡ def.reduced m n a b k = rw q at e in
@@ -176,7 +224,8 @@ reduced-done m n a b j k s e g h =
 
 -- ---- the rank
 
-pub leads-run : (n : ℕ) (a : List Float) (i : ℕ) (x y v w : Float) → x ≡ abs v → y ≡ abs w → v ≡ at a (0 * n + 0) → w ≡ at a (i * n + i) → lt (1e-11 ⊗ x) y ≡ def.leads n a i
+pub leads-run : (n : ℕ) (a : List Float) (i : ℕ) (x y v w : Float) → x ≡ abs v → y ≡ abs w → v ≡ at a (0 * n + 0)
+    → w ≡ at a (i * n + i) → lt (1e-11 ⊗ x) y ≡ def.leads n a i
 unfolding def.leads
 leads-run n a i x y v w ex ey ev ew = let q : 0 * n + 0 ≡ 0 = omega arith in rw (ex, ey, ev, ew, q)
 
@@ -207,55 +256,78 @@ module _ (n rank i : ℕ) (p : ℕ) (start : p ≡ i * n + 0) where
   row : p ≡ i * n
   row = omega arith
 
-  pub row-norm-run : (a : List Float) (s r : Float) → r ≡ sum s (λ (t : ℕ). at a (p + t * 1) ⊗ at a (p + t * 1)) rank n → rank ≤ n → r ≡ def.rowNorm2 n rank i a s
+  pub row-norm-run : (a : List Float) (s r : Float) → r ≡ sum s (λ (t : ℕ). at a (p + t * 1) ⊗ at a (p + t * 1)) rank n
+      → rank ≤ n → r ≡ def.rowNorm2 n rank i a s
   unfolding def.rowNorm2
   row-norm-run a s r e h = e ∙ rw row (gathered-ext (add binary64) s _ rank _ n h λ t l u. rw (mul-one t))
 
-  pub kept-run : (q : ℕ) (a right right1 : List Float) → right1 ≡ updated nan (λ (t : ℕ). q + t) (λ (t : ℕ) (v : Float). at a (p + t)) rank n right → q ≡ i * n + 0 → right1 ≡ def.keptRow n rank i a right
+  pub kept-run : (q : ℕ) (a right right1 : List Float)
+      → right1 ≡ updated nan (λ (t : ℕ). q + t) (λ (t : ℕ) (v : Float). at a (p + t)) rank n right → q ≡ i * n + 0
+      → right1 ≡ def.keptRow n rank i a right
   unfolding def.keptRow
   kept-run q a right right1 e f = let g : q ≡ i * n = omega arith in rw (row, g) at e
 
-  pub known-run : (a b y : List Float) (r : Float) → r ≡ difference (at b i) (λ (t : ℕ). at a (p + t) ⊗ at y (0 + t)) (i + 1) rank → i < rank → r ≡ def.known n rank a b y i
+  pub known-run : (a b y : List Float) (r : Float)
+      → r ≡ difference (at b i) (λ (t : ℕ). at a (p + t) ⊗ at y (0 + t)) (i + 1) rank → i < rank
+      → r ≡ def.known n rank a b y i
   unfolding def.known
   known-run a b y r e h = e ∙ rw (add-one, row) (gathered-ext (sub binary64) (at b i) _ (suc i) _ rank h λ t l u. rw (zero-add t))
 
-  pub reflect-row-run : (right : List Float) (u0 utu : Float) (k q first : ℕ) (a a1 : List Float) → a1 ≡ H.reflect first (λ (t : ℕ). q + t * 1) u0 (λ (t : ℕ). at right (p + t)) utu rank n a → q ≡ k * n + 0 → first ≡ k * n + i → rank ≤ n → a1 ≡ def.reflectRow n rank i right u0 utu k a
+  pub reflect-row-run : (right : List Float) (u0 utu : Float) (k q first : ℕ) (a a1 : List Float)
+      → a1 ≡ H.reflect first (λ (t : ℕ). q + t * 1) u0 (λ (t : ℕ). at right (p + t)) utu rank n a → q ≡ k * n + 0
+      → first ≡ k * n + i → rank ≤ n → a1 ≡ def.reflectRow n rank i right u0 utu k a
   unfolding def.reflectRow
   reflect-row-run right u0 utu k q first a a1 e f g h =
       let r : q ≡ k * n = omega arith in
-      e ∙ rw (row, r, g) (reflect-ext (k * n + i) (λ t. k * n + t * 1) (λ c. k * n + c) u0 (λ t. at right (i * n + t)) (λ c. at right (i * n + c)) utu rank n a h (λ t l u. rw (mul-one t)) (λ t l u. refl))
+      e ∙ rw (row, r, g)
+      (reflect-ext (k * n + i) (λ t. k * n + t * 1) (λ c. k * n + c) u0 (λ t. at right (i * n + t))
+      (λ c. at right (i * n + c)) utu rank n a h (λ t l u. rw (mul-one t)) (λ t l u. refl))
 
-  pub turn-run : (right y y1 : List Float) (u0 utu : Float) → y1 ≡ H.reflect i (λ (t : ℕ). 0 + t * 1) u0 (λ (t : ℕ). at right (p + t)) utu rank n y → eq utu 0ᶠ ≡ false → utu ≡ def.rowNorm2 n rank i right (u0 ⊗ u0) → u0 ≡ at right (i * n + i) → rank ≤ n → y1 ≡ def.turn n rank right i y
+  pub turn-run : (right y y1 : List Float) (u0 utu : Float)
+      → y1 ≡ H.reflect i (λ (t : ℕ). 0 + t * 1) u0 (λ (t : ℕ). at right (p + t)) utu rank n y → eq utu 0ᶠ ≡ false
+      → utu ≡ def.rowNorm2 n rank i right (u0 ⊗ u0) → u0 ≡ at right (i * n + i) → rank ≤ n
+      → y1 ≡ def.turn n rank right i y
   unfolding def.turn
   turn-run right y y1 u0 utu e h d u l =
       let q : eq (def.rowNorm2 n rank i right (at right (i * n + i) ⊗ at right (i * n + i))) 0ᶠ ≡ false = rw (← u, ← d) h in
-      e ∙ rw (row, q, ← u, ← d) (reflect-ext i (λ t. 0 + t * 1) (λ t. t) u0 (λ t. at right (i * n + t)) (λ t. at right (i * n + t)) utu rank n y l (λ t l u. rw (mul-one t, zero-add t)) (λ t l u. refl))
+      e ∙ rw (row, q, ← u, ← d)
+      (reflect-ext i (λ t. 0 + t * 1) (λ t. t) u0 (λ t. at right (i * n + t)) (λ t. at right (i * n + t)) utu rank n y l
+      (λ t l u. rw (mul-one t, zero-add t)) (λ t l u. refl))
 
-pub turn-still : (n rank : ℕ) (right : List Float) (i : ℕ) (y : List Float) (utu u0 : Float) → eq utu 0ᶠ ≡ true → utu ≡ def.rowNorm2 n rank i right (u0 ⊗ u0) → u0 ≡ at right (i * n + i) → y ≡ def.turn n rank right i y
+pub turn-still : (n rank : ℕ) (right : List Float) (i : ℕ) (y : List Float) (utu u0 : Float) → eq utu 0ᶠ ≡ true
+    → utu ≡ def.rowNorm2 n rank i right (u0 ⊗ u0) → u0 ≡ at right (i * n + i) → y ≡ def.turn n rank right i y
 unfolding def.turn
-turn-still n rank right i y utu u0 h d u = let q : eq (def.rowNorm2 n rank i right (at right (i * n + i) ⊗ at right (i * n + i))) 0ᶠ ≡ true = rw (← u, ← d) h in rw q
+turn-still n rank right i y utu u0 h d u =
+    let q : eq (def.rowNorm2 n rank i right (at right (i * n + i) ⊗ at right (i * n + i))) 0ᶠ ≡ true =
+    rw (← u, ← d) h in
+    rw q
 
 module _ (n rank i : ℕ) (a right : List Float) (alpha sigma : Float) (sums : sigma ≡ def.rowNorm2 n rank i a 0ᶠ) where
   pub clear-still : eq sigma 0ᶠ ≡ true → def.trapezoid a right ≡ def.clear n rank i (def.trapezoid a right)
   unfolding def.clear
   clear-still h = let q : eq (def.rowNorm2 n rank i a 0ᶠ) 0ᶠ ≡ true = rw (← sums) h in rw q
 
-  pub clear-run : (a1 u u1 : List Float) (g : Float) → a1 ≡ def.reflectRows n rank i u (alpha ⊖ g) ((alpha ⊖ g) ⊗ (alpha ⊖ g) ⊕ sigma) a (suc i) → u ≡ def.keptRow n rank i a u1 → u1 ≡ set right (i * n + i) (alpha ⊖ g) → g ≡ H.beta alpha sigma →
-      eq sigma 0ᶠ ≡ false → alpha ≡ at a (i * n + i) → def.trapezoid a1 u ≡ def.clear n rank i (def.trapezoid a right)
+  pub clear-run : (a1 u u1 : List Float) (g : Float)
+      → a1 ≡ def.reflectRows n rank i u (alpha ⊖ g) ((alpha ⊖ g) ⊗ (alpha ⊖ g) ⊕ sigma) a (suc i)
+      → u ≡ def.keptRow n rank i a u1 → u1 ≡ set right (i * n + i) (alpha ⊖ g) → g ≡ H.beta alpha sigma
+      → eq sigma 0ᶠ ≡ false → alpha ≡ at a (i * n + i) → def.trapezoid a1 u ≡ def.clear n rank i (def.trapezoid a right)
   unfolding def.clear
   clear-run a1 u u1 g ea eu e1 eg h el = let q : eq (def.rowNorm2 n rank i a 0ᶠ) 0ᶠ ≡ false = rw (← sums) h in rw (q, ea, eu, e1, eg, sums, el)
 
-pub cleared-some : (n rank : ℕ) (a : List Float) (t : def.Trapezoid) → t ≡ def.cleared n rank a 0 → rank < n → t ≡ def.cleared n rank a (def.lastCleared n rank)
+pub cleared-some : (n rank : ℕ) (a : List Float) (t : def.Trapezoid) → t ≡ def.cleared n rank a 0 → rank < n
+    → t ≡ def.cleared n rank a (def.lastCleared n rank)
 unfolding def.lastCleared
 cleared-some n rank a t e h = rw (lt-ltb rank n h) e
 
-pub cleared-none : (n rank : ℕ) (a right : List Float) (k : ℕ) → right ≡ replicate k 0ᶠ → k ≡ rank * n → n ≤ rank → def.trapezoid a right ≡ def.cleared n rank a (def.lastCleared n rank)
+pub cleared-none : (n rank : ℕ) (a right : List Float) (k : ℕ) → right ≡ replicate k 0ᶠ → k ≡ rank * n → n ≤ rank
+    → def.trapezoid a right ≡ def.cleared n rank a (def.lastCleared n rank)
 unfolding def.lastCleared def.cleared
 cleared-none n rank a right k e q h = rw (le-ltb rank n h, e, q) (downward-from _ _ rank)
 
 -- ---- the solution
 
-pub turned-some : (n rank : ℕ) (right y z : List Float) → z ≡ def.turned n rank right y rank → rank < n → z ≡ def.turned n rank right y (def.firstTurned n rank)
+pub turned-some : (n rank : ℕ) (right y z : List Float) → z ≡ def.turned n rank right y rank → rank < n
+    → z ≡ def.turned n rank right y (def.firstTurned n rank)
 unfolding def.firstTurned
 turned-some n rank right y z e h = rw (lt-ltb rank n h) e
 
@@ -269,14 +341,17 @@ replicate-at s v k l e q = rw (← q) e
 pub tab-at : (s : List ℕ) (k l : ℕ) → s ≡ tab (λ (i : ℕ). i) k → k ≡ l → s ≡ tab (λ (i : ℕ). i) l
 tab-at s k l e q = rw (← q) e
 
-pub solved-run : (n rank : ℕ) (a b : List Float) (perm : List ℕ) (x z y u a1 : List Float) →
-    x ≡ def.unpermuted (length perm) perm z (length perm) → length perm ≡ n → z ≡ def.turned n rank u y (def.firstTurned n rank) → y ≡ def.substituted n rank a1 b 0 → def.trapezoid a1 u ≡ def.cleared n rank a (def.lastCleared n rank) → 0 < rank →
-    def.solution rank a1 b x ≡ def.solved n (def.factors a b perm) rank
+pub solved-run : (n rank : ℕ) (a b : List Float) (perm : List ℕ) (x z y u a1 : List Float)
+    → x ≡ def.unpermuted (length perm) perm z (length perm) → length perm ≡ n
+    → z ≡ def.turned n rank u y (def.firstTurned n rank) → y ≡ def.substituted n rank a1 b 0
+    → def.trapezoid a1 u ≡ def.cleared n rank a (def.lastCleared n rank) → 0 < rank
+    → def.solution rank a1 b x ≡ def.solved n (def.factors a b perm) rank
 unfolding def.solved
 solved-run n zero a b perm x z y u a1 ex q ez ey et h = absurd (not-suc-le-zero h)
 solved-run n (suc r) a b perm x z y u a1 ex q ez ey et h = rw (← et, ex, q, ez, ey)
 
-pub solved-none : (n rank : ℕ) (a b : List Float) (perm : List ℕ) (x : List Float) → rank ≡ 0 → x ≡ replicate n 0ᶠ → def.solution rank a b x ≡ def.solved n (def.factors a b perm) rank
+pub solved-none : (n rank : ℕ) (a b : List Float) (perm : List ℕ) (x : List Float) → rank ≡ 0 → x ≡ replicate n 0ᶠ
+    → def.solution rank a b x ≡ def.solved n (def.factors a b perm) rank
 unfolding def.solved
 solved-none n rank a b perm x e ex = rw (e, ex)
 
@@ -288,8 +363,10 @@ past-front w v k l e h g =
     let r : l ≡ k + (l - k) = omega arith in
     ap (λ (x : ℕ). drop x (v ++ drop k w)) q ∙ drop-append-add v (drop k w) (l - k) ∙ drop-drop (l - k) k w ∙ ap (λ (x : ℕ). drop x w) (sym r)
 
-pub least-run : (m n : ℕ) (a b : List Float) (k c rank : ℕ) (s : def.Factors) (x a2 : List Float) →
-    def.solution rank a2 (s .b) x ≡ def.solved n s rank → rank ≡ def.leading n (s .a) c → private.Stopped k (def.reduced m n a b k) c s → k ≡ min m n → def.solution rank a2 (s .b) x ≡ def.leastNorm m n a b
+pub least-run : (m n : ℕ) (a b : List Float) (k c rank : ℕ) (s : def.Factors) (x a2 : List Float)
+    → def.solution rank a2 (s .b) x ≡ def.solved n s rank → rank ≡ def.leading n (s .a) c
+    → private.Stopped k (def.reduced m n a b k) c s → k ≡ min m n
+    → def.solution rank a2 (s .b) x ≡ def.leastNorm m n a b
 unfolding def.leastNorm def.ranked
 least-run m n a b k c rank s x a2 ea er es ek = rw (← ek, ← es .factors, ← es .columns, ← er) ea
 
@@ -318,15 +395,42 @@ module _ (m n : ℕ) (a b x : List Float) (room : ℕ) where
 
   pub wrong-room : m ≤ 32 → n ≤ 32 → length a ≡ m * n → length b ≡ m → length x ≡ n → room < 1056 → promise.reply m n a b x room ≡ promise.refused 12
   unfolding promise.reply
-  wrong-room g h e f k l = rw (le-leb m 32 g, le-leb n 32 h, eq-eqb (length a) (m * n) e, eq-eqb (length b) m f, eq-eqb (length x) n k, lt-leb 1056 room l)
+  wrong-room g h e f k l =
+      rw (
+        le-leb m 32 g,
+        le-leb n 32 h,
+        eq-eqb (length a) (m * n) e,
+        eq-eqb (length b) m f,
+        eq-eqb (length x) n k,
+        lt-leb
+            1056 room l,
+      )
 
-  right-sizes : m ≤ 32 → n ≤ 32 → length a ≡ m * n → length b ≡ m → length x ≡ n → 1056 ≤ room → promise.reply m n a b x room ≡ promise.answered (def.leastNorm m n a b)
+  right-sizes : m ≤ 32 → n ≤ 32 → length a ≡ m * n → length b ≡ m → length x ≡ n → 1056 ≤ room
+      → promise.reply m n a b x room ≡ promise.answered (def.leastNorm m n a b)
   unfolding promise.reply
-  right-sizes g h e f k l = rw (le-leb m 32 g, le-leb n 32 h, eq-eqb (length a) (m * n) e, eq-eqb (length b) m f, eq-eqb (length x) n k, le-leb 1056 room l)
+  right-sizes g h e f k l =
+      rw (
+        le-leb m 32 g,
+        le-leb n 32 h,
+        eq-eqb (length a) (m * n) e,
+        eq-eqb (length b) m f,
+        eq-eqb (length x) n k,
+        le-leb
+            1056 room l,
+      )
 
-  pub refuse : (w : List Float) → promise.reply m n a b x room ≡ promise.refused 12 → promise.Replied (promise.reply m n a b x room) Refused a a b b x x w w
-  refuse w e = rw e (record { number-is = refl; rank-is = refl; rank-small = omega arith; a-left = refl; b-left = refl; x-left = refl; workspace-left = refl })
+  pub refuse : (w : List Float) → promise.reply m n a b x room ≡ promise.refused 12
+      → promise.Replied (promise.reply m n a b x room) Refused a a b b x x w w
+  refuse w e =
+      rw e
+      (record
+      { number-is = refl; rank-is = refl; rank-small = omega arith; a-left = refl; b-left = refl; x-left = refl; workspace-left = refl })
 
-  pub answer : (rank : ℕ) (a1 b1 x1 w w1 : List Float) → def.solution rank a1 b1 x1 ≡ def.leastNorm m n a b → drop 1056 w1 ≡ drop 1056 w → rank ≤ 32 → m ≤ 32 → n ≤ 32 → length a ≡ m * n → length b ≡ m → length x ≡ n → 1056 ≤ room →
-      promise.Replied (promise.reply m n a b x room) (Rank rank) a a1 b b1 x x1 w w1
-  answer rank a1 b1 x1 w w1 ea ew er g h e f k l = rw (right-sizes g h e f k l, ← ea) (record { number-is = refl; rank-is = refl; rank-small = er; a-left = refl; b-left = refl; x-left = refl; workspace-left = ew })
+  pub answer : (rank : ℕ) (a1 b1 x1 w w1 : List Float) → def.solution rank a1 b1 x1 ≡ def.leastNorm m n a b
+      → drop 1056 w1 ≡ drop 1056 w → rank ≤ 32 → m ≤ 32 → n ≤ 32 → length a ≡ m * n → length b ≡ m → length x ≡ n
+      → 1056 ≤ room → promise.Replied (promise.reply m n a b x room) (Rank rank) a a1 b b1 x x1 w w1
+  answer rank a1 b1 x1 w w1 ea ew er g h e f k l =
+      rw (right-sizes g h e f k l, ← ea)
+      (record
+      { number-is = refl; rank-is = refl; rank-small = er; a-left = refl; b-left = refl; x-left = refl; workspace-left = ew })

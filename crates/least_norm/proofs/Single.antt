@@ -22,10 +22,14 @@ left alpha beta y = y ⊖ (2ᶠ ⊗ ((alpha ⊖ beta) ⊗ y) ⊘ ((alpha ⊖ bet
 reduced-one : (alpha y : Float) → def.reduced 1 1 (alpha ∷ []) (y ∷ []) 1 ≡
     cond (eq (0ᶠ ⊕ alpha ⊗ alpha) 0ᶠ) (def.ended 0 (def.factors (alpha ∷ []) (y ∷ []) (0 ∷ [])))
     (def.going (def.factors (H.beta alpha 0ᶠ ∷ []) (left alpha (H.beta alpha 0ᶠ) y ∷ []) (0 ∷ [])))
-unfolding def.reduced def.reduce def.pivot def.norm2 def.brought def.eliminated def.householder def.zeroBelow H.reflect H.factor H.less turns between tab updated gathered
+unfolding
+    def.reduced def.reduce def.pivot def.norm2 def.brought def.eliminated def.householder def.zeroBelow H.reflect
+    H.factor H.less turns between tab updated gathered
 reduced-one alpha y = refl
 
-ranked-ended : (alpha y : Float) → def.ranked 1 1 (def.ended 0 (def.factors (alpha ∷ []) (y ∷ []) (0 ∷ []))) ≡ def.solution 0 (alpha ∷ []) (y ∷ []) (0ᶠ ∷ [])
+ranked-ended : (alpha y : Float)
+    → def.ranked 1 1 (def.ended 0 (def.factors (alpha ∷ []) (y ∷ []) (0 ∷ [])))
+    ≡ def.solution 0 (alpha ∷ []) (y ∷ []) (0ᶠ ∷ [])
 unfolding def.ranked def.solved def.leading turns
 ranked-ended alpha y = refl
 
@@ -61,17 +65,33 @@ module _ (a b x : List Float) (one-a : length a ≡ 1) (one-b : length b ≡ 1) 
   whole = rw (single a one-a, single b one-b)
 
   pub none-left : eq (0ᶠ ⊕ at a 0 ⊗ at a 0) 0ᶠ ≡ true → def.solution 0 a b (set x 0 0ᶠ) ≡ def.leastNorm 1 1 a b
-  none-left h = rw (single-set x 0ᶠ one-x, whole, reduced-one (at a 0) (at b 0), h, ranked-ended (at a 0) (at b 0), ← single a one-a, ← single b one-b)
+  none-left h =
+      rw (
+        single-set x 0ᶠ one-x,
+        whole,
+        reduced-one (at a 0) (at b 0),
+        h,
+        ranked-ended (at a 0) (at b 0),
+        ← single a one-a,
+        ← single b one-b,
+      )
 
   -- the entry that the reflector leaves, its size and b's
   module _ (beta size : Float) (some : eq (0ᶠ ⊕ at a 0 ⊗ at a 0) 0ᶠ ≡ false) (beta-is : beta ≡ H.beta (at a 0) 0ᶠ) (size-is : size ≡ abs beta) where
-    going-left : def.leastNorm 1 1 a b ≡ cond (lt (1e-11 ⊗ size) size) (def.solution 1 (beta ∷ []) (left (at a 0) beta (at b 0) ∷ []) (left (at a 0) beta (at b 0) ⊘ beta ∷ [])) (def.solution 0 (beta ∷ []) (left (at a 0) beta (at b 0) ∷ []) (0ᶠ ∷ []))
+    going-left : def.leastNorm 1 1 a b
+        ≡ cond (lt (1e-11 ⊗ size) size)
+        (def.solution 1 (beta ∷ []) (left (at a 0) beta (at b 0) ∷ []) (left (at a 0) beta (at b 0) ⊘ beta ∷ []))
+        (def.solution 0 (beta ∷ []) (left (at a 0) beta (at b 0) ∷ []) (0ᶠ ∷ []))
     going-left = whole ∙ rw (reduced-one (at a 0) (at b 0), some, ← beta-is, size-is) (ranked-going beta (left (at a 0) beta (at b 0)))
 
-    pub full-left : lt (1e-11 ⊗ size) size ≡ true → def.solution 1 (set a 0 beta) (set b 0 (left (at a 0) beta (at b 0))) (set (set x 0 0ᶠ) 0 (at (set b 0 (left (at a 0) beta (at b 0))) 0 ⊘ beta)) ≡ def.leastNorm 1 1 a b
+    pub full-left : lt (1e-11 ⊗ size) size ≡ true
+        → def.solution 1 (set a 0 beta) (set b 0 (left (at a 0) beta (at b 0)))
+        (set (set x 0 0ᶠ) 0 (at (set b 0 (left (at a 0) beta (at b 0))) 0 ⊘ beta))
+        ≡ def.leastNorm 1 1 a b
     full-left h = rw (going-left, h, single-set a beta one-a, single-set b (left (at a 0) beta (at b 0)) one-b, single-set x 0ᶠ one-x)
 
-    pub rank-left : lt (1e-11 ⊗ size) size ≡ false → def.solution 0 (set a 0 beta) (set b 0 (left (at a 0) beta (at b 0))) (set x 0 0ᶠ) ≡ def.leastNorm 1 1 a b
+    pub rank-left : lt (1e-11 ⊗ size) size ≡ false
+        → def.solution 0 (set a 0 beta) (set b 0 (left (at a 0) beta (at b 0))) (set x 0 0ᶠ) ≡ def.leastNorm 1 1 a b
     rank-left h = rw (going-left, h, single-set a beta one-a, single-set b (left (at a 0) beta (at b 0)) one-b, single-set x 0ᶠ one-x)
 
 -- ---- a matrix of one entry is one row and one column
@@ -81,5 +101,6 @@ one-by-one zero n l e h = absurd (omega (arith, zero-mul n))
 one-by-one (suc m) zero l e h = absurd (omega arith)
 one-by-one (suc m) (suc n) l e h = (omega arith, omega arith)
 
-pub whole-one : (m n : ℕ) (a b : List Float) (s : def.Solution) → length a ≡ m * n → length a ≡ 1 → s ≡ def.leastNorm 1 1 a b → s ≡ def.leastNorm m n a b
+pub whole-one : (m n : ℕ) (a b : List Float) (s : def.Solution) → length a ≡ m * n → length a ≡ 1
+    → s ≡ def.leastNorm 1 1 a b → s ≡ def.leastNorm m n a b
 whole-one m n a b s e h k = let o = one-by-one m n (length a) e h in rw (o .0, o .1) k

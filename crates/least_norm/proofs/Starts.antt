@@ -1,5 +1,5 @@
--- Where a loop writes every place of a list, what stood there before does not show: so the solution at full rank needs no zeros to start from. The columns' order has every
--- column, since it starts so and only exchanges two.
+-- Where a loop writes every place of a list, what stood there before does not show: so the solution at full rank needs
+-- no zeros to start from. The columns' order has every column, since it starts so and only exchanges two.
 use Prim.Native.Nat.{ℕ, zero, suc, _+_, _-_, _*_, _≤_, _<_}
 use mathlib.Core.Path.{_≡_, refl, sym, _∙_, ap, subst}
 use mathlib.Core.Bool.{Bool, true, false, cond}
@@ -39,14 +39,24 @@ module _ (perm : List ℕ) (y x z : List Float) (same : length x ≡ length z) w
   put-hit zero p j l e h = absurd (omega arith)
   put-hit (suc k) p j l e h = go (eqb p (getD perm k 0)) refl (λ w. put-hit k p j w e h)
     where
-      go : (b : Bool) → eqb p (getD perm k 0) ≡ b → (j < k → at (turns k x put) p ≡ at (turns k z put) p) → at (set (turns k x put) (getD perm k 0) (at y k)) p ≡ at (set (turns k z put) (getD perm k 0) (at y k)) p
+      go : (b : Bool) → eqb p (getD perm k 0) ≡ b → (j < k → at (turns k x put) p ≡ at (turns k z put) p)
+          → at (set (turns k x put) (getD perm k 0) (at y k)) p ≡ at (set (turns k z put) (getD perm k 0) (at y k)) p
       go true q before =
           let r = eqb-true p (getD perm k 0) q in
-          rw (r, getD-set-same (turns k x put) (getD perm k 0) (at y k) nan (omega (arith, put-long x k)), getD-set-same (turns k z put) (getD perm k 0) (at y k) nan (omega (arith, put-long z k)))
+          rw (
+            r,
+            getD-set-same (turns k x put) (getD perm k 0) (at y k) nan (omega (arith, put-long x k)),
+            getD-set-same
+                (turns k z put) (getD perm k 0) (at y k) nan (omega (arith, put-long z k)),
+          )
       go false q before =
           let r = eqb-false p (getD perm k 0) q in
           let u : j ≡ k → ⊥ = λ s. r (sym (ap (λ (i : ℕ). getD perm i 0) (sym s) ∙ e)) in
-          rw (getD-set-other (turns k x put) (getD perm k 0) p (at y k) nan r, getD-set-other (turns k z put) (getD perm k 0) p (at y k) nan r) (before (omega arith))
+          rw (
+            getD-set-other (turns k x put) (getD perm k 0) p (at y k) nan r,
+            getD-set-other (turns k z put)
+                (getD perm k 0) p (at y k) nan r,
+          ) (before (omega arith))
 
   put-all : (n : ℕ) → length x ≡ n → private.Onto n perm → turns n x put ≡ turns n z put
   put-all n e onto =
@@ -73,7 +83,10 @@ module _ (n : ℕ) (a b x z : List Float) (lx : length x ≡ n) (lz : length z �
 
   entry-same : (u v : List Float) (i : ℕ) → i < n → ((p : ℕ) → suc i ≤ p → p < n → at u p ≡ at v p) → entry u i ≡ entry v i
   unfolding entry def.known
-  entry-same u v i h e = ap (λ (s : Float). s ⊘ at a (i * n + i)) (gathered-ext (sub binary64) (at b i) _ (suc i) _ n h (λ t l w. ap (λ (s : Float). at a (i * n + t) ⊗ s) (e t l w)))
+  entry-same u v i h e =
+      ap (λ (s : Float). s ⊘ at a (i * n + i))
+      (gathered-ext (sub binary64) (at b i) _ (suc i) _ n h
+      (λ t l w. ap (λ (s : Float). at a (i * n + t) ⊗ s) (e t l w)))
 
   fill-same : (d : ℕ) → d ≤ n → (p : ℕ) → n - d ≤ p → p < n → at (turns d x fill) p ≡ at (turns d z fill) p
   unfolding turns fill
@@ -81,12 +94,21 @@ module _ (n : ℕ) (a b x z : List Float) (lx : length x ≡ n) (lz : length z �
   fill-same (suc d) h p l u =
       let before = fill-same d (omega arith) in
       let i = n - suc d in
-      let e : entry (turns d x fill) i ≡ entry (turns d z fill) i = entry-same (turns d x fill) (turns d z fill) i (omega arith) (λ q m w. before q (omega arith) w) in
+      let e : entry (turns d x fill) i ≡ entry (turns d z fill) i =
+      entry-same (turns d x fill) (turns d z fill) i (omega arith) (λ q m w. before q (omega arith) w) in
       ⊎-elim
       (λ (q : i ≡ p).
-      rw (← q, getD-set-same (turns d x fill) i (entry (turns d x fill) i) nan (omega (arith, fill-long x d)), getD-set-same (turns d z fill) i (entry (turns d z fill) i) nan (omega (arith, fill-long z d))) e)
+      rw (
+        ← q,
+        getD-set-same (turns d x fill) i (entry (turns d x fill) i) nan (omega (arith, fill-long x d)),
+        getD-set-same (turns d z fill) i (entry (turns d z fill) i) nan (omega (arith, fill-long z d)),
+      ) e)
       (λ (q : i < p).
-      rw (getD-set-other (turns d x fill) i p (entry (turns d x fill) i) nan (λ s. omega arith), getD-set-other (turns d z fill) i p (entry (turns d z fill) i) nan (λ s. omega arith)) (before p (omega arith) u))
+      rw (
+        getD-set-other (turns d x fill) i p (entry (turns d x fill) i) nan (λ s. omega arith),
+        getD-set-other
+            (turns d z fill) i p (entry (turns d z fill) i) nan (λ s. omega arith),
+      ) (before p (omega arith) u))
       (eq-or-lt-of-le l)
 
   pub substituted-any : starts.substituted x n n a b 0 ≡ starts.substituted z n n a b 0
@@ -99,11 +121,13 @@ module _ (n : ℕ) (a b x z : List Float) (lx : length x ≡ n) (lz : length z �
 
 -- ---- zeros to start from
 
-pub zeros-substituted : (n rank : ℕ) (a b y z : List Float) → y ≡ starts.substituted z n rank a b 0 → z ≡ replicate n 0ᶠ → y ≡ def.substituted n rank a b 0
+pub zeros-substituted : (n rank : ℕ) (a b y z : List Float) → y ≡ starts.substituted z n rank a b 0 → z ≡ replicate n 0ᶠ
+    → y ≡ def.substituted n rank a b 0
 unfolding starts.substituted def.substituted
 zeros-substituted n rank a b y z e q = rw (e, q)
 
-zeros-unpermuted : (n k : ℕ) (perm : List ℕ) (y x z : List Float) → x ≡ starts.unpermuted z perm y k → z ≡ replicate n 0ᶠ → x ≡ def.unpermuted n perm y k
+zeros-unpermuted : (n k : ℕ) (perm : List ℕ) (y x z : List Float) → x ≡ starts.unpermuted z perm y k
+    → z ≡ replicate n 0ᶠ → x ≡ def.unpermuted n perm y k
 unfolding starts.unpermuted def.unpermuted
 zeros-unpermuted n k perm y x z e q = rw (e, q)
 
@@ -170,7 +194,9 @@ module _ (a : List Float) (m n j : ℕ) where
 
   pivot-in : j < n → def.pivot a m n j .col < n
   unfolding def.pivot between
-  pivot-in h = turns-keep (λ t. def.better a m n j (suc j + t)) (record { col = j; norm = def.norm2 a n j j m }) (λ t p. p .col < n) (n - suc j) h (λ i p l k. better-in (suc j + i) p (omega arith) k)
+  pivot-in h =
+      turns-keep (λ t. def.better a m n j (suc j + t)) (record { col = j; norm = def.norm2 a n j j m })
+      (λ t p. p .col < n) (n - suc j) h (λ i p l k. better-in (suc j + i) p (omega arith) k)
 
 module _ (m n j : ℕ) (h : j < n) where
   brought-fine : (c : ℕ) (s : def.Factors) → c < n → Fine n (s .perm) → Fine n (def.brought m n j c s .perm)
@@ -186,35 +212,44 @@ module _ (m n j : ℕ) (h : j < n) where
   reduce-fine (def.ended r s) f = f
   reduce-fine (def.going s) f = go (eq (def.pivot (s .a) m n j .norm) 0ᶠ) (brought-fine (def.pivot (s .a) m n j .col) s (pivot-in (s .a) m n j h) f)
     where
-      go : (b : Bool) → Fine n (def.brought m n j (def.pivot (s .a) m n j .col) s .perm) → Fine n (def.left (cond b (def.ended j (def.brought m n j (def.pivot (s .a) m n j .col) s)) (def.going (def.eliminated m n j (def.brought m n j (def.pivot (s .a) m n j .col) s)))) .perm)
+      go : (b : Bool) → Fine n (def.brought m n j (def.pivot (s .a) m n j .col) s .perm)
+          → Fine n
+          (def.left
+          (cond b (def.ended j (def.brought m n j (def.pivot (s .a) m n j .col) s)) (def.going (def.eliminated m n j (def.brought m n j (def.pivot (s .a) m n j .col) s)))) .perm)
       go true g = g
       go false g = g
 
 reduced-fine : (m n : ℕ) (a b : List Float) (k : ℕ) → k ≤ n → Fine n (def.left (def.reduced m n a b k) .perm)
 unfolding def.reduced
 reduced-fine m n a b k h =
-    turns-keep (def.reduce m n) (def.going (def.factors a b (tab (λ (i : ℕ). i) n))) (λ t r. Fine n (def.left r .perm)) k (fine-start n) (λ j r l f. reduce-fine m n j (omega arith) r f)
+    turns-keep (def.reduce m n) (def.going (def.factors a b (tab (λ (i : ℕ). i) n))) (λ t r. Fine n (def.left r .perm))
+    k (fine-start n) (λ j r l f. reduce-fine m n j (omega arith) r f)
 
-pub onto-run : (m n : ℕ) (a b : List Float) (k c : ℕ) (s : def.Factors) → private.Stopped k (def.reduced m n a b k) c s → k ≤ n → private.Onto n (s .perm)
+pub onto-run : (m n : ℕ) (a b : List Float) (k c : ℕ) (s : def.Factors) → private.Stopped k (def.reduced m n a b k) c s
+    → k ≤ n → private.Onto n (s .perm)
 onto-run m n a b k c s e h = subst (λ (s : def.Factors). private.Onto n (s .perm)) (sym (e .factors)) (reduced-fine m n a b k h .1)
 
 -- so the order's start does not show
-pub order-run : (n : ℕ) (perm : List ℕ) (x z y : List Float) → x ≡ starts.unpermuted z perm y (length perm) → length perm ≡ n → length z ≡ n → private.Onto n perm → x ≡ def.unpermuted (length perm) perm y (length perm)
+pub order-run : (n : ℕ) (perm : List ℕ) (x z y : List Float) → x ≡ starts.unpermuted z perm y (length perm)
+    → length perm ≡ n → length z ≡ n → private.Onto n perm → x ≡ def.unpermuted (length perm) perm y (length perm)
 order-run n perm x z y e lp lz onto =
     let l : length (replicate n 0ᶠ) ≡ n = length-replicate n 0ᶠ in
-    let g : x ≡ starts.unpermuted (replicate n 0ᶠ) perm y n = rw (← lp) (e ∙ rw lp (unpermuted-any perm y z (replicate n 0ᶠ) (lz ∙ sym l) n lz onto)) in
+    let g : x ≡ starts.unpermuted (replicate n 0ᶠ) perm y n =
+    rw (← lp) (e ∙ rw lp (unpermuted-any perm y z (replicate n 0ᶠ) (lz ∙ sym l) n lz onto)) in
     rw lp (zeros-unpermuted n n perm y x (replicate n 0ᶠ) g refl)
 
 -- ---- the solution at full rank, from any x and y
 
-pub full-run : (n : ℕ) (a b : List Float) (perm : List ℕ) (x z y w : List Float) →
-    x ≡ starts.unpermuted z perm y (length perm) → y ≡ starts.substituted w n n a b 0 → length perm ≡ n → length z ≡ n → length w ≡ n → private.Onto n perm → 0 < n →
-    def.solution n a b x ≡ def.solved n (def.factors a b perm) n
+pub full-run : (n : ℕ) (a b : List Float) (perm : List ℕ) (x z y w : List Float)
+    → x ≡ starts.unpermuted z perm y (length perm) → y ≡ starts.substituted w n n a b 0 → length perm ≡ n → length z ≡ n
+    → length w ≡ n → private.Onto n perm → 0 < n → def.solution n a b x ≡ def.solved n (def.factors a b perm) n
 full-run n a b perm x z y w ex ey lp lz lw onto h =
     let l : length (replicate n 0ᶠ) ≡ n = length-replicate n 0ᶠ in
     let fy = zeros-substituted n n a b y (replicate n 0ᶠ) (ey ∙ substituted-any n a b w (replicate n 0ᶠ) lw l) refl in
     let k : n ≤ n = omega arith in
-    solved-run n n a b perm x y y (replicate (n * n) 0ᶠ) a (order-run n perm x z y ex lp lz onto) lp (turned-none n n (replicate (n * n) 0ᶠ) y k) fy (cleared-none n n a (replicate (n * n) 0ᶠ) (n * n) refl refl k) h
+    solved-run n n a b perm x y y (replicate (n * n) 0ᶠ) a (order-run n perm x z y ex lp lz onto) lp
+    (turned-none n n (replicate (n * n) 0ᶠ) y k) fy (cleared-none n n a (replicate (n * n) 0ᶠ) (n * n) refl refl k) h
 
-pub full-at : (n rank : ℕ) (a b x : List Float) (s : def.Factors) → rank ≡ n → def.solution n a b x ≡ def.solved n s n → def.solution rank a b x ≡ def.solved n s rank
+pub full-at : (n rank : ℕ) (a b x : List Float) (s : def.Factors) → rank ≡ n → def.solution n a b x ≡ def.solved n s n
+    → def.solution rank a b x ≡ def.solved n s rank
 full-at n rank a b x s q e = rw q e

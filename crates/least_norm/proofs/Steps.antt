@@ -1,4 +1,5 @@
--- Loops whose turns read the matrix by place: where each starts, its next turn, and its end, in the form in which `search` applies them.
+-- Loops whose turns read the matrix by place: where each starts, its next turn, and its end, in the form in which
+-- `search` applies them.
 use Prim.Native.Nat.{ℕ, suc, _+_, _-_, _*_, _≤_, _<_}
 use mathlib.Core.Path.{_≡_, refl, _∙_}
 use mathlib.Core.List.{List}
@@ -23,7 +24,9 @@ module _ (a : List Float) (n c k : ℕ) (s₀ : List Float) (j : ℕ) where
   pub squares-from : (s : List Float) → s ≡ s₀ → s ≡ squares a n c k s₀ j j
   squares-from s e = e ∙ squares-start
 
-  pub squares-again : (i p : ℕ) (s x : List Float) → x ≡ updated nan (λ (t : ℕ). t) (λ (t : ℕ) (v : Float). v ⊕ at a (p + t) ⊗ at a (p + t)) 0 k s → s ≡ squares a n c k s₀ j i → p ≡ i * n + c → j ≤ i → x ≡ squares a n c k s₀ j (i + 1)
+  pub squares-again : (i p : ℕ) (s x : List Float)
+      → x ≡ updated nan (λ (t : ℕ). t) (λ (t : ℕ) (v : Float). v ⊕ at a (p + t) ⊗ at a (p + t)) 0 k s
+      → s ≡ squares a n c k s₀ j i → p ≡ i * n + c → j ≤ i → x ≡ squares a n c k s₀ j (i + 1)
   unfolding squares
   squares-again i p s x g e q h = between-again _ _ j i s x h e (rw (← q) g)
 
@@ -36,7 +39,9 @@ module _ (a : List Float) (n c k : ℕ) (s₀ : List Float) (j : ℕ) where
     unfolding products
     products-start = between-from _ _ _
 
-    pub products-again : (i p : ℕ) (s x : List Float) → x ≡ updated nan (λ (t : ℕ). t) (λ (t : ℕ) (y : Float). y ⊕ at v i ⊗ at a (p + t)) 0 k s → s ≡ products a n c k v s₀ j i → p ≡ i * n + c → j ≤ i → x ≡ products a n c k v s₀ j (i + 1)
+    pub products-again : (i p : ℕ) (s x : List Float)
+        → x ≡ updated nan (λ (t : ℕ). t) (λ (t : ℕ) (y : Float). y ⊕ at v i ⊗ at a (p + t)) 0 k s
+        → s ≡ products a n c k v s₀ j i → p ≡ i * n + c → j ≤ i → x ≡ products a n c k v s₀ j (i + 1)
     unfolding products
     products-again i p s x g e q h = between-again _ _ j i s x h e (rw (← q) g)
 
@@ -49,7 +54,9 @@ module _ (n c k : ℕ) (v f a₀ : List Float) (j : ℕ) where
   unfolding lessRows
   lessRows-start = between-from _ _ _
 
-  pub lessRows-again : (i p : ℕ) (s x : List Float) → x ≡ less (λ (t : ℕ). p + t) (at v i) (λ (t : ℕ). at f (0 + t)) 0 k s → s ≡ lessRows n c k v f a₀ j i → p ≡ i * n + c → j ≤ i → x ≡ lessRows n c k v f a₀ j (i + 1)
+  pub lessRows-again : (i p : ℕ) (s x : List Float)
+      → x ≡ less (λ (t : ℕ). p + t) (at v i) (λ (t : ℕ). at f (0 + t)) 0 k s → s ≡ lessRows n c k v f a₀ j i
+      → p ≡ i * n + c → j ≤ i → x ≡ lessRows n c k v f a₀ j (i + 1)
   unfolding lessRows
   lessRows-again i p s x g e q h = between-again _ _ j i s x h e (rw (← q) g)
 
@@ -62,7 +69,8 @@ module _ (n j : ℕ) (a : List Float) where
   unfolding def.zeroBelow
   zeroBelow-start = rw add-one (updated-start nan _ _ (suc j) a)
 
-  pub zeroBelow-again : (i : ℕ) (s x : List Float) → x ≡ set s (i * n + j) 0ᶠ → s ≡ def.zeroBelow n j a i → suc j ≤ i → x ≡ def.zeroBelow n j a (i + 1)
+  pub zeroBelow-again : (i : ℕ) (s x : List Float) → x ≡ set s (i * n + j) 0ᶠ → s ≡ def.zeroBelow n j a i → suc j ≤ i
+      → x ≡ def.zeroBelow n j a (i + 1)
   unfolding def.zeroBelow
   zeroBelow-again i s x g e h = g ∙ updated-again nan _ _ (suc j) a i (i * n + j) s 0ᶠ h e refl refl
 
@@ -79,7 +87,9 @@ module _ (y₀ : List Float) (n rank : ℕ) (a b : List Float) where
   unfolding starts.substituted
   substituted-from = downward-from _ _ rank
 
-  pub substituted-again : (i : ℕ) (y : List Float) (u v : Float) → 0 < i → i ≤ rank → y ≡ starts.substituted y₀ n rank a b i → u ≡ def.known n rank a b y (i - 1) → v ≡ at a ((i - 1) * n + (i - 1)) → set y (i - 1) (u ⊘ v) ≡ starts.substituted y₀ n rank a b (i - 1)
+  pub substituted-again : (i : ℕ) (y : List Float) (u v : Float) → 0 < i → i ≤ rank
+      → y ≡ starts.substituted y₀ n rank a b i → u ≡ def.known n rank a b y (i - 1) → v ≡ at a ((i - 1) * n + (i - 1))
+      → set y (i - 1) (u ⊘ v) ≡ starts.substituted y₀ n rank a b (i - 1)
   unfolding starts.substituted
   substituted-again i y u v h g e f p = downward-again _ _ rank i y (set y (i - 1) (u ⊘ v)) h g e (rw (f, p))
 
@@ -92,7 +102,8 @@ module _ (x₀ : List Float) (perm : List ℕ) (y : List Float) where
   unfolding starts.unpermuted
   unpermuted-from = turns-from _ _
 
-  pub unpermuted-again : (j p : ℕ) (x z : List Float) → z ≡ set x p (at y j) → p ≡ getD perm j 0 → x ≡ starts.unpermuted x₀ perm y j → z ≡ starts.unpermuted x₀ perm y (j + 1)
+  pub unpermuted-again : (j p : ℕ) (x z : List Float) → z ≡ set x p (at y j) → p ≡ getD perm j 0
+      → x ≡ starts.unpermuted x₀ perm y j → z ≡ starts.unpermuted x₀ perm y (j + 1)
   unfolding starts.unpermuted
   unpermuted-again j p x z g q e = turns-again _ _ j x z e (rw (← q) g)
 

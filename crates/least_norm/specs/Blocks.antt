@@ -1,5 +1,6 @@
--- The same operations in another order: k adjacent columns, from column c on, together and row by row. Each scalar keeps its operations and their order
--- (proofs/Blocks.antt). Words of private contracts: no promise of a public call stands on them. Definitions only.
+-- The same operations in another order: k adjacent columns, from column c on, together and row by row. Each scalar
+-- keeps its operations and their order (proofs/Blocks.antt). Words of private contracts: no promise of a public call
+-- stands on them. Definitions only.
 use Prim.Native.Nat.{ℕ, _+_, _*_}
 use mathlib.Core.List.{List, [], _∷_}
 use lib.Ieee.{Float, nan}

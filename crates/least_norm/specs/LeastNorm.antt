@@ -1,4 +1,5 @@
--- The least-norm solution of A x = b (dense.rs), by its steps. Definitions only. a is m rows of n entries, row by row: row i and column c stand at i * n + c.
+-- The least-norm solution of A x = b (dense.rs), by its steps. Definitions only. a is m rows of n entries, row by row:
+-- row i and column c stand at i * n + c.
 use Prim.Native.Nat.{ℕ, zero, suc, _+_, _*_, min}
 use mathlib.Core.Bool.{Bool, true, false, cond}
 use mathlib.Core.List.{List}
@@ -106,7 +107,8 @@ counted n a i r = cond (eqb r i) (cond (leads n a i) (suc r) r) r
 unfoldable pub leading : ℕ → List Float → ℕ → ℕ
 leading n a i = turns i 0 (counted n a)
 
--- ---- [R₁₁ R₁₂] Z = [T 0], from the last row of the trapezoid up. Row i of `right` is reflector i: u0 in column i, and what is cleared past the rank.
+-- ---- [R₁₁ R₁₂] Z = [T 0], from the last row of the trapezoid up. Row i of `right` is reflector i: u0 in column i, and
+-- what is cleared past the rank.
 
 pub record Trapezoid : Type 0 where
   pub a : List Float

@@ -1,5 +1,5 @@
--- Words of private contracts: lengths, places and steps between which the code passes. No promise of a public call stands on them; those are in Promise.antt.
--- Definitions only.
+-- Words of private contracts: lengths, places and steps between which the code passes. No promise of a public call
+-- stands on them; those are in Promise.antt. Definitions only.
 use Prim.Native.Nat.{ℕ, suc, _+_, _*_, _≤_, _<_}
 use mathlib.Core.Path.{_≡_}
 use mathlib.Core.Bool.{Bool, true, false}

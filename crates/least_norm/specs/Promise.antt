@@ -1,4 +1,5 @@
--- What LeastNorm::solve promises: document 01's answers and number. Words of private contracts are in Private.antt. Definitions only.
+-- What LeastNorm::solve promises: document 01's answers and number. Words of private contracts are in Private.antt.
+-- Definitions only.
 use Prim.Native.Nat.{ℕ, _*_, _≤_}
 use mathlib.Core.Path.{_≡_}
 use mathlib.Core.Bool.{Bool, true, false, cond, _&&_}

@@ -17,8 +17,8 @@ beta alpha sigma = let norm = sqrt (alpha ⊗ alpha ⊕ sigma) in cond (le 0ᶠ 
 unfoldable pub less : (ℕ → ℕ) → Float → (ℕ → Float) → ℕ → ℕ → List Float → List Float
 less π f v lo hi z = updated nan π (λ t x. x ⊖ f ⊗ v t) lo hi z
 
--- H applied to z. v has v0 at z's place `first` and v t at place π t, for t from lo up to hi; vtv is its square. (Where the Rust writes a product the other way
--- round, it is the same.)
+-- H applied to z. v has v0 at z's place `first` and v t at place π t, for t from lo up to hi; vtv is its square. (Where
+-- the Rust writes a product the other way round, it is the same.)
 unfoldable pub factor : ℕ → (ℕ → ℕ) → Float → (ℕ → Float) → Float → ℕ → ℕ → List Float → Float
 factor first π v0 v vtv lo hi z = 2ᶠ ⊗ sum (v0 ⊗ at z first) (λ t. v t ⊗ at z (π t)) lo hi ⊘ vtv
 

@@ -1,5 +1,6 @@
--- Back substitution and the columns' order from any start. Where every place is written, the start does not show (proofs/Starts.antt), and need not be zeros.
--- Words of private contracts: no promise of a public call stands on them. Definitions only.
+-- Back substitution and the columns' order from any start. Where every place is written, the start does not show
+-- (proofs/Starts.antt), and need not be zeros. Words of private contracts: no promise of a public call stands on them.
+-- Definitions only.
 use Prim.Native.Nat.{ℕ, _+_, _*_}
 use mathlib.Core.List.{List}
 use lib.ListN.{getD, set}

@@ -1,5 +1,5 @@
-// A column's reflector, applied to the columns after it and to b. The reflector is copied to v, entry by row, and four adjacent columns are
-// reflected together, row by row: each scalar keeps its operations and their order.
+// A column's reflector, applied to the columns after it and to b. The reflector is copied to v, entry by row, and four
+// adjacent columns are reflected together, row by row: each scalar keeps its operations and their order.
 ghost use mathlib.Core.Path.{_≡_};
 ghost use mathlib.Core.List.{List};
 ghost use Prim.Native.Nat.{ℕ, suc, _+_, _*_, _≤_, _<_};
@@ -22,7 +22,9 @@ use crate::vector;
 // Column j from row j down, copied to v.
 fn copy_column(a: &[f64], m: usize, n: usize, j: usize, v: &mut [f64])
     requires { ⌜ Matrix (now a) m n × (j < n) × (j ≤ m) × (m ≤ length (now v)) ⌝ }
-    ensures { λ r. ⌜ now (v .exit) ≡ updated nan (λ (row : ℕ). row) (λ (row : ℕ) (x : Float). at (now (a .entry)) (row * n + j)) j m (now (v .entry)) ⌝ }
+    ensures { λ r. ⌜ now (v .exit)
+        ≡ updated nan (λ (row : ℕ). row) (λ (row : ℕ) (x : Float). at (now (a .entry)) (row * n + j)) j m
+        (now (v .entry)) ⌝ }
 {
     let mut row = j;
     while row < m {
@@ -52,7 +54,8 @@ fn householder(a: &[f64], m: usize, n: usize, j: usize, v: &mut [f64], near: f64
 // Adds to s the products of v with four columns from column c on, from row `from` down.
 fn add_products(a: &[f64], m: usize, n: usize, from: usize, c: usize, v: &[f64], s: Four) -> Four
     requires { ⌜ Matrix (now a) m n × (from ≤ m) × (c + 4 ≤ n) × (m ≤ length (now v)) ⌝ }
-    ensures { λ r. ⌜ blocks.lanes r ≡ blocks.products (now (a .entry)) n c 4 (now (v .entry)) (blocks.lanes s) from m ⌝ }
+    ensures { λ r. ⌜ blocks.lanes r
+        ≡ blocks.products (now (a .entry)) n c 4 (now (v .entry)) (blocks.lanes s) from m ⌝ }
 {
     let mut r = s;
     let mut row = from;
@@ -67,7 +70,10 @@ fn add_products(a: &[f64], m: usize, n: usize, from: usize, c: usize, v: &[f64],
 // The factors of four columns from column c on: 2 * (v · column) / vtv.
 fn column_factors(a: &[f64], m: usize, n: usize, j: usize, c: usize, v: &[f64], vtv: f64) -> Four
     requires { ⌜ Matrix (now a) m n × (j < m) × (c + 4 ≤ n) × (m ≤ length (now v)) ⌝ }
-    ensures { λ r. ⌜ ((t : ℕ) → t < 4 → at (blocks.lanes r) t ≡ factor (j * n + (c + t)) (λ (row : ℕ). row * n + (c + t)) (at (now (v .entry)) j) (λ (row : ℕ). at (now (v .entry)) row) vtv (suc j) m (now (a .entry))) ⌝ }
+    ensures { λ r. ⌜ ((t : ℕ) → t < 4
+        → at (blocks.lanes r) t
+        ≡ factor (j * n + (c + t)) (λ (row : ℕ). row * n + (c + t)) (at (now (v .entry)) j)
+        (λ (row : ℕ). at (now (v .entry)) row) vtv (suc j) m (now (a .entry))) ⌝ }
 {
     let p = place::place(m, n, j, c);
     let first = lanes::scaled(v[j], a, p);
@@ -91,7 +97,9 @@ fn less_rows(a: &mut [f64], m: usize, n: usize, j: usize, c: usize, v: &[f64], f
 // H applied to four columns from column c on.
 fn reflect_four(a: &mut [f64], m: usize, n: usize, j: usize, c: usize, v: &[f64], vtv: f64)
     requires { ⌜ Matrix (now a) m n × (j < m) × (c + 4 ≤ n) × (m ≤ length (now v)) ⌝ }
-    ensures { λ r. ⌜ now (a .exit) ≡ between c (c + 4) (now (a .entry)) (def.reflectColumn m n j (at (now (v .entry)) j) (λ (row : ℕ). at (now (v .entry)) row) vtv) ⌝ }
+    ensures { λ r. ⌜ now (a .exit)
+        ≡ between c (c + 4) (now (a .entry))
+        (def.reflectColumn m n j (at (now (v .entry)) j) (λ (row : ℕ). at (now (v .entry)) row) vtv) ⌝ }
 {
     let f = column_factors(a, m, n, j, c, v, vtv);
     less_rows(a, m, n, j, c, v, f);
@@ -108,7 +116,10 @@ fn reflect_fours(
     vtv: f64,
 ) -> usize
     requires { ⌜ Matrix (now a) m n × (j < m) × (c ≤ n) × (m ≤ length (now v)) ⌝ }
-    ensures { λ r. ⌜ (now (a .exit) ≡ between c r (now (a .entry)) (def.reflectColumn m n j (at (now (v .entry)) j) (λ (row : ℕ). at (now (v .entry)) row) vtv)) × (c ≤ r) × (r ≤ n) ⌝ }
+    ensures { λ r. ⌜ (now (a .exit)
+        ≡ between c r (now (a .entry))
+        (def.reflectColumn m n j (at (now (v .entry)) j) (λ (row : ℕ). at (now (v .entry)) row) vtv))
+        × (c ≤ r) × (r ≤ n) ⌝ }
 {
     let mut next = c;
     while next + 4 <= n {
@@ -121,7 +132,9 @@ fn reflect_fours(
 // H applied to column c.
 fn reflect_column(a: &mut [f64], m: usize, n: usize, j: usize, c: usize, v: &[f64], vtv: f64)
     requires { ⌜ Matrix (now a) m n × (j < m) × (c < n) × (m ≤ length (now v)) ⌝ }
-    ensures { λ r. ⌜ now (a .exit) ≡ def.reflectColumn m n j (at (now (v .entry)) j) (λ (row : ℕ). at (now (v .entry)) row) vtv c (now (a .entry)) ⌝ }
+    ensures { λ r. ⌜ now (a .exit)
+        ≡ def.reflectColumn m n j (at (now (v .entry)) j) (λ (row : ℕ). at (now (v .entry)) row) vtv c
+        (now (a .entry)) ⌝ }
 {
     let first = place::place(m, n, j, c);
     reflect::reflect(a, first, c, n, v[j], v, 0, vtv, j + 1, m);
@@ -130,7 +143,9 @@ fn reflect_column(a: &mut [f64], m: usize, n: usize, j: usize, c: usize, v: &[f6
 // The same for all columns from column c on, one by one.
 fn reflect_each(a: &mut [f64], m: usize, n: usize, j: usize, c: usize, v: &[f64], vtv: f64)
     requires { ⌜ Matrix (now a) m n × (j < m) × (c ≤ n) × (m ≤ length (now v)) ⌝ }
-    ensures { λ r. ⌜ now (a .exit) ≡ between c n (now (a .entry)) (def.reflectColumn m n j (at (now (v .entry)) j) (λ (row : ℕ). at (now (v .entry)) row) vtv) ⌝ }
+    ensures { λ r. ⌜ now (a .exit)
+        ≡ between c n (now (a .entry))
+        (def.reflectColumn m n j (at (now (v .entry)) j) (λ (row : ℕ). at (now (v .entry)) row) vtv) ⌝ }
 {
     let mut next = c;
     while next < n {
@@ -142,7 +157,9 @@ fn reflect_each(a: &mut [f64], m: usize, n: usize, j: usize, c: usize, v: &[f64]
 // The same for all columns after column j.
 fn reflect_columns(a: &mut [f64], m: usize, n: usize, j: usize, v: &[f64], vtv: f64)
     requires { ⌜ Matrix (now a) m n × (j < m) × (j < n) × (m ≤ length (now v)) ⌝ }
-    ensures { λ r. ⌜ now (a .exit) ≡ between (suc j) n (now (a .entry)) (def.reflectColumn m n j (at (now (v .entry)) j) (λ (row : ℕ). at (now (v .entry)) row) vtv) ⌝ }
+    ensures { λ r. ⌜ now (a .exit)
+        ≡ between (suc j) n (now (a .entry))
+        (def.reflectColumn m n j (at (now (v .entry)) j) (λ (row : ℕ). at (now (v .entry)) row) vtv) ⌝ }
 {
     let c = reflect_fours(a, m, n, j, j + 1, v, vtv);
     reflect_each(a, m, n, j, c, v, vtv);
@@ -170,7 +187,9 @@ pub fn eliminate(
     near: f64,
 )
     requires { ⌜ Matrix (now a) m n × (j < m) × (j < n) × (length (now b) ≡ m) × (m ≤ length (now v)) ⌝ }
-    ensures { λ r. ⌜ ((p : List ℕ) → def.factors (now (a .exit)) (now (b .exit)) p ≡ def.eliminated m n j (def.factors (now (a .entry)) (now (b .entry)) p)) ⌝ }
+    ensures { λ r. ⌜ ((p : List ℕ)
+        → def.factors (now (a .exit)) (now (b .exit)) p
+        ≡ def.eliminated m n j (def.factors (now (a .entry)) (now (b .entry)) p)) ⌝ }
 {
     let h = householder(a, m, n, j, v, near);
     reflect_columns(a, m, n, j, v, h.vtv);

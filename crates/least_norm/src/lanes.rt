@@ -1,4 +1,5 @@
-// Four adjacent entries together, which the compiler keeps in registers. Each is computed as by itself; `lanes` of specs/ lists the four.
+// Four adjacent entries together, which the compiler keeps in registers. Each is computed as by itself; `lanes` of
+// specs/ lists the four.
 ghost use mathlib.Core.Path.{_≡_};
 ghost use Prim.Native.Nat.{ℕ, _+_, _≤_};
 ghost use lib.ListN.{length};
@@ -24,7 +25,8 @@ pub fn none() -> Four
 // f * x[p], f * x[p + 1], ..
 pub fn scaled(f: f64, x: &[f64], p: usize) -> Four
     requires { ⌜ p + 4 ≤ length (now x) ⌝ }
-    ensures { λ r. ⌜ lanes r ≡ updated nan (λ (t : ℕ). t) (λ (t : ℕ) (v : Float). f ⊗ at (now (x .entry)) (p + t)) 0 4 zeros ⌝ }
+    ensures { λ r. ⌜ lanes r
+        ≡ updated nan (λ (t : ℕ). t) (λ (t : ℕ) (v : Float). f ⊗ at (now (x .entry)) (p + t)) 0 4 zeros ⌝ }
 {
     Four {
         a: f * x[p],
@@ -37,7 +39,8 @@ pub fn scaled(f: f64, x: &[f64], p: usize) -> Four
 // s.a + f * x[p], s.b + f * x[p + 1], ..
 pub fn add_scaled(s: Four, f: f64, x: &[f64], p: usize) -> Four
     requires { ⌜ p + 4 ≤ length (now x) ⌝ }
-    ensures { λ r. ⌜ lanes r ≡ updated nan (λ (t : ℕ). t) (λ (t : ℕ) (v : Float). v ⊕ f ⊗ at (now (x .entry)) (p + t)) 0 4 (lanes s) ⌝ }
+    ensures { λ r. ⌜ lanes r
+        ≡ updated nan (λ (t : ℕ). t) (λ (t : ℕ) (v : Float). v ⊕ f ⊗ at (now (x .entry)) (p + t)) 0 4 (lanes s) ⌝ }
 {
     Four {
         a: s.a + f * x[p],
@@ -50,7 +53,9 @@ pub fn add_scaled(s: Four, f: f64, x: &[f64], p: usize) -> Four
 // s.a + x[p] * x[p], ..
 pub fn add_squares(s: Four, x: &[f64], p: usize) -> Four
     requires { ⌜ p + 4 ≤ length (now x) ⌝ }
-    ensures { λ r. ⌜ lanes r ≡ updated nan (λ (t : ℕ). t) (λ (t : ℕ) (v : Float). v ⊕ at (now (x .entry)) (p + t) ⊗ at (now (x .entry)) (p + t)) 0 4 (lanes s) ⌝ }
+    ensures { λ r. ⌜ lanes r
+        ≡ updated nan (λ (t : ℕ). t)
+        (λ (t : ℕ) (v : Float). v ⊕ at (now (x .entry)) (p + t) ⊗ at (now (x .entry)) (p + t)) 0 4 (lanes s) ⌝ }
 {
     Four {
         a: s.a + x[p] * x[p],
@@ -75,7 +80,8 @@ pub fn factors(s: Four, d: f64) -> Four
 // x[p] -= y * f.a, x[p + 1] -= y * f.b, ..
 pub fn less_lanes(x: &mut [f64], p: usize, y: f64, f: Four)
     requires { ⌜ p + 4 ≤ length (now x) ⌝ }
-    ensures { λ r. ⌜ now (x .exit) ≡ less (λ (t : ℕ). p + t) y (λ (t : ℕ). at (lanes f) (0 + t)) 0 4 (now (x .entry)) ⌝ }
+    ensures { λ r. ⌜ now (x .exit)
+        ≡ less (λ (t : ℕ). p + t) y (λ (t : ℕ). at (lanes f) (0 + t)) 0 4 (now (x .entry)) ⌝ }
 {
     vector::less_at(x, p, y * f.a);
     vector::less_at(x, p + 1, y * f.b);

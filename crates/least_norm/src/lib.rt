@@ -1,5 +1,5 @@
-// The least-norm solution of a linear system of at most 32 rows and 32 columns by a complete orthogonal decomposition (dense.rs), held to
-// the definitions of specs/.
+// The least-norm solution of a linear system of at most 32 rows and 32 columns by a complete orthogonal decomposition
+// (dense.rs), held to the definitions of specs/.
 ghost use mathlib.Core.Path.{_≡_};
 ghost use Prim.Native.Nat.{ℕ, _+_, _*_, _≤_, _<_, min};
 ghost use lib.ListN.{length, drop, replicate};
@@ -71,8 +71,9 @@ fn count_up(perm: &mut [u8])
     }
 }
 
-// Column j's work. Whether it goes on: it does not where every column from j on is zero. The squared norm that chose the pivot is nearly the
-// one whose root the reflector takes, and known sooner: its rough root is found while the columns are swapped.
+// Column j's work. Whether it goes on: it does not where every column from j on is zero. The squared norm that chose
+// the pivot is nearly the one whose root the reflector takes, and known sooner: its rough root is found while the
+// columns are swapped.
 fn reduce(
     a: &mut [f64],
     m: usize,
@@ -83,7 +84,8 @@ fn reduce(
     v: &mut [f64],
 ) -> bool
     requires { ⌜ private.Reducing (now a) m n (now b) (now perm) (now v) × (j < m) × (j < n) ⌝ }
-    ensures { λ r. ⌜ private.standing r j (def.factors (now (a .exit)) (now (b .exit)) (now (perm .exit))) ≡ def.reduce m n j (def.going (def.factors (now (a .entry)) (now (b .entry)) (now (perm .entry)))) ⌝ }
+    ensures { λ r. ⌜ private.standing r j (def.factors (now (a .exit)) (now (b .exit)) (now (perm .exit)))
+        ≡ def.reduce m n j (def.going (def.factors (now (a .entry)) (now (b .entry)) (now (perm .entry)))) ⌝ }
 {
     let p = pivoting::find_pivot(a, m, n, j);
     let near = floats::sqrt_rough(p.norm);
@@ -105,8 +107,10 @@ fn reduce_columns(
     perm: &mut [u8],
     v: &mut [f64],
 ) -> usize
-    requires { ⌜ private.Reducing (now a) m n (now b) (now perm) (now v) × (k ≤ m) × (k ≤ n) × (now perm ≡ tab (λ (i : ℕ). i) n) ⌝ }
-    ensures { λ r. ⌜ private.Stopped k (def.reduced m n (now (a .entry)) (now (b .entry)) k) r (def.factors (now (a .exit)) (now (b .exit)) (now (perm .exit))) ⌝ }
+    requires { ⌜ private.Reducing (now a) m n (now b) (now perm) (now v) × (k ≤ m) × (k ≤ n)
+        × (now perm ≡ tab (λ (i : ℕ). i) n) ⌝ }
+    ensures { λ r. ⌜ private.Stopped k (def.reduced m n (now (a .entry)) (now (b .entry)) k) r
+        (def.factors (now (a .exit)) (now (b .exit)) (now (perm .exit))) ⌝ }
 {
     let mut j = 0;
     while j < k {
@@ -130,8 +134,11 @@ fn solve_ranked(
     y: &mut [f64],
     rank: usize,
 )
-    requires { ⌜ private.Trapezoidal (now a) m n rank (now right) × (0 < rank) × (length (now b) ≡ m) × (length (now perm) ≡ n) × (length (now y) ≡ n) × (now y ≡ replicate n 0ᶠ) × (length (now x) ≡ n) × private.Onto n (now perm) ⌝ }
-    ensures { λ r. ⌜ def.solution rank (now (a .exit)) (now (b .entry)) (now (x .exit)) ≡ def.solved n (def.factors (now (a .entry)) (now (b .entry)) (now (perm .entry))) rank ⌝ }
+    requires { ⌜ private.Trapezoidal (now a) m n rank (now right) × (0 < rank) × (length (now b) ≡ m)
+        × (length (now perm) ≡ n) × (length (now y) ≡ n) × (now y ≡ replicate n 0ᶠ) × (length (now x) ≡ n)
+        × private.Onto n (now perm) ⌝ }
+    ensures { λ r. ⌜ def.solution rank (now (a .exit)) (now (b .entry)) (now (x .exit))
+        ≡ def.solved n (def.factors (now (a .entry)) (now (b .entry)) (now (perm .entry))) rank ⌝ }
 {
     trapezoid::clear(a, m, n, rank, right);
     solution::substitute(a, m, n, rank, b, y);
@@ -139,10 +146,13 @@ fn solve_ranked(
     solution::unpermute(perm, y, x);
 }
 
-// The solution at full rank. Every entry of y and of x is written, so neither need be cleared, and there is no reflector from the right.
+// The solution at full rank. Every entry of y and of x is written, so neither need be cleared, and there is no
+// reflector from the right.
 fn solve_full(a: &[f64], m: usize, n: usize, b: &[f64], x: &mut [f64], perm: &[u8], y: &mut [f64])
-    requires { ⌜ private.Matrix (now a) m n × (0 < n) × (n ≤ m) × (length (now b) ≡ m) × (length (now x) ≡ n) × (length (now perm) ≡ n) × (length (now y) ≡ n) × private.Onto n (now perm) ⌝ }
-    ensures { λ r. ⌜ def.solution n (now (a .entry)) (now (b .entry)) (now (x .exit)) ≡ def.solved n (def.factors (now (a .entry)) (now (b .entry)) (now (perm .entry))) n ⌝ }
+    requires { ⌜ private.Matrix (now a) m n × (0 < n) × (n ≤ m) × (length (now b) ≡ m) × (length (now x) ≡ n)
+        × (length (now perm) ≡ n) × (length (now y) ≡ n) × private.Onto n (now perm) ⌝ }
+    ensures { λ r. ⌜ def.solution n (now (a .entry)) (now (b .entry)) (now (x .exit))
+        ≡ def.solved n (def.factors (now (a .entry)) (now (b .entry)) (now (perm .entry))) n ⌝ }
 {
     solution::substitute(a, m, n, n, b, y);
     solution::unpermute(perm, y, x);
@@ -160,8 +170,11 @@ fn solve_at(
     y: &mut [f64],
     rank: usize,
 )
-    requires { ⌜ private.Matrix (now a) m n × (rank ≤ m) × (rank ≤ n) × (length (now b) ≡ m) × (length (now perm) ≡ n) × (1056 ≤ length (now workspace)) × (length (now y) ≡ n) × (length (now x) ≡ n) × private.Onto n (now perm) ⌝ }
-    ensures { λ r. ⌜ (def.solution rank (now (a .exit)) (now (b .entry)) (now (x .exit)) ≡ def.solved n (def.factors (now (a .entry)) (now (b .entry)) (now (perm .entry))) rank) × (drop 1056 (now (workspace .exit)) ≡ drop 1056 (now (workspace .entry))) ⌝ }
+    requires { ⌜ private.Matrix (now a) m n × (rank ≤ m) × (rank ≤ n) × (length (now b) ≡ m) × (length (now perm) ≡ n)
+        × (1056 ≤ length (now workspace)) × (length (now y) ≡ n) × (length (now x) ≡ n) × private.Onto n (now perm) ⌝ }
+    ensures { λ r. ⌜ (def.solution rank (now (a .exit)) (now (b .entry)) (now (x .exit))
+        ≡ def.solved n (def.factors (now (a .entry)) (now (b .entry)) (now (perm .entry))) rank)
+        × (drop 1056 (now (workspace .exit)) ≡ drop 1056 (now (workspace .entry))) ⌝ }
 {
     if rank == 0 {
         vector::zero(x);
@@ -187,8 +200,11 @@ fn least_norm(
     perm: &mut [u8],
     v: &mut [f64],
 ) -> usize
-    requires { ⌜ private.Reducing (now a) m n (now b) (now perm) (now v) × (length (now x) ≡ n) × (n ≤ length (now v)) × (1056 ≤ length (now workspace)) ⌝ }
-    ensures { λ r. ⌜ (def.solution r (now (a .exit)) (now (b .exit)) (now (x .exit)) ≡ def.leastNorm m n (now (a .entry)) (now (b .entry))) × (drop 1056 (now (workspace .exit)) ≡ drop 1056 (now (workspace .entry))) × (r ≤ 32) ⌝ }
+    requires { ⌜ private.Reducing (now a) m n (now b) (now perm) (now v) × (length (now x) ≡ n) × (n ≤ length (now v))
+        × (1056 ≤ length (now workspace)) ⌝ }
+    ensures { λ r. ⌜ (def.solution r (now (a .exit)) (now (b .exit)) (now (x .exit))
+        ≡ def.leastNorm m n (now (a .entry)) (now (b .entry)))
+        × (drop 1056 (now (workspace .exit)) ≡ drop 1056 (now (workspace .entry))) × (r ≤ 32) ⌝ }
 {
     count_up(perm);
     let k = fewer(m, n);
@@ -201,8 +217,9 @@ fn least_norm(
 pub struct LeastNorm {}
 
 impl LeastNorm {
-    // Writes into x the x of least norm among those that minimize ‖A x − b‖, and returns the rank of A. a holds A, m rows of n entries each,
-    // row by row. a and b are overwritten. The first 1,056 values of the workspace are free afterwards.
+    // Writes into x the x of least norm among those that minimize ‖A x − b‖, and returns the rank of A. a holds A, m
+    // rows of n entries each, row by row. a and b are overwritten. The first 1,056 values of the workspace are free
+    // afterwards.
     pub fn solve(
         a: &mut [f64],
         m: usize,
@@ -211,7 +228,10 @@ impl LeastNorm {
         x: &mut [f64],
         workspace: &mut [f64],
     ) -> Outcome
-        ensures { λ r. ⌜ promise.Replied (promise.reply m n (now (a .entry)) (now (b .entry)) (now (x .entry)) (length (now (workspace .entry)))) r (now (a .entry)) (now (a .exit)) (now (b .entry)) (now (b .exit)) (now (x .entry)) (now (x .exit)) (now (workspace .entry)) (now (workspace .exit)) ⌝ }
+        ensures { λ r. ⌜ promise.Replied
+            (promise.reply m n (now (a .entry)) (now (b .entry)) (now (x .entry)) (length (now (workspace .entry)))) r
+            (now (a .entry)) (now (a .exit)) (now (b .entry)) (now (b .exit)) (now (x .entry)) (now (x .exit))
+            (now (workspace .entry)) (now (workspace .exit)) ⌝ }
     {
         if m > 32 {
             return Outcome::Refused;

@@ -1,5 +1,5 @@
-// The column of greatest remaining norm, brought to its place. Norms of four adjacent columns are summed together, row by row: each norm is
-// the same sum as by itself.
+// The column of greatest remaining norm, brought to its place. Norms of four adjacent columns are summed together, row
+// by row: each norm is the same sum as by itself.
 ghost use mathlib.Core.Path.{_≡_};
 ghost use mathlib.Core.List.{List};
 ghost use Prim.Native.Nat.{ℕ, _+_, _*_, _≤_, _<_};
@@ -55,7 +55,8 @@ fn picked(c: usize, norm: f64, best: Pivot) -> Pivot
 // The same for four columns from column c on, whose norms s has.
 fn pick_lanes(c: usize, s: Four, best: Pivot) -> Pivot
     requires { ⌜ (c + 4 ≤ 32) × (best .col < c) ⌝ }
-    ensures { λ r. ⌜ (r ≡ between 0 4 best (λ (t : ℕ) (p : Pivot). def.picked (c + t) (at (lanes s) t) p)) × (r .col < c + 4) ⌝ }
+    ensures { λ r. ⌜ (r ≡ between 0 4 best (λ (t : ℕ) (p : Pivot). def.picked (c + t) (at (lanes s) t) p))
+        × (r .col < c + 4) ⌝ }
 {
     let p = picked(c, s.a, best);
     let q = picked(c + 1, s.b, p);
@@ -139,7 +140,9 @@ fn swap_entries(perm: &mut [u8], j: usize, c: usize)
 // Brings column c to place j.
 pub fn bring(a: &mut [f64], m: usize, n: usize, j: usize, c: usize, perm: &mut [u8])
     requires { ⌜ Matrix (now a) m n × (j < n) × (c < n) × (length (now perm) ≡ n) ⌝ }
-    ensures { λ r. ⌜ ((b : List Float) → def.factors (now (a .exit)) b (now (perm .exit)) ≡ def.brought m n j c (def.factors (now (a .entry)) b (now (perm .entry)))) ⌝ }
+    ensures { λ r. ⌜ ((b : List Float)
+        → def.factors (now (a .exit)) b (now (perm .exit))
+        ≡ def.brought m n j c (def.factors (now (a .entry)) b (now (perm .entry)))) ⌝ }
 {
     if c == j {
         return;

@@ -8,8 +8,8 @@ ghost use Rattle.least_norm.specs.Reflector as def;
 ghost use Rattle.least_norm.specs.Private.{Part, Strided};
 use crate::vector;
 
-// The root of alpha² + sigma, which may be guessed to be near. Where sigma is 0, as in a square system's last step, it is alpha's magnitude,
-// unless the square leaves the range in which that is so.
+// The root of alpha² + sigma, which may be guessed to be near. Where sigma is 0, as in a square system's last step, it
+// is alpha's magnitude, unless the square leaves the range in which that is so.
 fn norm(alpha: f64, sigma: f64, near: f64) -> f64
     ensures { λ r. ⌜ r ≡ sqrt (alpha ⊗ alpha ⊕ sigma) ⌝ }
 {
@@ -33,7 +33,8 @@ pub fn beta(alpha: f64, sigma: f64, near: f64) -> f64
     if alpha >= 0.0 { -root } else { root }
 }
 
-// H applied to z: v is u0 at place `first` and u[q + t] at place p + t * k, for t from lo up to hi, and utu is its square.
+// H applied to z: v is u0 at place `first` and u[q + t] at place p + t * k, for t from lo up to hi, and utu is its
+// square.
 pub fn reflect(
     z: &mut [f64],
     first: usize,
@@ -47,7 +48,9 @@ pub fn reflect(
     hi: usize,
 )
     requires { ⌜ (first < length (now z)) × Strided (now z) p k lo hi × Part (now u) q lo hi ⌝ }
-    ensures { λ r. ⌜ now (z .exit) ≡ def.reflect first (λ (t : ℕ). p + t * k) u0 (λ (t : ℕ). at (now (u .entry)) (q + t)) utu lo hi (now (z .entry)) ⌝ }
+    ensures { λ r. ⌜ now (z .exit)
+        ≡ def.reflect first (λ (t : ℕ). p + t * k) u0 (λ (t : ℕ). at (now (u .entry)) (q + t)) utu lo hi
+        (now (z .entry)) ⌝ }
 {
     let f = 2.0 * vector::dot(u0 * z[first], u, q, 1, z, p, k, lo, hi) / utu;
     vector::less_at(z, first, f * u0);

@@ -12,7 +12,8 @@ use crate::vector;
 
 // What row i leaves of b once the entries of y after i are known.
 fn known(a: &[f64], m: usize, n: usize, rank: usize, b: &[f64], y: &[f64], i: usize) -> f64
-    requires { ⌜ Matrix (now a) m n × (rank ≤ m) × (rank ≤ n) × (i < rank) × (length (now b) ≡ m) × (length (now y) ≡ n) ⌝ }
+    requires { ⌜ Matrix (now a) m n × (rank ≤ m) × (rank ≤ n) × (i < rank) × (length (now b) ≡ m)
+        × (length (now y) ≡ n) ⌝ }
     ensures { λ r. ⌜ r ≡ def.known n rank (now (a .entry)) (now (b .entry)) (now (y .entry)) i ⌝ }
 {
     let p = place::place(m, n, i, 0);
@@ -59,7 +60,8 @@ fn turn_each(right: &[f64], n: usize, rank: usize, y: &mut [f64])
 // Every reflector applied to y; at full rank there is none.
 pub fn turn_back(right: &[f64], n: usize, rank: usize, y: &mut [f64])
     requires { ⌜ Turning (now right) n rank (now y) ⌝ }
-    ensures { λ r. ⌜ now (y .exit) ≡ def.turned n rank (now (right .entry)) (now (y .entry)) (def.firstTurned n rank) ⌝ }
+    ensures { λ r. ⌜ now (y .exit)
+        ≡ def.turned n rank (now (right .entry)) (now (y .entry)) (def.firstTurned n rank) ⌝ }
 {
     if rank < n {
         turn_each(right, n, rank, y);
@@ -83,7 +85,8 @@ fn wide(p: u8) -> usize
 
 pub fn unpermute(perm: &[u8], y: &[f64], x: &mut [f64])
     requires { ⌜ (length (now y) ≡ length (now perm)) × (length (now perm) ≤ 32) ⌝ }
-    ensures { λ r. ⌜ now (x .exit) ≡ starts.unpermuted (now (x .entry)) (now (perm .entry)) (now (y .entry)) (length (now (perm .entry))) ⌝ }
+    ensures { λ r. ⌜ now (x .exit)
+        ≡ starts.unpermuted (now (x .entry)) (now (perm .entry)) (now (y .entry)) (length (now (perm .entry))) ⌝ }
 {
     let n = perm.len();
     let mut j = 0;

@@ -1,5 +1,5 @@
-// [R₁₁ R₁₂] Z = [T 0]: each row's entries past the rank are cleared by a reflector from the right, from the last row up. Row i of `right`
-// keeps reflector i.
+// [R₁₁ R₁₂] Z = [T 0]: each row's entries past the rank are cleared by a reflector from the right, from the last row
+// up. Row i of `right` keeps reflector i.
 ghost use mathlib.Core.Path.{_≡_};
 ghost use Prim.Native.Nat.{suc, _+_, _*_, _≤_, _<_};
 ghost use lib.ListN.{length, replicate};
@@ -73,7 +73,8 @@ fn keep_row(a: &[f64], m: usize, n: usize, rank: usize, i: usize, right: &mut [f
 // Clears row i past the rank.
 fn clear_row(a: &mut [f64], m: usize, n: usize, rank: usize, i: usize, right: &mut [f64])
     requires { ⌜ Trapezoidal (now a) m n rank (now right) × (i < rank) ⌝ }
-    ensures { λ r. ⌜ def.trapezoid (now (a .exit)) (now (right .exit)) ≡ def.clear n rank i (def.trapezoid (now (a .entry)) (now (right .entry))) ⌝ }
+    ensures { λ r. ⌜ def.trapezoid (now (a .exit)) (now (right .exit))
+        ≡ def.clear n rank i (def.trapezoid (now (a .entry)) (now (right .entry))) ⌝ }
 {
     let alpha = place::cell(a, m, n, i, i);
     let sigma = row_norm2(a, m, n, rank, i, 0.0);
@@ -100,7 +101,8 @@ fn clear_rows(a: &mut [f64], m: usize, n: usize, rank: usize, right: &mut [f64])
 // The whole trapezoid; at full rank there is nothing to clear.
 pub fn clear(a: &mut [f64], m: usize, n: usize, rank: usize, right: &mut [f64])
     requires { ⌜ Trapezoidal (now a) m n rank (now right) ⌝ }
-    ensures { λ r. ⌜ def.trapezoid (now (a .exit)) (now (right .exit)) ≡ def.cleared n rank (now (a .entry)) (def.lastCleared n rank) ⌝ }
+    ensures { λ r. ⌜ def.trapezoid (now (a .exit)) (now (right .exit))
+        ≡ def.cleared n rank (now (a .entry)) (def.lastCleared n rank) ⌝ }
 {
     vector::zero(right);
     if rank < n {

@@ -1,4 +1,5 @@
-// Loops over entries of a list from place p on, k places apart: a row's entries have k = 1, a column's k = n. Each sum runs upward in index.
+// Loops over entries of a list from place p on, k places apart: a row's entries have k = 1, a column's k = n. Each sum
+// runs upward in index.
 ghost use mathlib.Core.Path.{_≡_};
 ghost use Prim.Native.Nat.{ℕ, _+_, _*_, _≤_, _<_};
 ghost use lib.ListN.{length, replicate, set};
@@ -67,7 +68,8 @@ pub fn less_scaled(
     hi: usize,
 )
     requires { ⌜ Strided (now x) p k lo hi × Part (now y) q lo hi ⌝ }
-    ensures { λ r. ⌜ now (x .exit) ≡ less (λ (t : ℕ). p + t * k) f (λ (t : ℕ). at (now (y .entry)) (q + t)) lo hi (now (x .entry)) ⌝ }
+    ensures { λ r. ⌜ now (x .exit)
+        ≡ less (λ (t : ℕ). p + t * k) f (λ (t : ℕ). at (now (y .entry)) (q + t)) lo hi (now (x .entry)) ⌝ }
 {
     let mut t = lo;
     while t < hi {
@@ -79,7 +81,8 @@ pub fn less_scaled(
 // x[p + t] = y[q + t]
 pub fn copy(x: &mut [f64], p: usize, y: &[f64], q: usize, lo: usize, hi: usize)
     requires { ⌜ Part (now x) p lo hi × Part (now y) q lo hi ⌝ }
-    ensures { λ r. ⌜ now (x .exit) ≡ updated nan (λ (t : ℕ). p + t) (λ (t : ℕ) (v : Float). at (now (y .entry)) (q + t)) lo hi (now (x .entry)) ⌝ }
+    ensures { λ r. ⌜ now (x .exit)
+        ≡ updated nan (λ (t : ℕ). p + t) (λ (t : ℕ) (v : Float). at (now (y .entry)) (q + t)) lo hi (now (x .entry)) ⌝ }
 {
     let mut t = lo;
     while t < hi {

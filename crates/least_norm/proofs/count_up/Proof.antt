@@ -16,29 +16,13 @@ Inv-loop perm₀ i₀ perm i = (i ≤ length perm₀) × (length perm ≡ length
 abbrev μ-loop : tie.MeasureT-loop
 μ-loop perm₀ i₀ perm i = length perm₀ - i
 
-loop-holds : tie.Need-loop-holds Inv-loop μ-loop
-loop-holds c = (omega arith, refl, search (tab-start, needs))
-
-cast-perm : tie.Need-cast-perm Inv-loop μ-loop
-cast-perm c = omega arith
-
-slice-write-perm : tie.Need-slice-write-perm Inv-loop μ-loop
-slice-write-perm c = omega arith
-
-add-i : tie.Need-add-i Inv-loop μ-loop
-add-i c = omega arith
-
-loop-less : tie.Need-loop-less Inv-loop μ-loop
-loop-less c = omega arith
-
 loop-again : tie.Need-loop-again Inv-loop μ-loop
-loop-again c = (omega arith, simp length-set (c .before .loop .inv .1), tab-again (λ (i : ℕ). i) _ _ _ (c .before .loop .inv .2) (c .before .loop .inv .1) (omega arith))
-
-same-length : tie.Need-same-length Inv-loop μ-loop
-same-length c = c .before .loop .inv .1
-
-returns : tie.Need-returns Inv-loop μ-loop
-returns c = search (tab-done, needs)
+loop-again c =
+    let at-loop = c .before in (
+      omega arith,
+      simp length-set (at-loop .loop .inv .1),
+      tab-again (λ (i : ℕ). i) _ _ _ (at-loop .loop .inv .2) (at-loop .loop .inv .1) (omega arith),
+    )
 
 pub count-up-spec : {M : Type 1} → statement M
 count-up-spec =
@@ -46,11 +30,11 @@ count-up-spec =
     (tie.spec
     Inv-loop
     μ-loop
-    loop-holds
-    cast-perm
-    slice-write-perm
-    add-i
-    loop-less
+    (λ c. (omega arith, refl, search (tab-start, needs)))
+    (λ c. omega arith)
+    (λ c. omega arith)
+    (λ c. omega arith)
+    (λ c. omega arith)
     loop-again
-    same-length
-    returns)
+    (λ c. search needs)
+    (λ c. search (tab-done, needs)))

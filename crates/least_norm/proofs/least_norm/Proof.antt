@@ -1,76 +1,81 @@
 -- `least_norm::least_norm` meets its contract. Assumes nothing.
 use borrow.Author.Needs.{needs}
 use lib.Seq.{length-take-le}
-use mathlib.Core.Path.{sym, _∙_}
+use mathlib.Core.Path.{sym}
 use native.Mathlib.Omega.{arith}
 use Rattle.least_norm.proofs.Runs.{tab-at, least-run}
 use Rattle.least_norm.proofs.Starts.{onto-run}
 use Rattle.least_norm.proofs.least_norm.Statement.{statement}
 use Rattle.least_norm.proofs.least_norm.Tie as tie
 
-count-up-requires : tie.Need-count-up-requires
-count-up-requires c κs = omega arith
-
-fewer-requires : tie.Need-fewer-requires
-fewer-requires c κs = tt
-
 reduce-columns-requires : tie.Need-reduce-columns-requires
-reduce-columns-requires c κs = (search needs, search needs, search needs, tab-at _ _ _ (c .before .before .before .before .before .before .before .count-up .ensures) (c .before .before .before .before .before .before .before .before .before .before .before .before .before .before .before .pre .0 .4))
-
-leading-requires : tie.Need-leading-requires
-leading-requires c κs = omega arith
-
-slice-relend-prefix-solve-at : tie.Need-slice-relend-prefix-solve-at
-slice-relend-prefix-solve-at c = omega arith
+reduce-columns-requires c κs =
+    let at-count-up = c .before .before .before .before .before .before .before in
+    let at-entry = at-count-up .before .before .before .before .before .before .before .before in
+    (search needs, search needs, search needs, tab-at _ _ _ (at-count-up .count-up .ensures) (at-entry .pre .0 .4))
 
 slice-aggregate-solve-at : tie.Need-slice-aggregate-solve-at
-slice-aggregate-solve-at c = sym (length-take-le _ _ (omega (arith, c .before .before .before .before .before .before .before .before .before .before .before .before .before .before .before .before .before .before .before .before .before .before .before .before .before .before .before .before .before .before .before .before .pre .2, c .before .before .before .before .before .before .before .before .before .before .before .before .before .before .before .before .reduce-columns .kept .1 .1 .1 .1 .1 .1 .0)))
+slice-aggregate-solve-at c =
+    let at-leading = c .before .before .before .before .before .before in
+    let at-reduce-columns = at-leading .before .before .before .before .before .before .before .before .before .before in
+    let at-count-up = at-reduce-columns .before .before .before .before .before .before .before .before in
+    let pre = at-count-up .before .before .before .before .before .before .before .before .pre in
+    let kept = at-reduce-columns .reduce-columns .kept in
+    sym (length-take-le _ _ (omega (arith, pre .2, kept .1 .1 .1 .1 .1 .1 .0)))
 
 solve-at-requires : tie.Need-solve-at-requires
-solve-at-requires c κs = (omega (arith, c .before .before .before .before .before .before .before .before .before .before .before .before .before .before .before .before .before .before .before .before .before .before .before .before .before .before .before .before .before .before .before .before .pre .0, c .before .before .before .before .before .before .before .before .before .before .before .before .before .before .before .before .reduce-columns .kept .0), omega (arith, c .before .before .before .before .before .before .leading .ensures .1, c .before .before .before .before .before .before .before .before .before .before .before .before .before .before .before .before .reduce-columns .ensures .most, c .before .before .before .before .before .before .before .before .before .before .before .before .before .before .before .before .before .before .before .before .before .fewer .ensures), omega (arith, c .before .before .before .before .before .before .leading .ensures .1, c .before .before .before .before .before .before .before .before .before .before .before .before .before .before .before .before .reduce-columns .ensures .most, c .before .before .before .before .before .before .before .before .before .before .before .before .before .before .before .before .before .before .before .before .before .fewer .ensures), omega (arith, c .before .before .before .before .before .before .before .before .before .before .before .before .before .before .before .before .before .before .before .before .before .before .before .before .before .before .before .before .before .before .before .before .pre .0, c .before .before .before .before .before .before .before .before .before .before .before .before .before .before .before .before .reduce-columns .kept .1 .1 .1 .1 .0), omega (arith, c .before .before .before .before .before .before .before .before .before .before .before .before .before .before .before .before .before .before .before .before .before .before .before .before .before .before .before .before .before .before .before .before .pre .0, c .before .before .before .before .before .before .before .before .before .before .before .before .before .before .before .before .before .before .before .before .before .before .before .before .count-up .kept .0, c .before .before .before .before .before .before .before .before .before .before .before .before .before .before .before .before .reduce-columns .kept .1 .1 .1 .1 .1 .0), omega (arith, c .before .before .before .before .before .before .before .before .before .before .before .before .before .before .before .before .before .before .before .before .before .before .before .before .before .before .before .before .before .before .before .before .pre .3), length-take-le _ _ (omega (arith, c .before .before .before .before .before .before .before .before .before .before .before .before .before .before .before .before .before .before .before .before .before .before .before .before .before .before .before .before .before .before .before .before .pre .2, c .before .before .before .before .before .before .before .before .before .before .before .before .before .before .before .before .reduce-columns .kept .1 .1 .1 .1 .1 .1 .0)), c .before .before .before .before .before .before .before .before .before .before .before .before .before .before .before .before .before .before .before .before .before .before .before .before .before .before .before .before .before .before .before .before .pre .1, onto-run _ _ _ _ _ _ _ (c .before .before .before .before .before .before .before .before .before .before .before .before .before .before .before .before .reduce-columns .ensures) (omega (arith, c .before .before .before .before .before .before .before .before .before .before .before .before .before .before .before .before .before .before .before .before .before .fewer .ensures)))
-
-abbrev to-solve-at : tie.After-slice-known15 → tie.After-solve-at
-to-solve-at c = c .before .before .before .before .before .before .before .before
-
-abbrev to-reduce-columns : tie.After-slice-known15 → tie.After-reduce-columns
-to-reduce-columns c = c .before .before .before .before .before .before .before .before .before .before .before .before .before .before .before .before .before .before .before .before .before .before .before .before .before
-
-same-length : tie.Need-same-length
-same-length c = to-solve-at c .solve-at .kept .0 ∙ to-reduce-columns c .reduce-columns .kept .0
-
-same-length-2 : tie.Need-same-length-2
-same-length-2 c = to-reduce-columns c .reduce-columns .kept .1 .1 .1 .1 .0
-
-same-length-3 : tie.Need-same-length-3
-same-length-3 c = to-solve-at c .solve-at .kept .1 .1 .1 .1 .0
-
-same-length-4 : tie.Need-same-length-4
-same-length-4 c = to-solve-at c .solve-at .kept .1 .1 .1 .1 .1 .0
-
-same-length-5 : tie.Need-same-length-5
-same-length-5 c = to-reduce-columns c .reduce-columns .kept .1 .1 .1 .1 .1 .0 ∙ c .before .before .before .before .before .before .before .before .before .before .before .before .before .before .before .before .before .before .before .before .before .before .before .before .before .before .before .before .before .before .before .before .before .count-up .kept .0
-
-same-length-6 : tie.Need-same-length-6
-same-length-6 c = search needs
+solve-at-requires c κs =
+    let at-leading = c .before .before .before .before .before .before in
+    let at-reduce-columns = at-leading .before .before .before .before .before .before .before .before .before .before in
+    let at-fewer = at-reduce-columns .before .before .before .before .before in
+    let at-count-up = at-fewer .before .before .before in
+    let pre = at-count-up .before .before .before .before .before .before .before .before .pre in
+    let kept = at-reduce-columns .reduce-columns .kept in
+    let same-perm = at-count-up .count-up .kept .0 in
+    let at-most-columns = at-leading .leading .ensures .1 in
+    let at-most-fewer = at-reduce-columns .reduce-columns .ensures .most in
+    let fewer-is = at-fewer .fewer .ensures in (
+      omega (arith, pre .0, kept .0),
+      omega arith,
+      omega arith,
+      omega (arith, pre .0, kept .1 .1 .1 .1 .0),
+      omega (arith, pre .0, kept .1 .1 .1 .1 .1 .0),
+      omega (arith, pre .3),
+      length-take-le _ _ (omega (arith, pre .2, kept .1 .1 .1 .1 .1 .1 .0)),
+      pre .1,
+      onto-run _ _ _ _ _ _ _ (at-reduce-columns .reduce-columns .ensures) (omega arith),
+    )
 
 returns : tie.Need-returns
-returns c = (least-run _ _ _ _ _ _ _ _ _ _ (c .before .before .before .before .before .before .before .before .solve-at .ensures .0) (c .before .before .before .before .before .before .before .before .before .before .before .before .before .before .before .leading .ensures .0) (c .before .before .before .before .before .before .before .before .before .before .before .before .before .before .before .before .before .before .before .before .before .before .before .before .before .reduce-columns .ensures) (c .before .before .before .before .before .before .before .before .before .before .before .before .before .before .before .before .before .before .before .before .before .before .before .before .before .before .before .before .before .before .fewer .ensures), c .before .before .before .before .before .before .before .before .solve-at .ensures .1, omega (arith, c .before .before .before .before .before .before .before .before .before .before .before .before .before .before .before .leading .ensures .1, c .before .before .before .before .before .before .before .before .before .before .before .before .before .before .before .before .before .before .before .before .before .before .before .before .before .reduce-columns .ensures .most, c .before .before .before .before .before .before .before .before .before .before .before .before .before .before .before .before .before .before .before .before .before .before .before .before .before .before .before .before .before .before .fewer .ensures, c .before .before .before .before .before .before .before .before .before .before .before .before .before .before .before .before .before .before .before .before .before .before .before .before .before .before .before .before .before .before .before .before .before .before .before .before .before .before .before .before .before .pre .0))
+returns c =
+    let at-solve-at = c .before .before .before .before .before .before .before .before in
+    let at-leading = at-solve-at .before .before .before .before .before .before .before in
+    let at-reduce-columns = at-leading .before .before .before .before .before .before .before .before .before .before in
+    let at-fewer = at-reduce-columns .before .before .before .before .before in
+    let pre = at-fewer .before .before .before .before .before .before .before .before .before .before .before .pre in
+    let leading-is = at-leading .leading .ensures in
+    let stopped = at-reduce-columns .reduce-columns .ensures in
+    let fewer-is = at-fewer .fewer .ensures in (
+      least-run _ _ _ _ _ _ _ _ _ _ (at-solve-at .solve-at .ensures .0) (leading-is .0) stopped fewer-is,
+      at-solve-at .solve-at .ensures .1,
+      omega (arith, leading-is .1, stopped .most, pre .0),
+    )
 
 pub least-norm-spec : {M : Type 1} → statement M
 least-norm-spec =
     tie.close
     (tie.spec
-    count-up-requires
-    fewer-requires
+    (λ c κs. omega arith)
+    (λ c κs. tt)
     reduce-columns-requires
-    leading-requires
-    slice-relend-prefix-solve-at
+    (λ c κs. omega arith)
+    (λ c. omega arith)
     slice-aggregate-solve-at
     solve-at-requires
-    same-length
-    same-length-2
-    same-length-3
-    same-length-4
-    same-length-5
-    same-length-6
+    (λ c. search needs)
+    (λ c. search needs)
+    (λ c. search needs)
+    (λ c. search needs)
+    (λ c. search needs)
+    (λ c. search needs)
     returns)

@@ -1,21 +1,22 @@
 -- `least_norm::columns::reflect_four` meets its contract. Assumes nothing.
+use borrow.Author.Needs.{needs}
 use native.Mathlib.Omega.{arith}
 use Rattle.least_norm.proofs.Blocks.{block-is}
 use Rattle.least_norm.proofs.columns.reflect_four.Statement.{statement}
 use Rattle.least_norm.proofs.columns.reflect_four.Tie as tie
 
-column-factors-requires : tie.Need-column-factors-requires
-column-factors-requires c κs = omega arith
-
-less-rows-requires : tie.Need-less-rows-requires
-less-rows-requires c κs = omega arith
-
-same-length : tie.Need-same-length
-same-length c = c .before .before .less-rows .kept .0
-
 returns : tie.Need-returns
-returns c = block-is _ _ _ _ _ _ _ _ _ _ (c .before .before .less-rows .ensures) (c .before .before .before .before .column-factors .ensures) (c .before .before .before .before .before .before .before .before .pre .1) (c .before .before .before .before .before .before .before .before .pre .2) (omega arith) (c .before .before .before .before .before .before .before .before .pre .0 .0)
+returns c =
+    let at-less-rows = c .before .before in
+    let at-column-factors = at-less-rows .before .before in
+    let at-entry = at-column-factors .before .before .before .before in
+    block-is _ _ _ _ _ _ _ _ _ _ (at-less-rows .less-rows .ensures) (at-column-factors .column-factors .ensures)
+    (at-entry .pre .1) (at-entry .pre .2) (omega arith) (at-entry .pre .0 .0)
 
 pub reflect-four-spec : {M : Type 1} → statement M
 reflect-four-spec =
-    tie.close (tie.spec column-factors-requires less-rows-requires same-length returns)
+    tie.close (tie.spec
+    (λ c κs. omega arith)
+    (λ c κs. omega arith)
+    (λ c. search needs)
+    returns)

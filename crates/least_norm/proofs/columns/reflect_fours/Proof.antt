@@ -12,34 +12,23 @@ use Rattle.least_norm.proofs.columns.reflect_fours.Statement.{statement
 use Rattle.least_norm.proofs.columns.reflect_fours.Tie as tie
 
 abbrev Inv-loop : tie.InvT-loop
-Inv-loop a₀ m n j c v vtv next₀ a next = (c ≤ next) × (next ≤ n) × (length a ≡ length a₀) × (a ≡ between c next a₀ (reflectColumn m n j (at v j) (λ (row : ℕ). at v row) vtv))
+Inv-loop a₀ m n j c v vtv next₀ a next =
+    (c ≤ next) × (next ≤ n) × (length a ≡ length a₀)
+    × (a ≡ between c next a₀ (reflectColumn m n j (at v j) (λ (row : ℕ). at v row) vtv))
 
 abbrev μ-loop : tie.MeasureT-loop
 μ-loop a₀ m n j c v vtv next₀ a next = n - next
 
-loop-holds : tie.Need-loop-holds Inv-loop μ-loop
-loop-holds c = (omega arith, omega arith, refl, search (between-from, needs))
-
-add-loop : tie.Need-add-loop Inv-loop μ-loop
-add-loop c = omega arith
-
-reflect-four-requires : tie.Need-reflect-four-requires Inv-loop μ-loop
-reflect-four-requires c κs = omega arith
-
-add-next : tie.Need-add-next Inv-loop μ-loop
-add-next c = omega arith
-
-loop-less : tie.Need-loop-less Inv-loop μ-loop
-loop-less c = omega arith
-
 loop-again : tie.Need-loop-again Inv-loop μ-loop
-loop-again c = (omega arith, omega arith, c .before .before .reflect-four .kept .0 ∙ c .before .before .before .before .before .loop .inv .2, between-more _ _ _ _ _ _ _ (c .before .before .reflect-four .ensures) (c .before .before .before .before .before .loop .inv .3) (c .before .before .before .before .before .loop .inv .0) (omega arith))
-
-same-length : tie.Need-same-length Inv-loop μ-loop
-same-length c = c .before .loop .inv .2
-
-returns : tie.Need-returns Inv-loop μ-loop
-returns c = search needs
+loop-again c =
+    let at-reflect-four = c .before .before in
+    let at-loop = at-reflect-four .before .before .before in (
+      omega arith,
+      omega arith,
+      at-reflect-four .reflect-four .kept .0 ∙ at-loop .loop .inv .2,
+      between-more _ _ _ _ _ _ _ (at-reflect-four .reflect-four .ensures) (at-loop .loop .inv .3) (at-loop .loop .inv .0)
+          (omega arith),
+    )
 
 pub reflect-fours-spec : {M : Type 1} → statement M
 reflect-fours-spec =
@@ -47,11 +36,11 @@ reflect-fours-spec =
     (tie.spec
     Inv-loop
     μ-loop
-    loop-holds
-    add-loop
-    reflect-four-requires
-    add-next
-    loop-less
+    (λ c. (omega arith, omega arith, refl, search (between-from, needs)))
+    (λ c. omega arith)
+    (λ c κs. omega arith)
+    (λ c. omega arith)
+    (λ c. omega arith)
     loop-again
-    same-length
-    returns)
+    (λ c. search needs)
+    (λ c. search needs))

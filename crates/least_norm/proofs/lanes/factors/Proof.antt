@@ -10,4 +10,5 @@ unfolding updated between turns
 returns c = refl
 
 pub factors-spec : {M : Type 1} → statement M
-factors-spec = tie.close (tie.spec returns)
+factors-spec = tie.close (tie.spec
+    returns)

@@ -1,6 +1,6 @@
-use native.Mathlib.Omega.{arith}
-use mathlib.Core.Path.{_∙_}
 -- `least_norm::lanes::less_lanes` meets its contract. Assumes nothing.
+use borrow.Author.Needs.{needs}
+use native.Mathlib.Omega.{arith}
 use native.Mathlib.Nat.{add-zero}
 use Rattle.least_norm.specs.Reflector.{less}
 use Rattle.loops.specs.Loops.{turns, between}
@@ -8,44 +8,32 @@ use Rattle.loops.specs.Updates.{updated}
 use Rattle.least_norm.proofs.lanes.less_lanes.Statement.{statement}
 use Rattle.least_norm.proofs.lanes.less_lanes.Tie as tie
 
-less-at-requires : tie.Need-less-at-requires
-less-at-requires c κs = omega arith
-
-add-less-at : tie.Need-add-less-at
-add-less-at c = omega arith
-
-less-at-requires-2 : tie.Need-less-at-requires-2
-less-at-requires-2 c κs = omega arith
-
-add-less-at-2 : tie.Need-add-less-at-2
-add-less-at-2 c = omega arith
-
-less-at-requires-3 : tie.Need-less-at-requires-3
-less-at-requires-3 c κs = omega arith
-
-add-less-at-3 : tie.Need-add-less-at-3
-add-less-at-3 c = omega arith
-
-less-at-requires-4 : tie.Need-less-at-requires-4
-less-at-requires-4 c κs = omega arith
-
-same-length : tie.Need-same-length
-same-length c = c .before .before .less-at4 .kept .0 ∙ c .before .before .before .before .before .before .before .less-at3 .kept .0 ∙ c .before .before .before .before .before .before .before .before .before .before .before .before .less-at2 .kept .0 ∙ c .before .before .before .before .before .before .before .before .before .before .before .before .before .before .before .before .before .less-at .kept .0
-
 returns : tie.Need-returns
 unfolding less updated between turns
-returns c = rw (add-zero (c .before .before .before .before .before .before .before .before .before .before .before .before .before .before .before .before .before .before .before .before .before .args .p), c .before .before .less-at4 .ensures, c .before .before .before .before .before .before .before .less-at3 .ensures, c .before .before .before .before .before .before .before .before .before .before .before .before .less-at2 .ensures, c .before .before .before .before .before .before .before .before .before .before .before .before .before .before .before .before .before .less-at .ensures)
+returns c =
+    let at-less-at4 = c .before .before in
+    let at-less-at3 = at-less-at4 .before .before .before .before .before in
+    let at-less-at2 = at-less-at3 .before .before .before .before .before in
+    let at-less-at = at-less-at2 .before .before .before .before .before in
+    let at-entry = at-less-at .before .before .before .before in
+    rw (
+      add-zero (at-entry .args .p),
+      at-less-at4 .less-at4 .ensures,
+      at-less-at3 .less-at3 .ensures,
+      at-less-at2 .less-at2 .ensures,
+      at-less-at .less-at .ensures,
+    )
 
 pub less-lanes-spec : {M : Type 1} → statement M
 less-lanes-spec =
     tie.close
     (tie.spec
-    less-at-requires
-    add-less-at
-    less-at-requires-2
-    add-less-at-2
-    less-at-requires-3
-    add-less-at-3
-    less-at-requires-4
-    same-length
+    (λ c κs. omega arith)
+    (λ c. omega arith)
+    (λ c κs. omega arith)
+    (λ c. omega arith)
+    (λ c κs. omega arith)
+    (λ c. omega arith)
+    (λ c κs. omega arith)
+    (λ c. search needs)
     returns)

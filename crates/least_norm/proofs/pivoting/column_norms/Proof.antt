@@ -14,29 +14,15 @@ Inv-loop a m n c j s₀ row₀ s row = (j ≤ row) × (row ≤ m) × (lanes s �
 abbrev μ-loop : tie.MeasureT-loop
 μ-loop a m n c j s₀ row₀ s row = m - row
 
-none-requires : tie.Need-none-requires Inv-loop μ-loop
-none-requires c κs = tt
-
-loop-holds : tie.Need-loop-holds Inv-loop μ-loop
-loop-holds c = (omega arith, omega arith, search (squares-from, needs))
-
-place-requires : tie.Need-place-requires Inv-loop μ-loop
-place-requires c κs = omega arith
-
-add-squares-requires : tie.Need-add-squares-requires Inv-loop μ-loop
-add-squares-requires c κs = omega arith
-
-add-row : tie.Need-add-row Inv-loop μ-loop
-add-row c = omega arith
-
-loop-less : tie.Need-loop-less Inv-loop μ-loop
-loop-less c = omega arith
-
 loop-again : tie.Need-loop-again Inv-loop μ-loop
-loop-again c = (omega arith, omega arith, squares-again _ _ _ _ _ _ _ _ _ _ (c .add-squares .ensures) (c .before .before .before .loop .inv .2) (c .before .place .ensures .0) (c .before .before .before .loop .inv .0))
-
-returns : tie.Need-returns Inv-loop μ-loop
-returns c = search (squares-done, needs)
+loop-again c =
+    let at-place = c .before in
+    let at-loop = at-place .before .before in (
+      omega arith,
+      omega arith,
+      squares-again _ _ _ _ _ _ _ _ _ _ (c .add-squares .ensures) (at-loop .loop .inv .2) (at-place .place .ensures .0)
+          (at-loop .loop .inv .0),
+    )
 
 pub column-norms-spec : {M : Type 1} → statement M
 column-norms-spec =
@@ -44,11 +30,11 @@ column-norms-spec =
     (tie.spec
     Inv-loop
     μ-loop
-    none-requires
-    loop-holds
-    place-requires
-    add-squares-requires
-    add-row
-    loop-less
+    (λ c κs. tt)
+    (λ c. (omega arith, omega arith, search (squares-from, needs)))
+    (λ c κs. omega arith)
+    (λ c κs. omega arith)
+    (λ c. omega arith)
+    (λ c. omega arith)
     loop-again
-    returns)
+    (λ c. search (squares-done, needs)))

@@ -16,26 +16,16 @@ Inv-loop a m n j c p₀ next₀ p next = (c ≤ next) × (next ≤ n) × (p .col
 abbrev μ-loop : tie.MeasureT-loop
 μ-loop a m n j c p₀ next₀ p next = n - next
 
-loop-holds : tie.Need-loop-holds Inv-loop μ-loop
-loop-holds c = (omega arith, omega arith, omega arith, search (between-from, needs))
-
-column-norm2-requires : tie.Need-column-norm2-requires Inv-loop μ-loop
-column-norm2-requires c κs = omega arith
-
-picked-requires : tie.Need-picked-requires Inv-loop μ-loop
-picked-requires c κs = omega arith
-
-add-next : tie.Need-add-next Inv-loop μ-loop
-add-next c = omega arith
-
-loop-less : tie.Need-loop-less Inv-loop μ-loop
-loop-less c = omega arith
-
 loop-again : tie.Need-loop-again Inv-loop μ-loop
-loop-again c = (omega arith, omega arith, omega (arith, c .picked .ensures .1), one-picked _ _ _ _ _ _ _ _ _ _ (c .picked .ensures .0) (c .before .column-norm2 .ensures) (c .before .before .before .loop .inv .3) (c .before .before .before .loop .inv .0))
-
-returns : tie.Need-returns Inv-loop μ-loop
-returns c = search (between-done, needs)
+loop-again c =
+    let at-column-norm2 = c .before in
+    let at-loop = at-column-norm2 .before .before in (
+      omega arith,
+      omega arith,
+      omega (arith, c .picked .ensures .1),
+      one-picked _ _ _ _ _ _ _ _ _ _ (c .picked .ensures .0) (at-column-norm2 .column-norm2 .ensures)
+          (at-loop .loop .inv .3) (at-loop .loop .inv .0),
+    )
 
 pub pick-each-spec : {M : Type 1} → statement M
 pick-each-spec =
@@ -43,10 +33,10 @@ pick-each-spec =
     (tie.spec
     Inv-loop
     μ-loop
-    loop-holds
-    column-norm2-requires
-    picked-requires
-    add-next
-    loop-less
+    (λ c. (omega arith, omega arith, omega arith, search (between-from, needs)))
+    (λ c κs. omega arith)
+    (λ c κs. omega arith)
+    (λ c. omega arith)
+    (λ c. omega arith)
     loop-again
-    returns)
+    (λ c. search (between-done, needs)))

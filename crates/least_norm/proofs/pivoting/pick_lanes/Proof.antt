@@ -5,40 +5,32 @@ use Rattle.loops.specs.Loops.{turns, between}
 use Rattle.least_norm.proofs.pivoting.pick_lanes.Statement.{statement}
 use Rattle.least_norm.proofs.pivoting.pick_lanes.Tie as tie
 
-picked-requires : tie.Need-picked-requires
-picked-requires c κs = omega arith
-
-add-picked : tie.Need-add-picked
-add-picked c = omega arith
-
-picked-requires-2 : tie.Need-picked-requires-2
-picked-requires-2 c κs = omega arith
-
-add-picked-2 : tie.Need-add-picked-2
-add-picked-2 c = omega arith
-
-picked-requires-3 : tie.Need-picked-requires-3
-picked-requires-3 c κs = omega arith
-
-add-picked-3 : tie.Need-add-picked-3
-add-picked-3 c = omega arith
-
-picked-requires-4 : tie.Need-picked-requires-4
-picked-requires-4 c κs = omega arith
-
 returns : tie.Need-returns
 unfolding between turns
-returns c = (rw (add-zero (c .before .before .before .before .args .c), c .picked4 .ensures .0, c .before .picked3 .ensures .0, c .before .before .picked2 .ensures .0, c .before .before .before .picked .ensures .0), omega arith)
+returns c =
+    let at-picked3 = c .before in
+    let at-picked2 = at-picked3 .before in
+    let at-picked = at-picked2 .before in
+    let at-entry = at-picked .before in (
+      rw (
+        add-zero (at-entry .args .c),
+        c .picked4 .ensures .0,
+        at-picked3 .picked3 .ensures .0,
+        at-picked2 .picked2 .ensures .0,
+        at-picked .picked .ensures .0,
+      ),
+      omega arith,
+    )
 
 pub pick-lanes-spec : {M : Type 1} → statement M
 pick-lanes-spec =
     tie.close
     (tie.spec
-    picked-requires
-    add-picked
-    picked-requires-2
-    add-picked-2
-    picked-requires-3
-    add-picked-3
-    picked-requires-4
+    (λ c κs. omega arith)
+    (λ c. omega arith)
+    (λ c κs. omega arith)
+    (λ c. omega arith)
+    (λ c κs. omega arith)
+    (λ c. omega arith)
+    (λ c κs. omega arith)
     returns)

@@ -13,4 +13,6 @@ unfolding picked
 returns-2 c = (rw (c .if1 .left), omega arith)
 
 pub picked-spec : {M : Type 1} → statement M
-picked-spec = tie.close (tie.spec returns returns-2)
+picked-spec = tie.close (tie.spec
+    returns
+    returns-2)

@@ -5,13 +5,25 @@ use Rattle.least_norm.proofs.place.place.Statement.{statement}
 use Rattle.least_norm.proofs.place.place.Tie as tie
 
 mul-result : tie.Need-mul-result
-mul-result c = omega (arith, row-end (c .args .m) (c .args .n) (c .args .i) (omega arith), product (c .args .m) (c .args .n) (omega arith) (omega arith))
+mul-result c =
+    omega (
+      arith,
+      row-end (c .args .m) (c .args .n) (c .args .i) (omega arith),
+      product (c .args .m) (c .args .n)
+          (omega arith) (omega arith),
+    )
 
 add-result : tie.Need-add-result
-add-result c = omega (arith, row-end (c .args .m) (c .args .n) (c .args .i) (omega arith), product (c .args .m) (c .args .n) (omega arith) (omega arith))
-
-returns : tie.Need-returns
-returns c = omega (arith, row-end (c .args .m) (c .args .n) (c .args .i) (omega arith))
+add-result c =
+    omega (
+      arith,
+      row-end (c .args .m) (c .args .n) (c .args .i) (omega arith),
+      product (c .args .m) (c .args .n)
+          (omega arith) (omega arith),
+    )
 
 pub place-spec : {M : Type 1} → statement M
-place-spec = tie.close (tie.spec mul-result add-result returns)
+place-spec = tie.close (tie.spec
+    mul-result
+    add-result
+    (λ c. omega (arith, row-end (c .args .m) (c .args .n) (c .args .i) (omega arith))))

@@ -1,5 +1,5 @@
-use native.Mathlib.Omega.{arith}
 -- `least_norm::rank::leading` meets its contract. Assumes nothing.
+use native.Mathlib.Omega.{arith}
 use Prim.Native.Nat.{_-_, _≤_}
 use borrow.Author.Needs.{needs}
 use borrow.Author.Tests.{not-true, not-false}
@@ -20,20 +20,24 @@ loop-holds : tie.Need-loop-holds Inv-loop μ-loop
 unfolding leading
 loop-holds c = (omega arith, search (turns-from, needs))
 
-leads-requires : tie.Need-leads-requires Inv-loop μ-loop
-leads-requires c κs = omega arith
-
 returns : tie.Need-returns Inv-loop μ-loop
-returns c = (leading-ended _ _ _ (c .before .before .before .loop .inv .1) (c .before .leads .result) (c .before .leads .ensures) _ (not-true _ (c .if1 .taken)) (c .before .before .loop-test .taken), search needs)
-
-add-i : tie.Need-add-i Inv-loop μ-loop
-add-i c = omega arith
-
-loop-less : tie.Need-loop-less Inv-loop μ-loop
-loop-less c = omega arith
+returns c =
+    let at-leads = c .before in
+    let at-loop-test = at-leads .before in
+    let at-loop = at-loop-test .before in (
+      leading-ended _ _ _ (at-loop .loop .inv .1) (at-leads .leads .result) (at-leads .leads .ensures) _
+          (not-true _ (c .if1 .taken)) (at-loop-test .loop-test .taken),
+      search needs,
+    )
 
 loop-again : tie.Need-loop-again Inv-loop μ-loop
-loop-again c = (search needs, leading-again _ _ _ (c .before .before .before .loop .inv .1) (c .before .leads .result) (c .before .leads .ensures) (not-false _ (c .if1 .left)))
+loop-again c =
+    let at-leads = c .before in
+    let at-loop = at-leads .before .before in (
+      search needs,
+      leading-again _ _ _ (at-loop .loop .inv .1) (at-leads .leads .result) (at-leads .leads .ensures)
+          (not-false _ (c .if1 .left)),
+    )
 
 returns-2 : tie.Need-returns-2 Inv-loop μ-loop
 returns-2 c = (leading-done _ _ _ _ (c .before .loop .inv .1) (c .before .loop .inv .0) (c .loop-test .left), search needs)
@@ -41,4 +45,13 @@ returns-2 c = (leading-done _ _ _ _ (c .before .loop .inv .1) (c .before .loop .
 pub leading-spec : {M : Type 1} → statement M
 leading-spec =
     tie.close
-    (tie.spec Inv-loop μ-loop loop-holds leads-requires returns add-i loop-less loop-again returns-2)
+    (tie.spec
+    Inv-loop
+    μ-loop
+    loop-holds
+    (λ c κs. omega arith)
+    returns
+    (λ c. omega arith)
+    (λ c. omega arith)
+    loop-again
+    returns-2)

@@ -3,9 +3,6 @@ use Rattle.least_norm.specs.Reflector.{beta}
 use Rattle.least_norm.proofs.reflect.beta.Statement.{statement}
 use Rattle.least_norm.proofs.reflect.beta.Tie as tie
 
-norm-requires : tie.Need-norm-requires
-norm-requires c κs = tt
-
 returns : tie.Need-returns
 unfolding beta
 returns c = rw (← c .before .norm .ensures, c .if1 .taken)
@@ -15,4 +12,7 @@ unfolding beta
 returns-2 c = rw (← c .before .norm .ensures, c .if1 .left)
 
 pub beta-spec : {M : Type 1} → statement M
-beta-spec = tie.close (tie.spec norm-requires returns returns-2)
+beta-spec = tie.close (tie.spec
+    (λ c κs. tt)
+    returns
+    returns-2)

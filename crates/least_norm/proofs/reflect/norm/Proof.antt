@@ -12,28 +12,23 @@ use Rattle.least_norm.proofs.reflect.norm.Tie as tie
 held : (c : tie.Start) → T (fits binary64 (c .args .alpha))
 held c = subst T (sym (c .good .0 .1)) tt
 
-abs-requires : tie.Need-abs-requires
-abs-requires c κs = tt
-
 returns : tie.Need-returns
 returns c =
-    let e = c .before .before .abs .ensures in
-    e ∙ root-of-square (c .before .before .before .before .args .alpha) (c .before .before .before .before .args .sigma) (held (c .before .before .before .before)) (c .before .before .before .if1 .taken)
-    (subst (λ (x : Float). lt lowest x ≡ true) e (c .before .if2 .taken))
+    let at-if2 = c .before in
+    let at-abs = at-if2 .before in
+    let at-before = at-abs .before in
+    let at-entry = at-before .before in
+    let e = at-abs .abs .ensures in
+    e ∙ root-of-square (at-entry .args .alpha) (at-entry .args .sigma) (held (at-before .before))
+    (at-before .if1 .taken) (subst (λ (x : Float). lt lowest x ≡ true) e (at-if2 .if2 .taken))
     (subst (λ (x : Float). lt x highest ≡ true) e (c .if3 .taken))
-
-sqrt-near-requires : tie.Need-sqrt-near-requires
-sqrt-near-requires c κs = tt
-
-returns-2 : tie.Need-returns-2
-returns-2 c = search needs
-
-sqrt-near-requires-2 : tie.Need-sqrt-near-requires-2
-sqrt-near-requires-2 c κs = tt
-
-returns-3 : tie.Need-returns-3
-returns-3 c = search needs
 
 pub norm-spec : {M : Type 1} → statement M
 norm-spec =
-    tie.close (tie.spec abs-requires returns sqrt-near-requires returns-2 sqrt-near-requires-2 returns-3)
+    tie.close (tie.spec
+    (λ c κs. tt)
+    returns
+    (λ c κs. tt)
+    (λ c. search needs)
+    (λ c κs. tt)
+    (λ c. search needs))

@@ -1,5 +1,5 @@
-use native.Mathlib.Omega.{arith}
 -- `least_norm::solution::turn_each` meets its contract. Assumes nothing.
+use native.Mathlib.Omega.{arith}
 use Prim.Native.Nat.{_-_, _≤_}
 use borrow.Author.Needs.{needs}
 use lib.ListN.{length}
@@ -19,21 +19,9 @@ loop-holds : tie.Need-loop-holds Inv-loop μ-loop
 unfolding turned
 loop-holds c = (omega arith, refl, search (turns-from, needs))
 
-turn-requires : tie.Need-turn-requires Inv-loop μ-loop
-turn-requires c κs = omega arith
-
-add-i : tie.Need-add-i Inv-loop μ-loop
-add-i c = omega arith
-
-loop-less : tie.Need-loop-less Inv-loop μ-loop
-loop-less c = omega arith
-
 loop-again : tie.Need-loop-again Inv-loop μ-loop
 unfolding turned
 loop-again c = (omega arith, search needs, search (turns-again, needs))
-
-same-length : tie.Need-same-length Inv-loop μ-loop
-same-length c = c .before .loop .inv .1
 
 returns : tie.Need-returns Inv-loop μ-loop
 unfolding turned
@@ -46,9 +34,9 @@ turn-each-spec =
     Inv-loop
     μ-loop
     loop-holds
-    turn-requires
-    add-i
-    loop-less
+    (λ c κs. omega arith)
+    (λ c. omega arith)
+    (λ c. omega arith)
     loop-again
-    same-length
+    (λ c. search needs)
     returns)

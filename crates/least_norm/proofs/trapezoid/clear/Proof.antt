@@ -1,39 +1,35 @@
-use mathlib.Core.Path.{_∙_}
 -- `least_norm::trapezoid::clear` meets its contract. Assumes nothing.
 use borrow.Author.Needs.{needs}
 use Rattle.least_norm.proofs.Runs.{replicate-at, cleared-some, cleared-none}
 use Rattle.least_norm.proofs.trapezoid.clear.Statement.{statement}
 use Rattle.least_norm.proofs.trapezoid.clear.Tie as tie
 
-zero-requires : tie.Need-zero-requires
-zero-requires c κs = tt
-
 clear-rows-requires : tie.Need-clear-rows-requires
-clear-rows-requires c κs = (search needs, replicate-at _ _ _ _ (c .before .before .before .before .before .zero .ensures) (c .before .before .before .before .before .before .before .before .before .pre .5))
-
-same-length : tie.Need-same-length
-same-length c = c .before .before .before .before .clear-rows .kept .0
-
-same-length-2 : tie.Need-same-length-2
-same-length-2 c = c .before .before .before .before .clear-rows .kept .1 .1 .1 .1 .0 ∙ c .before .before .before .before .before .before .before .before .before .before .zero .kept .0
+clear-rows-requires c κs =
+    let at-zero = c .before .before .before .before .before in
+    let at-entry = at-zero .before .before .before .before in
+    (search needs, replicate-at _ _ _ _ (at-zero .zero .ensures) (at-entry .pre .5))
 
 returns : tie.Need-returns
-returns c = cleared-some _ _ _ _ (c .before .before .before .before .clear-rows .ensures) (c .before .before .before .before .before .before .before .if1 .taken)
-
-same-length-3 : tie.Need-same-length-3
-same-length-3 c = c .before .before .before .zero .kept .0
+returns c =
+    let at-clear-rows = c .before .before .before .before in
+    let at-if1 = at-clear-rows .before .before .before in
+    cleared-some _ _ _ _ (at-clear-rows .clear-rows .ensures) (at-if1 .if1 .taken)
 
 returns-2 : tie.Need-returns-2
-returns-2 c = cleared-none _ _ _ _ _ (c .before .before .before .zero .ensures) (c .before .before .before .before .before .before .before .pre .5) (c .if1 .left)
+returns-2 c =
+    let at-zero = c .before .before .before in
+    let at-entry = at-zero .before .before .before .before in
+    cleared-none _ _ _ _ _ (at-zero .zero .ensures) (at-entry .pre .5) (c .if1 .left)
 
 pub clear-spec : {M : Type 1} → statement M
 clear-spec =
     tie.close
     (tie.spec
-    zero-requires
+    (λ c κs. tt)
     clear-rows-requires
-    same-length
-    same-length-2
+    (λ c. search needs)
+    (λ c. search needs)
     returns
-    same-length-3
+    (λ c. search needs)
     returns-2)

@@ -1,5 +1,5 @@
-use native.Mathlib.Omega.{arith}
 -- `least_norm::trapezoid::clear_rows` meets its contract. Assumes nothing.
+use native.Mathlib.Omega.{arith}
 use Prim.Native.Nat.{_≤_}
 use borrow.Author.Needs.{needs}
 use lib.ListN.{length}
@@ -11,32 +11,15 @@ use Rattle.least_norm.proofs.trapezoid.clear_rows.Statement.{statement}
 use Rattle.least_norm.proofs.trapezoid.clear_rows.Tie as tie
 
 abbrev Inv-loop : tie.InvT-loop
-Inv-loop a₀ m n rank right₀ i₀ a right i = (i ≤ rank) × (length a ≡ length a₀) × (length right ≡ length right₀) × (trapezoid a right ≡ cleared n rank a₀ i)
+Inv-loop a₀ m n rank right₀ i₀ a right i =
+    (i ≤ rank) × (length a ≡ length a₀) × (length right ≡ length right₀) × (trapezoid a right ≡ cleared n rank a₀ i)
 
 abbrev μ-loop : tie.MeasureT-loop
 μ-loop a₀ m n rank right₀ i₀ a right i = i
 
-loop-holds : tie.Need-loop-holds Inv-loop μ-loop
-loop-holds c = (omega arith, refl, refl, search (cleared-from, needs))
-
-sub-i : tie.Need-sub-i Inv-loop μ-loop
-sub-i c = omega arith
-
-clear-row-requires : tie.Need-clear-row-requires Inv-loop μ-loop
-clear-row-requires c κs = omega arith
-
-loop-less : tie.Need-loop-less Inv-loop μ-loop
-loop-less c = omega arith
-
 loop-again : tie.Need-loop-again Inv-loop μ-loop
 unfolding cleared
 loop-again c = (omega arith, search needs, search needs, search (downward-again, needs))
-
-same-length : tie.Need-same-length Inv-loop μ-loop
-same-length c = c .before .loop .inv .1
-
-same-length-2 : tie.Need-same-length-2 Inv-loop μ-loop
-same-length-2 c = c .before .loop .inv .2
 
 returns : tie.Need-returns Inv-loop μ-loop
 unfolding cleared
@@ -48,11 +31,11 @@ clear-rows-spec =
     (tie.spec
     Inv-loop
     μ-loop
-    loop-holds
-    sub-i
-    clear-row-requires
-    loop-less
+    (λ c. (omega arith, refl, refl, search (cleared-from, needs)))
+    (λ c. omega arith)
+    (λ c κs. omega arith)
+    (λ c. omega arith)
     loop-again
-    same-length
-    same-length-2
+    (λ c. search needs)
+    (λ c. search needs)
     returns)

@@ -16,9 +16,6 @@ Inv-loop s x p k y q l lo hi r₀ t₀ r t = (lo ≤ t) × (t ≤ hi) × (r ≡ 
 abbrev μ-loop : tie.MeasureT-loop
 μ-loop s x p k y q l lo hi r₀ t₀ r t = hi - t
 
-loop-holds : tie.Need-loop-holds Inv-loop μ-loop
-loop-holds c = (omega arith, omega arith, search (gathered-start, needs))
-
 mul-r : tie.Need-mul-r Inv-loop μ-loop
 mul-r c = omega (arith, row-end (c .before .before .args .hi) (c .before .before .args .k) (c .before .loop .t) (omega arith))
 
@@ -29,31 +26,40 @@ mul-r-2 : tie.Need-mul-r-2 Inv-loop μ-loop
 mul-r-2 c = omega (arith, row-end (c .before .before .args .hi) (c .before .before .args .k) (c .before .loop .t) (omega arith))
 
 shared-slice-read-r : tie.Need-shared-slice-read-r Inv-loop μ-loop
-shared-slice-read-r c = omega (arith, row-end (c .before .before .before .args .hi) (c .before .before .before .args .k) (c .before .before .loop .t) (omega arith))
+shared-slice-read-r c =
+    let at-loop = c .before .before in
+    let at-entry = at-loop .before in
+    omega (arith, row-end (at-entry .args .hi) (at-entry .args .k) (at-loop .loop .t) (omega arith))
 
 mul-r-3 : tie.Need-mul-r-3 Inv-loop μ-loop
-mul-r-3 c = omega (arith, row-end (c .before .before .before .args .hi) (c .before .before .before .args .l) (c .before .before .loop .t) (omega arith))
+mul-r-3 c =
+    omega (
+      arith,
+      row-end (c .before .before .before .args .hi) (c .before .before .before .args .l)
+          (c .before .before .loop .t) (omega arith),
+    )
 
 add-r-2 : tie.Need-add-r-2 Inv-loop μ-loop
-add-r-2 c = omega (arith, row-end (c .before .before .before .args .hi) (c .before .before .before .args .l) (c .before .before .loop .t) (omega arith))
+add-r-2 c =
+    omega (
+      arith,
+      row-end (c .before .before .before .args .hi) (c .before .before .before .args .l)
+          (c .before .before .loop .t) (omega arith),
+    )
 
 mul-r-4 : tie.Need-mul-r-4 Inv-loop μ-loop
-mul-r-4 c = omega (arith, row-end (c .before .before .before .args .hi) (c .before .before .before .args .l) (c .before .before .loop .t) (omega arith))
+mul-r-4 c =
+    omega (
+      arith,
+      row-end (c .before .before .before .args .hi) (c .before .before .before .args .l)
+          (c .before .before .loop .t) (omega arith),
+    )
 
 shared-slice-read-r-2 : tie.Need-shared-slice-read-r-2 Inv-loop μ-loop
-shared-slice-read-r-2 c = omega (arith, row-end (c .before .before .before .before .args .hi) (c .before .before .before .before .args .l) (c .before .before .before .loop .t) (omega arith))
-
-add-t : tie.Need-add-t Inv-loop μ-loop
-add-t c = omega arith
-
-loop-less : tie.Need-loop-less Inv-loop μ-loop
-loop-less c = omega arith
-
-loop-again : tie.Need-loop-again Inv-loop μ-loop
-loop-again c = (omega arith, omega arith, search (sum-again, needs))
-
-returns : tie.Need-returns Inv-loop μ-loop
-returns c = search (gathered-done, needs)
+shared-slice-read-r-2 c =
+    let at-loop = c .before .before .before in
+    let at-entry = at-loop .before in
+    omega (arith, row-end (at-entry .args .hi) (at-entry .args .l) (at-loop .loop .t) (omega arith))
 
 pub dot-spec : {M : Type 1} → statement M
 dot-spec =
@@ -61,7 +67,7 @@ dot-spec =
     (tie.spec
     Inv-loop
     μ-loop
-    loop-holds
+    (λ c. (omega arith, omega arith, search (gathered-start, needs)))
     mul-r
     add-r
     mul-r-2
@@ -70,7 +76,7 @@ dot-spec =
     add-r-2
     mul-r-4
     shared-slice-read-r-2
-    add-t
-    loop-less
-    loop-again
-    returns)
+    (λ c. omega arith)
+    (λ c. omega arith)
+    (λ c. (omega arith, omega arith, search (sum-again, needs)))
+    (λ c. search (gathered-done, needs)))

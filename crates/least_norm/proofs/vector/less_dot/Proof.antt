@@ -1,5 +1,5 @@
-use native.Mathlib.Omega.{arith}
 -- `least_norm::vector::less_dot` meets its contract. Assumes nothing.
+use native.Mathlib.Omega.{arith}
 use Prim.Native.Nat.{ℕ, _+_, _-_, _≤_}
 use borrow.Author.Needs.{needs}
 use mathlib.Core.Path.{_≡_}
@@ -15,53 +15,20 @@ Inv-loop s x p y q lo hi r₀ t₀ r t = (lo ≤ t) × (t ≤ hi) × (r ≡ diff
 abbrev μ-loop : tie.MeasureT-loop
 μ-loop s x p y q lo hi r₀ t₀ r t = hi - t
 
-loop-holds : tie.Need-loop-holds Inv-loop μ-loop
-loop-holds c = (omega arith, omega arith, search (gathered-start, needs))
-
-add-r : tie.Need-add-r Inv-loop μ-loop
-add-r c = omega arith
-
-mul-r : tie.Need-mul-r Inv-loop μ-loop
-mul-r c = omega arith
-
-shared-slice-read-r : tie.Need-shared-slice-read-r Inv-loop μ-loop
-shared-slice-read-r c = omega arith
-
-add-r-2 : tie.Need-add-r-2 Inv-loop μ-loop
-add-r-2 c = omega arith
-
-mul-r-2 : tie.Need-mul-r-2 Inv-loop μ-loop
-mul-r-2 c = omega arith
-
-shared-slice-read-r-2 : tie.Need-shared-slice-read-r-2 Inv-loop μ-loop
-shared-slice-read-r-2 c = omega arith
-
-add-t : tie.Need-add-t Inv-loop μ-loop
-add-t c = omega arith
-
-loop-less : tie.Need-loop-less Inv-loop μ-loop
-loop-less c = omega arith
-
-loop-again : tie.Need-loop-again Inv-loop μ-loop
-loop-again c = (omega arith, omega arith, search (difference-again, needs))
-
-returns : tie.Need-returns Inv-loop μ-loop
-returns c = search (gathered-done, needs)
-
 pub less-dot-spec : {M : Type 1} → statement M
 less-dot-spec =
     tie.close
     (tie.spec
     Inv-loop
     μ-loop
-    loop-holds
-    add-r
-    mul-r
-    shared-slice-read-r
-    add-r-2
-    mul-r-2
-    shared-slice-read-r-2
-    add-t
-    loop-less
-    loop-again
-    returns)
+    (λ c. (omega arith, omega arith, search (gathered-start, needs)))
+    (λ c. omega arith)
+    (λ c. omega arith)
+    (λ c. omega arith)
+    (λ c. omega arith)
+    (λ c. omega arith)
+    (λ c. omega arith)
+    (λ c. omega arith)
+    (λ c. omega arith)
+    (λ c. (omega arith, omega arith, search (difference-again, needs)))
+    (λ c. search (gathered-done, needs)))

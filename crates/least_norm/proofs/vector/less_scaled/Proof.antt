@@ -14,13 +14,12 @@ use Rattle.least_norm.proofs.vector.less_scaled.Statement.{statement}
 use Rattle.least_norm.proofs.vector.less_scaled.Tie as tie
 
 abbrev Inv-loop : tie.InvT-loop
-Inv-loop x₀ p k f y q lo hi t₀ x t = (lo ≤ t) × (t ≤ hi) × (length x ≡ length x₀) × (x ≡ updated nan (λ (t : ℕ). p + t * k) (λ (t : ℕ) (v : Float). v ⊖ f ⊗ at y (q + t)) lo t x₀)
+Inv-loop x₀ p k f y q lo hi t₀ x t =
+    (lo ≤ t) × (t ≤ hi) × (length x ≡ length x₀)
+    × (x ≡ updated nan (λ (t : ℕ). p + t * k) (λ (t : ℕ) (v : Float). v ⊖ f ⊗ at y (q + t)) lo t x₀)
 
 abbrev μ-loop : tie.MeasureT-loop
 μ-loop x₀ p k f y q lo hi t₀ x t = hi - t
-
-loop-holds : tie.Need-loop-holds Inv-loop μ-loop
-loop-holds c = (omega arith, omega arith, refl, search (updated-start, needs))
 
 mul-x : tie.Need-mul-x Inv-loop μ-loop
 mul-x c = omega (arith, row-end (c .before .before .args .hi) (c .before .before .args .k) (c .before .loop .t) (omega arith))
@@ -32,40 +31,36 @@ mul-x-2 : tie.Need-mul-x-2 Inv-loop μ-loop
 mul-x-2 c = omega (arith, row-end (c .before .before .args .hi) (c .before .before .args .k) (c .before .loop .t) (omega arith))
 
 slice-read-x : tie.Need-slice-read-x Inv-loop μ-loop
-slice-read-x c = omega (arith, row-end (c .before .before .before .args .hi) (c .before .before .before .args .k) (c .before .before .loop .t) (omega arith))
-
-add-x-2 : tie.Need-add-x-2 Inv-loop μ-loop
-add-x-2 c = omega arith
-
-mul-x-3 : tie.Need-mul-x-3 Inv-loop μ-loop
-mul-x-3 c = omega arith
-
-shared-slice-read-x : tie.Need-shared-slice-read-x Inv-loop μ-loop
-shared-slice-read-x c = omega arith
+slice-read-x c =
+    omega (
+      arith,
+      row-end (c .before .before .before .args .hi) (c .before .before .before .args .k)
+          (c .before .before .loop .t) (omega arith),
+    )
 
 mul-x-4 : tie.Need-mul-x-4 Inv-loop μ-loop
-mul-x-4 c = omega (arith, row-end (c .before .before .before .before .args .hi) (c .before .before .before .before .args .k) (c .before .before .before .loop .t) (omega arith))
+mul-x-4 c =
+    let at-loop = c .before .before .before in
+    let at-entry = at-loop .before in
+    omega (arith, row-end (at-entry .args .hi) (at-entry .args .k) (at-loop .loop .t) (omega arith))
 
 add-x-3 : tie.Need-add-x-3 Inv-loop μ-loop
-add-x-3 c = omega (arith, row-end (c .before .before .before .before .args .hi) (c .before .before .before .before .args .k) (c .before .before .before .loop .t) (omega arith))
+add-x-3 c =
+    let at-loop = c .before .before .before in
+    let at-entry = at-loop .before in
+    omega (arith, row-end (at-entry .args .hi) (at-entry .args .k) (at-loop .loop .t) (omega arith))
 
 mul-x-5 : tie.Need-mul-x-5 Inv-loop μ-loop
-mul-x-5 c = omega (arith, row-end (c .before .before .before .before .args .hi) (c .before .before .before .before .args .k) (c .before .before .before .loop .t) (omega arith))
+mul-x-5 c =
+    let at-loop = c .before .before .before in
+    let at-entry = at-loop .before in
+    omega (arith, row-end (at-entry .args .hi) (at-entry .args .k) (at-loop .loop .t) (omega arith))
 
 slice-write-x : tie.Need-slice-write-x Inv-loop μ-loop
-slice-write-x c = omega (arith, row-end (c .before .before .before .before .args .hi) (c .before .before .before .before .args .k) (c .before .before .before .loop .t) (omega arith))
-
-add-t : tie.Need-add-t Inv-loop μ-loop
-add-t c = omega arith
-
-loop-less : tie.Need-loop-less Inv-loop μ-loop
-loop-less c = omega arith
-
-loop-again : tie.Need-loop-again Inv-loop μ-loop
-loop-again c = (omega arith, omega arith, search needs, search (updated-again, needs))
-
-same-length : tie.Need-same-length Inv-loop μ-loop
-same-length c = c .before .loop .inv .2
+slice-write-x c =
+    let at-loop = c .before .before .before in
+    let at-entry = at-loop .before in
+    omega (arith, row-end (at-entry .args .hi) (at-entry .args .k) (at-loop .loop .t) (omega arith))
 
 returns : tie.Need-returns Inv-loop μ-loop
 unfolding less
@@ -77,20 +72,20 @@ less-scaled-spec =
     (tie.spec
     Inv-loop
     μ-loop
-    loop-holds
+    (λ c. (omega arith, omega arith, refl, search (updated-start, needs)))
     mul-x
     add-x
     mul-x-2
     slice-read-x
-    add-x-2
-    mul-x-3
-    shared-slice-read-x
+    (λ c. omega arith)
+    (λ c. omega arith)
+    (λ c. omega arith)
     mul-x-4
     add-x-3
     mul-x-5
     slice-write-x
-    add-t
-    loop-less
-    loop-again
-    same-length
+    (λ c. omega arith)
+    (λ c. omega arith)
+    (λ c. (omega arith, omega arith, search needs, search (updated-again, needs)))
+    (λ c. search needs)
     returns)
