@@ -1,20 +1,19 @@
 -- What the reader accepts is a bend file of the problem that it gives, and every bend file is accepted so.
-use Prim.Native.Nat.{ℕ, suc, _+_, _-_, _*_, _≤_, _<_}
-use mathlib.Core.Path.{_≡_, refl, sym, _∙_, ap}
+use Prim.Native.Nat.{ℕ, suc, _+_, _-_, _*_, _≤_}
+use mathlib.Core.Path.{_≡_, refl, sym, _∙_}
 use mathlib.Core.Bool.{Bool, true, false, not, cond}
 use mathlib.Core.List.{List, [], _∷_}
 use native.Mathlib.Omega.{arith}
 use native.Mathlib.Nat.{mul-le-mul}
 use lib.Dec.{leb, eqb}
-use lib.ListN.{length, take, drop, getD}
+use lib.ListN.{length, take, drop}
 use lib.Seq.{drop-cons}
-use borrow.Author.Tests.{le-leb, leb-true, eq-eqb, eqb-true, eqb-false}
+use borrow.Author.Tests.{le-leb, leb-true, eq-eqb, eqb-true}
 use Rattle.loops.proofs.Every.{both-true}
-use Rattle.bend_file.specs.Little.{byte, u16, u32}
+use Rattle.bend_file.specs.Little.{byte}
 use Rattle.bend_file.specs.Trailer.{start, rows, coords, count, sized, marked, small, Small, wanted, counted, reaching, number, shape}
-use Rattle.bend_file.specs.Read.{Problem, problem, Answer, refused, accepted, answer, Room}
+use Rattle.bend_file.specs.Read.{Problem, problem, refused, accepted, answer, Room}
 use Rattle.bend_file.specs.Format.{BendFile}
-use Rattle.bend_file.specs.declared.trailer.Shape.{Shape}
 use Rattle.bend_file.specs.declared.trailer.Shape.the-variants.{Refused, At}
 use Rattle.bend_file.proofs.Rules.{small-is}
 

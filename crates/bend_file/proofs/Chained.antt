@@ -1,16 +1,17 @@
--- What the reader of chains accepts is a chained bend file of the steps that it gives, and every chained bend file is accepted so.
+-- What the reader of chains accepts is a chained bend file of the steps that it gives, and every chained bend file is
+-- accepted so.
 use Prim.Native.Nat.{ℕ, zero, suc, _+_, _-_, _*_, _≤_, _<_}
 use mathlib.Core.Path.{_≡_, refl, sym, _∙_, ap}
 use mathlib.Core.Bool.{Bool, true, false, cond}
 use mathlib.Core.List.{List, [], _∷_, _++_, map, append-assoc, map-append}
 use native.Mathlib.Omega.{arith}
-use native.Mathlib.Nat.{mul-le-mul, add-zero, add-suc}
+use native.Mathlib.Nat.{mul-le-mul}
 use lib.Dec.{eqb}
 use lib.ListN.{length, getD, length-append}
 use borrow.Author.Tests.{eqb-true, eqb-false}
 use Rattle.loops.proofs.Turns.{turns-keep}
-use Rattle.bend_file.specs.Little.{u16, u32}
-use Rattle.bend_file.specs.Trailer.{start, rows, coords, count, wanted}
+use Rattle.bend_file.specs.Little.{u32}
+use Rattle.bend_file.specs.Trailer.{start, rows, coords, count}
 use Rattle.bend_file.specs.Read.{Problem, problem}
 use Rattle.bend_file.specs.Chain as def
 use Rattle.bend_file.specs.Chain.{Verdict, refused, taken, Walk, at, ended}

@@ -9,7 +9,6 @@ use lib.Ieee.{Float}
 use lib.ListN.{length, getD, drop, replicate, List·getD-append}
 use borrow.Author.Tests.{le-leb, lt-leb, leb-true, leb-false}
 use Rattle.loops.proofs.Every.{both-true}
-use Rattle.bend_file.specs.Little.{over}
 use Rattle.bend_file.specs.Trailer.{start, rows, coords, wanted}
 use Rattle.bend_file.specs.Read.{Problem, problem, accepted, Lent, filled, Room}
 use Rattle.bend_file.specs.Chain as def
@@ -17,7 +16,6 @@ use Rattle.bend_file.specs.Chain.{Verdict, refused, taken, told, Step, p
 use Rattle.bend_file.specs.Private.{Kept, placed, place}
 use Rattle.bend_file.specs.declared.chain.Chain.{Chain}
 use Rattle.bend_file.specs.declared.chain.StepReading.the-variants as read
-use Rattle.bend_file.specs.declared.step.Place.{Place}
 use Rattle.bend_file.specs.declared.step.Place.the-variants.{Refused, Past, At}
 use Rattle.bend_file.proofs.Chained.{Fine, fine}
 

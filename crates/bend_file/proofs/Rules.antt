@@ -1,17 +1,16 @@
 -- What the reader's tests, one after another, say of the file.
 use Prim.Native.Nat.{ℕ, suc, _+_, _-_, _*_, _≤_, _<_}
-use mathlib.Core.Path.{_≡_, refl, sym, _∙_}
+use mathlib.Core.Path.{_≡_, _∙_}
 use mathlib.Core.Bool.{Bool, true, false, not, cond, and-false}
 use mathlib.Core.List.{List}
 use native.Mathlib.Omega.{arith}
 use native.Mathlib.Nat.{mul-le-mul}
 use lib.Dec.{leb, eqb}
 use lib.ListN.{length}
-use borrow.Author.Tests.{le-leb, lt-leb, leb-true, eq-eqb, ne-eqb, eqb-true}
+use borrow.Author.Tests.{le-leb, lt-leb, leb-true, eq-eqb, ne-eqb}
 use Rattle.loops.proofs.Every.{both-true}
 use Rattle.bend_file.specs.Little.{u16, u32}
 use Rattle.bend_file.specs.Trailer.{start, rows, coords, count, sized, marked, small, Small, wanted, counted, reaching, number, shape}
-use Rattle.bend_file.specs.declared.trailer.Shape.{Shape}
 use Rattle.bend_file.specs.declared.trailer.Shape.the-variants.{Refused, At}
 
 pub small-is : (n c : ℕ) → small n c ≡ true → Small n c
@@ -24,6 +23,13 @@ small-is n c e =
 -- the product that rule 3 tests does not wrap
 pub moving-fits : (n c : ℕ) → n < 65536 → c < 65536 → c * n ≤ 65536 * 65536
 moving-fits n c h k = mul-le-mul {n₁ = c} {m₁ = n} {n₂ = 65536} {m₂ = 65536} (omega arith) (omega arith)
+
+-- what the reader found where rules 1 to 3 are kept: n rows, c coords, the start s and the count k
+pub record Kept (f : List ℕ) (n c s k : ℕ) : Type 0 where
+  pub number-is : number f ≡ cond (not (eqb k (wanted n c))) 4 (cond (not (eqb (s + 8 * k + 16) (length f))) 4 0)
+  pub rows-is : n ≡ u16 f (length f - 12)
+  pub coords-is : c ≡ u16 f (length f - 10)
+  pub start-is : s ≡ u32 f (length f - 16)
 
 -- ---- the rules in their order
 
@@ -53,7 +59,8 @@ module _ (f : List ℕ) where
     unfolding number
     unmarked h = refused 1 (rw (in-size, ← is-m, h))
 
-    module _ (h : m ≡ true) (n c : ℕ) (is-n : n ≡ u16 f (end - 12)) (is-c : c ≡ u16 f (end - 10)) (b : Bool) (is-b : b ≡ small n c) where
+    module _ (h : m ≡ true) (n c : ℕ) (is-n : n ≡ u16 f (end - 12)) (is-c : c ≡ u16 f (end - 10)) (b : Bool)
+        (is-b : b ≡ small n c) where
       to-rule-3 : number f ≡ cond (not b) 3 (cond (not (counted f end)) 4 (cond (not (reaching f end)) 4 0))
       unfolding number rows coords
       to-rule-3 = rw (in-size, ← is-m, h, is-b, is-n, is-c)
@@ -61,17 +68,23 @@ module _ (f : List ℕ) where
       pub large : b ≡ false → Refused 3 ≡ shape f
       large e = refused 2 (to-rule-3 ∙ rw e)
 
-      module _ (e : b ≡ true) (s k : ℕ) (is-s : s ≡ u32 f (end - 16)) (is-k : k ≡ u32 f (end - 8)) where
-        to-rule-4 : number f ≡ cond (not (eqb k (wanted n c))) 4 (cond (not (eqb (s + 8 * k + 16) end)) 4 0)
-        unfolding counted reaching start rows coords count
-        to-rule-4 = to-rule-3 ∙ rw (e, is-n, is-c, is-s, is-k)
+      pub kept : b ≡ true → (s k : ℕ) → s ≡ u32 f (end - 16) → k ≡ u32 f (end - 8) → Kept f n c s k
+      unfolding counted reaching start rows coords count
+      kept e s k is-s is-k = record {
+        number-is = to-rule-3 ∙ rw (e, is-n, is-c, is-s, is-k);
+        rows-is = is-n;
+        coords-is = is-c;
+        start-is = is-s;
+      }
 
-        pub miscounted : (k ≡ wanted n c → ⊥) → Refused 4 ≡ shape f
-        miscounted g = refused 3 (to-rule-4 ∙ rw (ne-eqb k (wanted n c) g))
+  module _ {n c s k : ℕ} (r : Kept f n c s k) where
+    pub miscounted : (k ≡ wanted n c → ⊥) → Refused 4 ≡ shape f
+    miscounted g = refused 3 (r .number-is ∙ rw (ne-eqb k (wanted n c) g))
 
-        pub misplaced : (s + 8 * k + 16 ≡ end → ⊥) → k ≡ wanted n c → Refused 4 ≡ shape f
-        misplaced g i = refused 3 (to-rule-4 ∙ rw (eq-eqb k (wanted n c) i, ne-eqb (s + 8 * k + 16) end g))
+    pub misplaced : (s + 8 * k + 16 ≡ end → ⊥) → k ≡ wanted n c → Refused 4 ≡ shape f
+    misplaced g i = refused 3 (r .number-is ∙ rw (eq-eqb k (wanted n c) i, ne-eqb (s + 8 * k + 16) end g))
 
-        pub shaped : s + 8 * k + 16 ≡ end → k ≡ wanted n c → At s n c ≡ shape f
-        unfolding shape start rows coords
-        shaped g i = rw (to-rule-4, eq-eqb k (wanted n c) i, eq-eqb (s + 8 * k + 16) end g, is-s, is-n, is-c)
+    pub shaped : s + 8 * k + 16 ≡ end → k ≡ wanted n c → At s n c ≡ shape f
+    unfolding shape start rows coords
+    shaped g i =
+        rw (r .number-is, eq-eqb k (wanted n c) i, eq-eqb (s + 8 * k + 16) end g, r .start-is, r .rows-is, r .coords-is)

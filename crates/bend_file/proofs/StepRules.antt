@@ -1,6 +1,6 @@
 -- What the tests of a step, one after another, say of it; and a step that keeps its rules, both ways.
-use Prim.Native.Nat.{ℕ, suc, _+_, _-_, _*_, _≤_, _<_}
-use mathlib.Core.Path.{_≡_, refl, sym, _∙_}
+use Prim.Native.Nat.{ℕ, _+_, _-_, _*_, _≤_, _<_}
+use mathlib.Core.Path.{_≡_, _∙_}
 use mathlib.Core.Bool.{Bool, true, false, not, cond, and-false}
 use mathlib.Core.List.{List}
 use native.Mathlib.Omega.{arith}
@@ -9,7 +9,7 @@ use lib.ListN.{length}
 use borrow.Author.Tests.{le-leb, lt-leb, leb-true, eq-eqb, ne-eqb, eqb-true}
 use Rattle.loops.proofs.Every.{both-true}
 use Rattle.bend_file.specs.Little.{u16, u32}
-use Rattle.bend_file.specs.Trailer.{start, rows, coords, count, marked, small, Small, wanted, counted}
+use Rattle.bend_file.specs.Trailer.{start, rows, coords, count, marked, small, wanted, counted}
 use Rattle.bend_file.specs.Chain.{span, linkAt, link, inside, preceded, backward, reachingFrom, linkNumber, fieldsNumber, stepNumber}
 use Rattle.bend_file.specs.Private.{Kept, placed}
 use Rattle.bend_file.specs.declared.step.Place.the-variants.{At}

@@ -1,6 +1,7 @@
--- A run of values, as the loop that fills a buffer makes it: at the start, after one more value, at the end. And what a buffer filled at its front has.
+-- A run of values, as the loop that fills a buffer makes it: at the start, after one more value, at the end. And what a
+-- buffer filled at its front has.
 use Prim.Native.Nat.{ℕ, _+_, _*_, _≤_, _<_}
-use mathlib.Core.Path.{_≡_, refl, sym, _∙_, ap}
+use mathlib.Core.Path.{_≡_, refl, _∙_}
 use mathlib.Core.List.{List, _++_}
 use native.Mathlib.Omega.{arith}
 use lib.Ieee.{Float}

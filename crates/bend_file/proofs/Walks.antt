@@ -1,17 +1,15 @@
 -- The walk from step to step, as the loop that makes it goes: at the start, after one more step, and each way it ends.
 use Prim.Native.Nat.{ℕ, suc, _+_, _-_, _≤_, _<_}
 use mathlib.Core.Path.{_≡_, refl, sym, _∙_, ap}
-use mathlib.Core.Bool.{Bool, true, false, cond}
 use mathlib.Core.List.{List, [], _∷_, _++_}
 use native.Mathlib.Omega.{arith}
 use native.Mathlib.Numerals.{add-one}
-use lib.Dec.{eqb}
 use lib.ListN.{length, take, drop, set, replicate, length-take, length-set, length-replicate, take-append-drop}
 use lib.Seq.{take-suc-set, drop-set-lt, drop-drop}
 use borrow.Author.Tests.{eq-eqb, ne-eqb}
 use Rattle.loops.proofs.Turns.{turns-start, turns-step, stays}
 use Rattle.bend_file.specs.Little.{over}
-use Rattle.bend_file.specs.Chain.{Verdict, refused, taken, linkAt, link, stepNumber, Walk, at, ended, follow, step, turn, walked, settled, ends, told}
+use Rattle.bend_file.specs.Chain.{Verdict, refused, taken, linkAt, link, stepNumber, at, ended, follow, step, turn, walked, settled, ends, told}
 use Rattle.bend_file.specs.Private.{Kept}
 use Rattle.bend_file.specs.declared.chain.Chain.{Chain}
 use Rattle.bend_file.proofs.StepRules.{kept}

@@ -1,5 +1,6 @@
--- Document 02's chained bend file: the rules of one step, the walk from step to step, and the steps that a file holds. Definitions only. A step is the bytes from
--- the linked offset to `end`, where its trailer ends; the fields and the rules 2, 3 and 4's count rule are those of Trailer.antt.
+-- Document 02's chained bend file: the rules of one step, the walk from step to step, and the steps that a file holds.
+-- Definitions only. A step is the bytes from the linked offset to `end`, where its trailer ends; the fields and the
+-- rules 2, 3 and 4's count rule are those of Trailer.antt.
 use Prim.Native.Nat.{ℕ, zero, suc, _+_, _-_, _*_, _≤_}
 use mathlib.Core.Path.{_≡_}
 use mathlib.Core.Bool.{Bool, not, cond, _&&_}
@@ -51,7 +52,8 @@ backward f end = leb (link f end) (linkAt f end)
 unfoldable pub reachingFrom : List ℕ → ℕ → Bool
 reachingFrom f end = eqb (link f end + start f end + 8 * count f end + 16) end
 
--- the number of the first rule that the step breaks; 0 where it keeps them all. First those of the link, then with those of the fields before them, then all
+-- the number of the first rule that the step breaks; 0 where it keeps them all. First those of the link, then with
+-- those of the fields before them, then all
 unfoldable pub linkNumber : List ℕ → ℕ → ℕ
 linkNumber f end =
     cond (not (preceded f end)) 14
@@ -137,7 +139,9 @@ unfoldable pub wide : ℕ → ℕ → ℕ → ℕ → ℕ → ℕ → ℕ → Bo
 wide w uFree lo hi scale nu motion = leb 1024 w && leb 32 uFree && leb 32 lo && leb 32 hi && leb 32 scale && leb 32 nu && leb 2048 motion
 
 abbrev pub roomy : Lent → Bool
-roomy b = wide (length (b .w)) (length (b .uFree)) (length (b .lo)) (length (b .hi)) (length (b .scale)) (length (b .nu)) (length (b .motion))
+roomy b =
+    wide (length (b .w)) (length (b .uFree)) (length (b .lo)) (length (b .hi)) (length (b .scale)) (length (b .nu))
+    (length (b .motion))
 
 unfoldable pub picked : Verdict (List Problem) → ℕ → Verdict Step
 picked (refused n) k = refused n

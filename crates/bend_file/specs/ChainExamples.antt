@@ -1,5 +1,6 @@
--- Worked chains, as one table that the checker computes: each rule kept and broken at its limit, and which rule comes first. The numbers are those of the replayed files in crates/replay_chains/data, where
--- the chains too large to compute here stand too.
+-- Worked chains, as one table that the checker computes: each rule kept and broken at its limit, and which rule comes
+-- first. The numbers are those of the replayed files in crates/replay_chains/data, where the chains too large to
+-- compute here stand too.
 use mathlib.Core.Path.{_≡_, refl}
 use mathlib.Core.Bool.{Bool, true, false, _&&_}
 use mathlib.Core.List.{List, [], _∷_, _++_, map}
@@ -60,7 +61,10 @@ numbered (refused n) k = eqb n k
 numbered (taken l) k = false
 
 passes : Case → Bool
-unfolding def.pull def.problems def.ends def.settled def.walked def.turn def.step def.follow def.stepNumber def.fieldsNumber def.linkNumber def.inside def.preceded def.backward def.reachingFrom def.link def.linkAt def.stepProblem problem marked small counted start rows coords count value values u16 u32 u64 tab turns ofBits toBits
+unfolding
+    def.pull def.problems def.ends def.settled def.walked def.turn def.step def.follow def.stepNumber def.fieldsNumber
+    def.linkNumber def.inside def.preceded def.backward def.reachingFrom def.link def.linkAt def.stepProblem problem
+    marked small counted start rows coords count value values u16 u32 u64 tab turns ofBits toBits
 passes (gives f b) = reads (def.pull f) b
 passes (gets f k) = numbered (def.pull f) k
 
@@ -147,7 +151,9 @@ few =
     gives (step 0 (0xFFF0000000000001 ∷ []) 4 0 0 1) (none 0 NaN ∷ []) ∷ []
 
 table : every few ≡ true
-unfolding every few passes reads sames numbered same bits two four eight patterns mark trailer example exampleBits none free step ex bare torn one
+unfolding
+    every few passes reads sames numbered same bits two four eight patterns mark trailer example exampleBits none free
+    step ex bare torn one
 table = refl
 
 -- around 40 steps, and past the old limit of 65,536 bytes
@@ -169,5 +175,7 @@ many =
     gives (replicate 65509 0x11 ++ bare 0 65513 0) (one 0 ∷ []) ∷ []
 
 long-table : every many ≡ true
-unfolding every many passes reads sames numbered same bits two four eight patterns mark trailer example exampleBits none free step ex bare rising torn one falling
+unfolding
+    every many passes reads sames numbered same bits two four eight patterns mark trailer example exampleBits none free
+    step ex bare rising torn one falling
 long-table = refl

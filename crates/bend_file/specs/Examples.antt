@@ -1,4 +1,5 @@
--- Worked files, as one table that the checker computes: document 01's example, and each rule kept and broken at its limit.
+-- Worked files, as one table that the checker computes: document 01's example, and each rule kept and broken at its
+-- limit.
 use mathlib.Core.Path.{_≡_, refl}
 use mathlib.Core.Bool.{Bool, true, false, _&&_}
 use mathlib.Core.List.{List, [], _∷_, _++_}
@@ -109,7 +110,18 @@ unfoldable pub example : List ℕ
 example = patterns (2ᵇ ∷ −4ᵇ ∷ 0 ∷ ∞ᵇ ∷ 1ᵇ ∷ 0 ∷ 1ᵇ ∷ 0 ∷ [])
 
 unfoldable pub exampleBits : Bits
-exampleBits = record { n = 1; c = 1; w = 2ᵇ ∷ []; uFree = −4ᵇ ∷ []; lo = 0 ∷ []; hi = ∞ᵇ ∷ []; scale = 1ᵇ ∷ []; nu = 0 ∷ []; motion = 1ᵇ ∷ []; tolerance = 0 }
+exampleBits = record {
+  n = 1;
+  c = 1;
+  w = 2ᵇ ∷ [];
+  uFree = −4ᵇ ∷ [];
+  lo = 0 ∷ [];
+  hi = ∞ᵇ ∷ [];
+  scale = 1ᵇ ∷ [];
+  nu = 0 ∷ [];
+  motion = 1ᵇ ∷ [];
+  tolerance = 0;
+}
 
 -- two rows and two coordinates, every value another pattern: which value stands where
 ramp : Bits
@@ -139,7 +151,9 @@ cases =
     -- document 01's example, and with free bytes before start
     gives (example ++ trailer 0 1 1 8) exampleBits ∷
     gives (free 3 ++ example ++ trailer 3 1 1 8) exampleBits ∷
-    gives (patterns (1 ∷ 2 ∷ 3 ∷ 4 ∷ 5 ∷ 6 ∷ 7 ∷ 8 ∷ 9 ∷ 10 ∷ 11 ∷ 12 ∷ 13 ∷ 14 ∷ 15 ∷ 16 ∷ 17 ∷ 18 ∷ 0x8877665544332211 ∷ []) ++ trailer 0 2 2 19) ramp ∷
+    gives
+    (patterns (1 ∷ 2 ∷ 3 ∷ 4 ∷ 5 ∷ 6 ∷ 7 ∷ 8 ∷ 9 ∷ 10 ∷ 11 ∷ 12 ∷ 13 ∷ 14 ∷ 15 ∷ 16 ∷ 17 ∷ 18 ∷ 0x8877665544332211 ∷ [])
+    ++ trailer 0 2 2 19) ramp ∷
     -- no rows, with any number of coordinates
     gives (eight 1ᵇ ++ trailer 0 0 0 1) (none 0 1ᵇ) ∷
     gives (free 1 ++ eight 1ᵇ ++ trailer 1 0 65535 1) (none 65535 1ᵇ) ∷

@@ -1,5 +1,6 @@
--- Document 01's bend file and document 02's chained one, sentence by sentence: which bytes are a file of which problem, or of which steps. That the readers' answers are these and
--- nothing else is proved in proofs/Accepted.antt and proofs/Chained.antt.
+-- Document 01's bend file and document 02's chained one, sentence by sentence: which bytes are a file of which problem,
+-- or of which steps. That the readers' answers are these and nothing else is proved in proofs/Accepted.antt and
+-- proofs/Chained.antt.
 use Prim.Native.Nat.{ℕ, _+_, _-_, _*_, _≤_}
 use mathlib.Core.Path.{_≡_}
 use mathlib.Core.List.{List, [], _∷_}
@@ -53,7 +54,8 @@ pub record StepFile (f : List ℕ) (end link start count : ℕ) (p : Problem) : 
 -- The steps from one that ends at `end` back to one with a link of 0: where each ends, and its problem, newest first.
 pub data Steps (f : List ℕ) : ℕ → List ℕ → List Problem → Type 0 where
   first : {end start count : ℕ} {p : Problem} → StepFile f end 0 start count p → Steps f end (end ∷ []) (p ∷ [])
-  after : {end link start count : ℕ} {p : Problem} {ends : List ℕ} {l : List Problem} → StepFile f end link start count p → Steps f link ends l → Steps f end (end ∷ ends) (p ∷ l)
+  after : {end link start count : ℕ} {p : Problem} {ends : List ℕ} {l : List Problem}
+      → StepFile f end link start count p → Steps f link ends l → Steps f end (end ∷ ends) (p ∷ l)
 
 -- A chained bend file.
 pub record ChainFile (f : List ℕ) (ends : List ℕ) (l : List Problem) : Type 0 where

@@ -1,4 +1,5 @@
--- Words of private contracts. No promise of a public call stands on them; those are in Read.antt and Chain.antt. Definitions only.
+-- Words of private contracts. No promise of a public call stands on them; those are in Read.antt and Chain.antt.
+-- Definitions only.
 use Prim.Native.Nat.{ℕ, _+_, _*_, _≤_}
 use mathlib.Core.Path.{_≡_}
 use mathlib.Core.Bool.{true, cond}

@@ -45,7 +45,9 @@ pub data Answer : Type 0 where
   accepted : Problem → Answer
 
 unfoldable pub answer : List ℕ → Answer
-answer f = let end = length f in cond (eqb (number f) 0) (accepted (problem f (start f end) (rows f end) (coords f end))) (refused (number f))
+answer f =
+    let end = length f in
+    cond (eqb (number f) 0) (accepted (problem f (start f end) (rows f end) (coords f end))) (refused (number f))
 
 -- ---- what the call gives back
 

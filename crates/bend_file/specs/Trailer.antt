@@ -1,4 +1,5 @@
--- The trailer of a bend file and document 01's rules. Definitions only. `end` is where the trailer ends: in a file by itself, the file's length.
+-- The trailer of a bend file and document 01's rules. Definitions only. `end` is where the trailer ends: in a file by
+-- itself, the file's length.
 use Prim.Native.Nat.{ℕ, _+_, _-_, _*_, _≤_}
 use mathlib.Core.Bool.{Bool, not, cond, _&&_}
 use mathlib.Core.List.{List}

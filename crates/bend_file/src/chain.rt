@@ -1,20 +1,22 @@
-// The reader of chained bend files: where the steps of a pull are, and the problem of one of them. Each call walks the whole chain, newest step first, so that a refusal at any step is the whole
-// file's. The calls are total, and their contracts are equations with the definitions in specs/Chain.antt.
+// The reader of chained bend files: where the steps of a pull are, and the problem of one of them. Each call walks the
+// whole chain, newest step first, so that a refusal at any step is the whole file's. The calls are total, and their
+// contracts are equations with the definitions in specs/Chain.antt.
 ghost use mathlib.Core.Path.{_≡_};
 ghost use Rattle.bend_file.specs.Chain as def;
 ghost use Rattle.bend_file.specs.Private as private;
 use crate::parts;
 use crate::step;
 
-// The steps of a chained bend file, newest first: how many, and where the trailer of each ends, with 0 past them. Where the file is refused, its number, and 0 everywhere else.
+// The steps of a chained bend file, newest first: how many, and where the trailer of each ends, with 0 past them. Where
+// the file is refused, its number, and 0 everywhere else.
 pub struct Chain {
     pub number: u32,
     pub count: usize,
     pub ends: [usize; 40],
 }
 
-// What a step gives: document 02's number for the whole file, or the step's rows, coordinates and motion tolerance, its other values being in the lent buffers; or that the file has no such
-// step, which is no refusal.
+// What a step gives: document 02's number for the whole file, or the step's rows, coordinates and motion tolerance, its
+// other values being in the lent buffers; or that the file has no such step, which is no refusal.
 pub enum StepReading {
     Refused(u32),
     Problem {
@@ -99,9 +101,10 @@ fn wide(
         & (2048 <= motion)
 }
 
-// Reads step number `step`, counted from the newest, which is 0. With n rows, W is the first n * n values of `w`, row by row; u_free, lo, hi, scale and nu are the first n of theirs; motion is
-// the first coords * n of `motion`. What lies past them stays, and so does everything where the file is refused or has no such step. `w` has at least 1,024 values, `motion` 2,048 and each
-// other buffer 32; shorter ones get 10 at once.
+// Reads step number `step`, counted from the newest, which is 0. With n rows, W is the first n * n values of `w`, row
+// by row; u_free, lo, hi, scale and nu are the first n of theirs; motion is the first coords * n of `motion`. What lies
+// past them stays, and so does everything where the file is refused or has no such step. `w` has at least 1,024 values,
+// `motion` 2,048 and each other buffer 32; shorter ones get 10 at once.
 pub fn read_step(
     file: &[u8],
     step: usize,

@@ -18,7 +18,8 @@ pub fn value(file: &[u8], start: usize, number: usize) -> f64
 // Fills the front of `out` with `count` values, from the value number `first` on, where value 0 is at `start`.
 pub fn fill(file: &[u8], start: usize, first: usize, count: usize, out: &mut [f64])
     requires { ⌜ (start + 8 * (first + count) ≤ length (now file)) × (count ≤ length (now out)) ⌝ }
-    ensures { λ r. ⌜ now (out .exit) ≡ def.over (def.values (now (file .entry)) start first count) (now (out .entry)) ⌝ }
+    ensures { λ r. ⌜ now (out .exit)
+        ≡ def.over (def.values (now (file .entry)) start first count) (now (out .entry)) ⌝ }
 {
     let mut i = 0;
     while i < count {
@@ -77,7 +78,8 @@ pub fn cells(
         × (now (w .exit) ≡
         def.over (def.values (now (file .entry)) start 0 (rows * rows)) (now (w .entry)))
         × (now (motion .exit) ≡
-        def.over (def.values (now (file .entry)) start (rows * rows + 5 * rows) (coords * rows)) (now (motion .entry))) ⌝ }
+        def.over (def.values (now (file .entry)) start (rows * rows + 5 * rows) (coords * rows))
+        (now (motion .entry))) ⌝ }
 {
     let square = rows * rows;
     fill(file, start, 0, square, w);
@@ -103,8 +105,24 @@ pub fn problem(
 ) -> f64
     requires { ⌜ reads.Room (now file) start rows coords ⌝ }
     ensures { λ r. ⌜ reads.Filled (reads.problem (now (file .entry)) start rows coords) r
-        (record { w = now (w .entry); uFree = now («u_free» .entry); lo = now (lo .entry); hi = now (hi .entry); scale = now (scale .entry); nu = now (nu .entry); motion = now (motion .entry) })
-        (record { w = now (w .exit); uFree = now («u_free» .exit); lo = now (lo .exit); hi = now (hi .exit); scale = now (scale .exit); nu = now (nu .exit); motion = now (motion .exit) }) ⌝ }
+        (record {
+          w = now (w .entry);
+          uFree = now («u_free» .entry);
+          lo = now (lo .entry);
+          hi = now (hi .entry);
+          scale = now (scale .entry);
+          nu = now (nu .entry);
+          motion = now (motion .entry);
+        })
+        (record {
+          w = now (w .exit);
+          uFree = now («u_free» .exit);
+          lo = now (lo .exit);
+          hi = now (hi .exit);
+          scale = now (scale .exit);
+          nu = now (nu .exit);
+          motion = now (motion .exit);
+        }) ⌝ }
 {
     boxes(file, start, rows * rows, rows, u_free, lo, hi, scale, nu);
     cells(file, start, rows, coords, w, motion)

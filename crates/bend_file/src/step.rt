@@ -1,4 +1,5 @@
-// One step of a chained bend file: document 02's rules in their order, and where its values are. `end` is where its trailer ends.
+// One step of a chained bend file: document 02's rules in their order, and where its values are. `end` is where its
+// trailer ends.
 ghost use mathlib.Core.Path.{_≡_};
 ghost use Prim.Native.Nat.{_≤_};
 ghost use lib.ListN.{length};
@@ -53,7 +54,8 @@ fn fields_number(file: &[u8], end: usize) -> u32
     link_number(file, end, count)
 }
 
-// The same from 14 on. The length rule needs no guard against a start that only wraps: it counts from a link that is before the numbers.
+// The same from 14 on. The length rule needs no guard against a start that only wraps: it counts from a link that is
+// before the numbers.
 fn link_number(file: &[u8], end: usize, count: usize) -> u32
     requires { ⌜ (16 ≤ end) × (end ≤ length (now file))
         × (count ≤ 4294967295) × (count ≡ fields.count (now file) end) ⌝ }

@@ -402,8 +402,7 @@ module _ (m n : ℕ) (a b x : List Float) (room : ℕ) where
         eq-eqb (length a) (m * n) e,
         eq-eqb (length b) m f,
         eq-eqb (length x) n k,
-        lt-leb
-            1056 room l,
+        lt-leb 1056 room l,
       )
 
   right-sizes : m ≤ 32 → n ≤ 32 → length a ≡ m * n → length b ≡ m → length x ≡ n → 1056 ≤ room
@@ -416,8 +415,7 @@ module _ (m n : ℕ) (a b x : List Float) (room : ℕ) where
         eq-eqb (length a) (m * n) e,
         eq-eqb (length b) m f,
         eq-eqb (length x) n k,
-        le-leb
-            1056 room l,
+        le-leb 1056 room l,
       )
 
   pub refuse : (w : List Float) → promise.reply m n a b x room ≡ promise.refused 12

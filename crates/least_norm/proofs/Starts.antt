@@ -46,16 +46,14 @@ module _ (perm : List ℕ) (y x z : List Float) (same : length x ≡ length z) w
           rw (
             r,
             getD-set-same (turns k x put) (getD perm k 0) (at y k) nan (omega (arith, put-long x k)),
-            getD-set-same
-                (turns k z put) (getD perm k 0) (at y k) nan (omega (arith, put-long z k)),
+            getD-set-same (turns k z put) (getD perm k 0) (at y k) nan (omega (arith, put-long z k)),
           )
       go false q before =
           let r = eqb-false p (getD perm k 0) q in
           let u : j ≡ k → ⊥ = λ s. r (sym (ap (λ (i : ℕ). getD perm i 0) (sym s) ∙ e)) in
           rw (
             getD-set-other (turns k x put) (getD perm k 0) p (at y k) nan r,
-            getD-set-other (turns k z put)
-                (getD perm k 0) p (at y k) nan r,
+            getD-set-other (turns k z put) (getD perm k 0) p (at y k) nan r,
           ) (before (omega arith))
 
   put-all : (n : ℕ) → length x ≡ n → private.Onto n perm → turns n x put ≡ turns n z put
@@ -106,8 +104,7 @@ module _ (n : ℕ) (a b x z : List Float) (lx : length x ≡ n) (lz : length z �
       (λ (q : i < p).
       rw (
         getD-set-other (turns d x fill) i p (entry (turns d x fill) i) nan (λ s. omega arith),
-        getD-set-other
-            (turns d z fill) i p (entry (turns d z fill) i) nan (λ s. omega arith),
+        getD-set-other (turns d z fill) i p (entry (turns d z fill) i) nan (λ s. omega arith),
       ) (before p (omega arith) u))
       (eq-or-lt-of-le l)
 

@@ -6,32 +6,37 @@ use borrow.Author.Needs.{needs}
 use Rattle.bend_file.proofs.read.Statement.{statement}
 use Rattle.bend_file.proofs.read.Tie as tie
 
-shape-of-requires : tie.Need-shape-of-requires
-shape-of-requires c κs = search needs
-
-enum-known-number : tie.Need-enum-known-number
-enum-known-number c = search needs
-
-enum-known-start : tie.Need-enum-known-start
-enum-known-start c = search needs
-
 problem-requires : tie.Need-problem-requires
-problem-requires c κs = room _ _ _ _ (sym (c .before .before .before .before .before .before .before .before .start .given .1) ∙ c .before .before .before .before .before .before .before .before .before .before .shape-of .ensures)
+problem-requires c κs =
+    let at-start = c .before .before .before .before .before .before .before .before in
+    let at-shape-of = at-start .before .before in
+    room _ _ _ _ (sym (at-start .start .given .1) ∙ at-shape-of .shape-of .ensures)
 
 returns : tie.Need-returns
-returns c = record { result = rw (answer-refused _ _ (sym (c .before .number .given .1) ∙ c .before .before .before .shape-of .ensures)); buffers = rw (answer-refused _ _ (sym (c .before .number .given .1) ∙ c .before .before .before .shape-of .ensures)) }
+returns c =
+    let at-number = c .before in
+    let at-shape-of = at-number .before .before in
+    let is-refused = answer-refused _ _ (sym (at-number .number .given .1) ∙ at-shape-of .shape-of .ensures) in
+    record { result = rw is-refused; buffers = rw is-refused }
 
 returns-2 : tie.Need-returns-2
 unfolding def.problem
-returns-2 c = record { result = rw (answer-accepted _ _ _ _ (sym (c .before .before .before .before .before .before .before .before .before .start .given .1) ∙ c .before .before .before .before .before .before .before .before .before .before .before .shape-of .ensures), ← c .problem .ensures .tolerance); buffers = rw (answer-accepted _ _ _ _ (sym (c .before .before .before .before .before .before .before .before .before .start .given .1) ∙ c .before .before .before .before .before .before .before .before .before .before .before .shape-of .ensures)) (c .problem .ensures .buffers) }
+returns-2 c =
+    let at-start = c .before .before .before .before .before .before .before .before .before in
+    let at-shape-of = at-start .before .before in
+    let is-accepted = answer-accepted _ _ _ _ (sym (at-start .start .given .1) ∙ at-shape-of .shape-of .ensures) in
+    record {
+      result = rw (is-accepted, ← c .problem .ensures .tolerance);
+      buffers = rw is-accepted (c .problem .ensures .buffers);
+    }
 
 pub read-spec : {M : Type 1} → statement M
 read-spec =
     tie.close
     (tie.spec
-    shape-of-requires
-    enum-known-number
-    enum-known-start
+    (λ c κs. search needs)
+    (λ c. search needs)
+    (λ c. search needs)
     problem-requires
     returns
     returns-2)

@@ -24,8 +24,7 @@ loop-holds c = (
   search needs,
   search needs,
   search needs,
-  reduced-from _ _ _ _ _
-      (c .before .before .before .before .pre .3),
+  reduced-from _ _ _ _ _ (c .before .before .before .before .pre .3),
   search needs,
 )
 

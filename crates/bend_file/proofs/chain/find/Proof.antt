@@ -6,33 +6,37 @@ use borrow.Author.Needs.{needs}
 use Rattle.bend_file.proofs.chain.find.Statement.{statement}
 use Rattle.bend_file.proofs.chain.find.Tie as tie
 
-steps-requires : tie.Need-steps-requires
-steps-requires c κs = search needs
-
-returns : tie.Need-returns
-returns c = found-refused _ _ _ (c .before .steps .ensures) (c .if1 .taken)
-
 returns-2 : tie.Need-returns-2
 returns-2 c = found-past _ _ _ (c .before .before .steps .ensures) (c .before .if1 .left) (c .if2 .taken)
 
 mul-locate : tie.Need-mul-locate
-mul-locate c = omega (arith, (found-at _ _ _ (c .before .before .before .steps .ensures) (c .before .before .if1 .left) (c .before .if2 .left)) .fits)
+mul-locate c =
+    let at-if1 = c .before .before in
+    omega (arith, found-at _ _ _ (at-if1 .before .steps .ensures) (at-if1 .if1 .left) (c .before .if2 .left) .fits)
 
 array-read-locate : tie.Need-array-read-locate
-array-read-locate c = (found-at _ _ _ (c .before .before .before .steps .ensures) (c .before .before .if1 .left) (c .before .if2 .left)) .fits
+array-read-locate c =
+    let at-if1 = c .before .before in
+    found-at _ _ _ (at-if1 .before .steps .ensures) (at-if1 .if1 .left) (c .before .if2 .left) .fits
 
 locate-requires : tie.Need-locate-requires
-locate-requires c κs = (found-at _ _ _ (c .before .before .before .steps .ensures) (c .before .before .if1 .left) (c .before .if2 .left)) .keeps
+locate-requires c κs =
+    let at-if1 = c .before .before in
+    found-at _ _ _ (at-if1 .before .steps .ensures) (at-if1 .if1 .left) (c .before .if2 .left) .keeps
 
 returns-3 : tie.Need-returns-3
-returns-3 c = c .locate .ensures ∙ (found-at _ _ _ (c .before .before .before .before .steps .ensures) (c .before .before .before .if1 .left) (c .before .before .if2 .left)) .same
+returns-3 c =
+    let at-if2 = c .before .before in
+    let at-if1 = at-if2 .before in
+    let at-steps = at-if1 .before in
+    c .locate .ensures ∙ (found-at _ _ _ (at-steps .steps .ensures) (at-if1 .if1 .left) (at-if2 .if2 .left)) .same
 
 pub find-spec : {M : Type 1} → statement M
 find-spec =
     tie.close
     (tie.spec
-    steps-requires
-    returns
+    (λ c κs. search needs)
+    (λ c. found-refused _ _ _ (c .before .steps .ensures) (c .if1 .taken))
     returns-2
     mul-locate
     array-read-locate

@@ -9,4 +9,5 @@ unfolding def.wide
 returns c = search needs
 
 pub wide-spec : {M : Type 1} → statement M
-wide-spec = tie.close (tie.spec returns)
+wide-spec = tie.close (tie.spec
+    returns)

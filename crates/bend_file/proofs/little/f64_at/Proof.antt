@@ -7,19 +7,17 @@ use borrow.Author.Needs.{needs}
 use Rattle.bend_file.proofs.little.f64_at.Statement.{statement}
 use Rattle.bend_file.proofs.little.f64_at.Tie as tie
 
-u64-at-requires : tie.Need-u64-at-requires
-u64-at-requires c κs = search needs
-
 returns : tie.Need-returns
 unfolding def.value div ofBits
 returns c = sym (nan-pattern _ (c .if1 .taken)) ∙ ap (ofBits binary64) (c .before .u64-at .ensures)
-
-float-from-bits-result : tie.Need-float-from-bits-result
-float-from-bits-result c = number-pattern _ (c .if1 .left)
 
 returns-2 : tie.Need-returns-2
 unfolding def.value
 returns-2 c = ap (ofBits binary64) (c .before .u64-at .ensures)
 
 pub f64-at-spec : {M : Type 1} → statement M
-f64-at-spec = tie.close (tie.spec u64-at-requires returns float-from-bits-result returns-2)
+f64-at-spec = tie.close (tie.spec
+    (λ c κs. search needs)
+    returns
+    (λ c. number-pattern _ (c .if1 .left))
+    returns-2)

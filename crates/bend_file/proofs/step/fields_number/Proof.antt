@@ -8,38 +8,26 @@ use borrow.Author.Needs.{needs}
 use Rattle.bend_file.proofs.step.fields_number.Statement.{statement}
 use Rattle.bend_file.proofs.step.fields_number.Tie as tie
 
-sub-u16-at : tie.Need-sub-u16-at
-sub-u16-at c = search needs
-
-u16-at-requires : tie.Need-u16-at-requires
-u16-at-requires c κs = search needs
-
-sub-u16-at-2 : tie.Need-sub-u16-at-2
-sub-u16-at-2 c = search needs
-
-u16-at-requires-2 : tie.Need-u16-at-requires-2
-u16-at-requires-2 c κs = search needs
-
-small-requires : tie.Need-small-requires
-small-requires c κs = search needs
-
 returns : tie.Need-returns
-returns c = large _ _ _ _ (c .before .before .before .u16-at .ensures .0) (c .before .before .u16-at2 .ensures .0) _ (c .before .small .ensures) (not-true _ (c .if1 .taken))
-
-sub-u32-at : tie.Need-sub-u32-at
-sub-u32-at c = search needs
-
-u32-at-requires : tie.Need-u32-at-requires
-u32-at-requires c κs = search needs
+returns c =
+    let at-small = c .before in
+    let at-u16-at2 = at-small .before in
+    let at-u16-at = at-u16-at2 .before in
+    large _ _ _ _ (at-u16-at .u16-at .ensures .0) (at-u16-at2 .u16-at2 .ensures .0) _ (at-small .small .ensures)
+    (not-true _ (c .if1 .taken))
 
 wanted-requires : tie.Need-wanted-requires
 wanted-requires c κs = small-is _ _ (sym (c .before .before .small .ensures) ∙ not-false _ (c .before .if1 .left))
 
 returns-2 : tie.Need-returns-2
 returns-2 c =
-    let s = c .before .before .before .before in
-    miscounted _ _ _ _ (s .before .before .u16-at .ensures .0) (s .before .u16-at2 .ensures .0) _ (s .small .ensures) (not-false _ (c .before .before .before .if1 .left)) _
-    (c .before .before .u32-at .ensures .0) (λ h. c .if2 .taken (h ∙ sym (c .before .wanted .ensures)))
+    let at-wanted = c .before in
+    let at-u32-at = at-wanted .before in
+    let at-if1 = at-u32-at .before in
+    let s = at-if1 .before in
+    miscounted _ _ _ _ (s .before .before .u16-at .ensures .0) (s .before .u16-at2 .ensures .0) _ (s .small .ensures)
+    (not-false _ (at-if1 .if1 .left)) _ (at-u32-at .u32-at .ensures .0)
+    (λ h. c .if2 .taken (h ∙ sym (at-wanted .wanted .ensures)))
 
 link-number-requires : tie.Need-link-number-requires
 unfolding fields.count
@@ -47,22 +35,27 @@ link-number-requires c κs = search needs
 
 returns-3 : tie.Need-returns-3
 returns-3 c =
-    let s = c .before .before .before .before .before in
-    as-link _ _ _ _ (s .before .before .u16-at .ensures .0) (s .before .u16-at2 .ensures .0) _ (s .small .ensures) (not-false _ (c .before .before .before .before .if1 .left)) _
-    (c .before .before .before .u32-at .ensures .0) (c .before .if2 .left ∙ c .before .before .wanted .ensures) _ (c .link-number .ensures)
+    let at-if2 = c .before in
+    let at-wanted = at-if2 .before in
+    let at-u32-at = at-wanted .before in
+    let at-if1 = at-u32-at .before in
+    let s = at-if1 .before in
+    as-link _ _ _ _ (s .before .before .u16-at .ensures .0) (s .before .u16-at2 .ensures .0) _ (s .small .ensures)
+    (not-false _ (at-if1 .if1 .left)) _ (at-u32-at .u32-at .ensures .0) (at-if2 .if2 .left ∙ at-wanted .wanted .ensures)
+    _ (c .link-number .ensures)
 
 pub fields-number-spec : {M : Type 1} → statement M
 fields-number-spec =
     tie.close
     (tie.spec
-    sub-u16-at
-    u16-at-requires
-    sub-u16-at-2
-    u16-at-requires-2
-    small-requires
+    (λ c. search needs)
+    (λ c κs. search needs)
+    (λ c. search needs)
+    (λ c κs. search needs)
+    (λ c κs. search needs)
     returns
-    sub-u32-at
-    u32-at-requires
+    (λ c. search needs)
+    (λ c κs. search needs)
     wanted-requires
     returns-2
     link-number-requires

@@ -6,12 +6,11 @@ use native.Mathlib.Omega.{arith}
 use Rattle.bend_file.proofs.trailer.small.Statement.{statement}
 use Rattle.bend_file.proofs.trailer.small.Tie as tie
 
-mul-result : tie.Need-mul-result
-mul-result c = omega (arith, moving-fits (c .args .rows) (c .args .coords) (search needs) (search needs))
-
 returns : tie.Need-returns
 unfolding def.small
 returns c = search needs
 
 pub small-spec : {M : Type 1} → statement M
-small-spec = tie.close (tie.spec mul-result returns)
+small-spec = tie.close (tie.spec
+    (λ c. omega (arith, moving-fits (c .args .rows) (c .args .coords) (search needs) (search needs)))
+    returns)

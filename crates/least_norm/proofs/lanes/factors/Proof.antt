@@ -10,5 +10,7 @@ unfolding updated between turns
 returns c = refl
 
 pub factors-spec : {M : Type 1} → statement M
-factors-spec = tie.close (tie.spec
+factors-spec =
+    tie.close
+    (tie.spec
     returns)

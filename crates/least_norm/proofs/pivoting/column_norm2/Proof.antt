@@ -5,6 +5,8 @@ use Rattle.least_norm.proofs.pivoting.column_norm2.Statement.{statement
 use Rattle.least_norm.proofs.pivoting.column_norm2.Tie as tie
 
 pub column-norm2-spec : {M : Type 1} → statement M
-column-norm2-spec = tie.close (tie.spec
+column-norm2-spec =
+    tie.close
+    (tie.spec
     (λ c κs. omega arith)
     (λ c. column-norm-run _ _ _ _ _ _ (c .dot .ensures) (c .before .before .pre .1)))

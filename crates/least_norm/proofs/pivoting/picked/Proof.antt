@@ -13,6 +13,8 @@ unfolding picked
 returns-2 c = (rw (c .if1 .left), omega arith)
 
 pub picked-spec : {M : Type 1} → statement M
-picked-spec = tie.close (tie.spec
+picked-spec =
+    tie.close
+    (tie.spec
     returns
     returns-2)

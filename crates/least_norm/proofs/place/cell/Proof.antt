@@ -4,7 +4,9 @@ use Rattle.least_norm.proofs.place.cell.Statement.{statement}
 use Rattle.least_norm.proofs.place.cell.Tie as tie
 
 pub cell-spec : {M : Type 1} → statement M
-cell-spec = tie.close (tie.spec
+cell-spec =
+    tie.close
+    (tie.spec
     (λ c κs. omega arith)
     (λ c. omega arith)
     (λ c. omega arith)

@@ -9,8 +9,7 @@ mul-result c =
     omega (
       arith,
       row-end (c .args .m) (c .args .n) (c .args .i) (omega arith),
-      product (c .args .m) (c .args .n)
-          (omega arith) (omega arith),
+      product (c .args .m) (c .args .n) (omega arith) (omega arith),
     )
 
 add-result : tie.Need-add-result
@@ -18,12 +17,13 @@ add-result c =
     omega (
       arith,
       row-end (c .args .m) (c .args .n) (c .args .i) (omega arith),
-      product (c .args .m) (c .args .n)
-          (omega arith) (omega arith),
+      product (c .args .m) (c .args .n) (omega arith) (omega arith),
     )
 
 pub place-spec : {M : Type 1} → statement M
-place-spec = tie.close (tie.spec
+place-spec =
+    tie.close
+    (tie.spec
     mul-result
     add-result
     (λ c. omega (arith, row-end (c .args .m) (c .args .n) (c .args .i) (omega arith))))

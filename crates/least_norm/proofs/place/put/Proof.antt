@@ -5,7 +5,9 @@ use Rattle.least_norm.proofs.place.put.Statement.{statement}
 use Rattle.least_norm.proofs.place.put.Tie as tie
 
 pub put-spec : {M : Type 1} → statement M
-put-spec = tie.close (tie.spec
+put-spec =
+    tie.close
+    (tie.spec
     (λ c κs. omega arith)
     (λ c. omega arith)
     (λ c. omega arith)

@@ -10,7 +10,9 @@ returns c =
     (c .before .before .before .cell .ensures) (c .before .cell2 .ensures)
 
 pub leads-spec : {M : Type 1} → statement M
-leads-spec = tie.close (tie.spec
+leads-spec =
+    tie.close
+    (tie.spec
     (λ c κs. omega arith)
     (λ c κs. tt)
     (λ c κs. omega arith)

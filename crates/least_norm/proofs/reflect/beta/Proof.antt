@@ -12,7 +12,9 @@ unfolding beta
 returns-2 c = rw (← c .before .norm .ensures, c .if1 .left)
 
 pub beta-spec : {M : Type 1} → statement M
-beta-spec = tie.close (tie.spec
+beta-spec =
+    tie.close
+    (tie.spec
     (λ c κs. tt)
     returns
     returns-2)

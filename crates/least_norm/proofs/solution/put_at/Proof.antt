@@ -6,7 +6,9 @@ use Rattle.least_norm.proofs.solution.put_at.Statement.{statement}
 use Rattle.least_norm.proofs.solution.put_at.Tie as tie
 
 pub put-at-spec : {M : Type 1} → statement M
-put-at-spec = tie.close (tie.spec
+put-at-spec =
+    tie.close
+    (tie.spec
     (λ c. omega arith)
     (λ c. omega arith)
     (λ c. search needs)

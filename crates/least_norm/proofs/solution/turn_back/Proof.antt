@@ -9,7 +9,9 @@ returns : tie.Need-returns
 returns c = turned-some _ _ _ _ _ (c .before .before .turn-each .ensures) (c .before .before .before .before .if1 .taken)
 
 pub turn-back-spec : {M : Type 1} → statement M
-turn-back-spec = tie.close (tie.spec
+turn-back-spec =
+    tie.close
+    (tie.spec
     (λ c κs. omega arith)
     (λ c. search needs)
     returns

@@ -8,7 +8,9 @@ returns : tie.Need-returns
 returns c = row-norm-run _ _ _ _ (c .before .place .ensures .0) _ _ _ (c .dot .ensures) (c .before .before .before .pre .3)
 
 pub row-norm2-spec : {M : Type 1} → statement M
-row-norm2-spec = tie.close (tie.spec
+row-norm2-spec =
+    tie.close
+    (tie.spec
     (λ c κs. omega arith)
     (λ c κs. omega arith)
     returns)
