@@ -110,7 +110,9 @@ module _ (f : List ℕ) where
     unfolding shape
     same = go (eqb (number f) 0) refl h
       where
-        go : (b : Bool) → eqb (number f) 0 ≡ b → At s n c ≡ cond b (At (start f end) (rows f end) (coords f end)) (Refused (number f)) → (number f ≡ 0) × (s ≡ start f end) × (n ≡ rows f end) × (c ≡ coords f end)
+        go : (b : Bool) → eqb (number f) 0 ≡ b
+            → At s n c ≡ cond b (At (start f end) (rows f end) (coords f end)) (Refused (number f))
+            → (number f ≡ 0) × (s ≡ start f end) × (n ≡ rows f end) × (c ≡ coords f end)
         go true e g = (eqb-true (number f) 0 e, (cc), (cc), (cc))
         go false e g = let z : _≡_ {A = ℕ} 0 1 = cc in absurd (omega arith)
 
@@ -131,7 +133,8 @@ four f k h =
     let d0 : drop k f ≡ byte f k ∷ drop (suc k) f = drop-cons f k 0 (omega arith) in
     let d1 : drop (suc k) f ≡ byte f (suc k) ∷ drop (suc (suc k)) f = drop-cons f (suc k) 0 (omega arith) in
     let d2 : drop (suc (suc k)) f ≡ byte f (suc (suc k)) ∷ drop (suc (suc (suc k))) f = drop-cons f (suc (suc k)) 0 (omega arith) in
-    let d3 : drop (suc (suc (suc k))) f ≡ byte f (suc (suc (suc k))) ∷ drop (suc (suc (suc (suc k)))) f = drop-cons f (suc (suc (suc k))) 0 (omega arith) in
+    let d3 : drop (suc (suc (suc k))) f ≡ byte f (suc (suc (suc k))) ∷ drop (suc (suc (suc (suc k)))) f =
+    drop-cons f (suc (suc (suc k))) 0 (omega arith) in
     let e1 : suc k ≡ k + 1 = omega arith in
     let e2 : suc (suc k) ≡ k + 2 = omega arith in
     let e3 : suc (suc (suc k)) ≡ k + 3 = omega arith in
@@ -155,7 +158,12 @@ module _ (f : List ℕ) (end : ℕ) (h : 4 ≤ end) (within : end ≤ length f) 
       let s2 = both-true _ (eqb (byte f (end - 2)) 0x4E) (s3 .0) in
       let s1 = both-true (eqb (byte f (end - 4)) 0x42) (eqb (byte f (end - 3)) 0x45) (s2 .0) in
       last-four
-      ∙ rw (eqb-true (byte f (end - 4)) 0x42 (s1 .0), eqb-true (byte f (end - 3)) 0x45 (s1 .1), eqb-true (byte f (end - 2)) 0x4E (s2 .1), eqb-true (byte f (end - 1)) 0x44 (s3 .1))
+      ∙ rw (
+        eqb-true (byte f (end - 4)) 0x42 (s1 .0),
+        eqb-true (byte f (end - 3)) 0x45 (s1 .1),
+        eqb-true (byte f (end - 2)) 0x4E (s2 .1),
+        eqb-true (byte f (end - 1)) 0x44 (s3 .1),
+      )
 
   pub mark-back : take 4 (drop (end - 4) f) ≡ mark → marked f end ≡ true
   unfolding marked
@@ -195,7 +203,8 @@ module _ (f : List ℕ) where
   unfolding answer
   accepted-is-bend-file p h = go (eqb (number f) 0) refl h
     where
-      go : (b : Bool) → eqb (number f) 0 ≡ b → cond b (accepted read-off) (refused (number f)) ≡ accepted p → BendFile f (start f (length f)) (count f (length f)) p
+      go : (b : Bool) → eqb (number f) 0 ≡ b → cond b (accepted read-off) (refused (number f)) ≡ accepted p
+          → BendFile f (start f (length f)) (count f (length f)) p
       go true e g = let q : read-off ≡ p = cc in rw (← q) (kept-file (kept f (eqb-true (number f) 0 e)))
       go false e g = let z : _≡_ {A = ℕ} 0 1 = cc in absurd (omega arith)
 
@@ -206,7 +215,9 @@ module _ (f : List ℕ) where
         least = b .least;
         most = b .most;
         mark = mark-back f (length f) (omega (arith, b .least)) (omega arith) (b .mark);
-        fair = rw (b .at-rows, b .at-coords) (record { few = b .few-rows; square = mul-le-mul (b .few-rows) (b .few-rows); moving = b .few-moving });
+        fair =
+            rw (b .at-rows, b .at-coords)
+            (record { few = b .few-rows; square = mul-le-mul (b .few-rows) (b .few-rows); moving = b .few-moving });
         full = rw (b .at-rows, b .at-coords, b .at-count) (b .counted);
         reach = rw (b .at-start, b .at-count) (b .reaching);
       } in

@@ -76,7 +76,9 @@ module _ (f : List ℕ) (end : ℕ) where
           most = most;
           within = within;
           mark = mark-back f end (omega (arith, b .least)) within (b .mark);
-          fair = rw (b .at-rows, b .at-coords) (record { few = b .few-rows; square = mul-le-mul (b .few-rows) (b .few-rows); moving = b .few-moving });
+          fair =
+              rw (b .at-rows, b .at-coords)
+              (record { few = b .few-rows; square = mul-le-mul (b .few-rows) (b .few-rows); moving = b .few-moving });
           full = rw (b .at-rows, b .at-coords, same-count) (b .counted);
           room = rw same-count (b .preceded);
           back = rw (same-link, own-place) (b .backward);
@@ -139,15 +141,20 @@ module _ (f : List ℕ) where
             → Sound (suc i) (cond b (ended (taken (s ++ (end ∷ [])))) (at (def.link f end) (s ++ (end ∷ []))))
         go true q =
             let z = eqb-true (def.link f end) 0 q in
-            let b : StepFile f end 0 (start f end) (count f end) p = rw (← z) (step-is-file f end here) in
-            (omega (arith, one-longer, g .few), whole, rw (map-append (def.stepProblem f) s (end ∷ [])) (g .before (end ∷ []) (p ∷ []) (first b)))
+            let b : StepFile f end 0 (start f end) (count f end) p = rw (← z) (step-is-file f end here) in (
+              omega (arith, one-longer, g .few),
+              whole,
+              rw (map-append (def.stepProblem f) s (end ∷ [])) (g .before (end ∷ []) (p ∷ []) (first b)),
+            )
         go false q =
             record {
               few = omega (arith, one-longer, g .few);
               within = link-within;
               newest = λ h. absurd (omega (arith, one-longer));
               most = λ h. whole;
-              before = λ t l h. rw (map-append (def.stepProblem f) s (end ∷ []), append-assoc, append-assoc) (g .before (end ∷ t) (p ∷ l) (after (step-is-file f end here) h));
+              before =
+                  λ t l h. rw (map-append (def.stepProblem f) s (end ∷ []), append-assoc, append-assoc)
+                  (g .before (end ∷ t) (p ∷ l) (after (step-is-file f end here) h));
             }
 
   sound-step : (i end : ℕ) (s : List ℕ) → Going i end s → Sound (suc i) (def.step f end s)
@@ -212,7 +219,9 @@ module _ (f : List ℕ) where
 
   module _ (s : List ℕ) (l : List Problem) (c : ChainFile f s l) where
     pub chain-file-is-accepted : def.ends f ≡ taken s
-    chain-file-is-accepted = verdict f (0 + length s) (taken s) (omega (arith, c .few)) (reaches (c .most) (c .steps) 0 [] (omega arith) (begun f))
+    chain-file-is-accepted =
+        verdict f (0 + length s) (taken s) (omega (arith, c .few))
+        (reaches (c .most) (c .steps) 0 [] (omega arith) (begun f))
 
     pub chain-file-is-read : def.pull f ≡ taken l
     unfolding def.pull def.problems
@@ -220,7 +229,8 @@ module _ (f : List ℕ) where
 
   -- ---- a refusal has a number, and each step of an accepted file keeps its rules
 
-  steps-kept : {end : ℕ} {t : List ℕ} {l : List Problem} → Steps f end t l → end ≤ length f → end ≤ 1048576 → (k : ℕ) → k < length t → Kept f (getD t k 0)
+  steps-kept : {end : ℕ} {t : List ℕ} {l : List Problem} → Steps f end t l → end ≤ length f → end ≤ 1048576 → (k : ℕ)
+      → k < length t → Kept f (getD t k 0)
   steps-kept (first {end} {start} {count} {p} b) h m zero g = file-is-step f end 0 start count p b h m
   steps-kept (first b) h m (suc k) g = absurd (omega arith)
   steps-kept (after {end} {link} {start} {count} {p} b more) h m zero g = file-is-step f end link start count p b h m

@@ -50,7 +50,8 @@ module _ (f : List ℕ) (k : ℕ) where
           go (refused n) g q = absurd (g (sym (ap (λ (x : Chain). x .number) q) ∙ none))
           go (taken s) g q =
               let less : k < length s = omega (arith, ap (λ (x : Chain). x .count) q) in
-              let same : getD (r .ends) k 0 ≡ getD s k 0 = ap (λ (x : Chain). getD (x .ends) k 0) q ∙ List·getD-append s (drop (length s) (replicate 40 0)) 0 k less in
+              let same : getD (r .ends) k 0 ≡ getD s k 0 = ap (λ (x : Chain). getD (x .ends) k 0) q ∙ List·getD-append s
+              (drop (length s) (replicate 40 0)) 0 k less in
               record { fits = omega (arith, g .0); keeps = rw same (g .1 k less); same = rw (same, lt-leb (length s) k less) }
 
 -- ---- the step of the pull
@@ -76,8 +77,15 @@ widths w u l h s n m e =
     let e4 = both-true _ (leb 32 s) (e5 .0) in
     let e3 = both-true _ (leb 32 h) (e4 .0) in
     let e2 = both-true _ (leb 32 l) (e3 .0) in
-    let e1 = both-true (leb 1024 w) (leb 32 u) (e2 .0) in
-    (leb-true 1024 w (e1 .0), leb-true 32 u (e1 .1), leb-true 32 l (e2 .1), leb-true 32 h (e3 .1), leb-true 32 s (e4 .1), leb-true 32 n (e5 .1), leb-true 2048 m (e6 .1))
+    let e1 = both-true (leb 1024 w) (leb 32 u) (e2 .0) in (
+      leb-true 1024 w (e1 .0),
+      leb-true 32 u (e1 .1),
+      leb-true 32 l (e2 .1),
+      leb-true 32 h (e3 .1),
+      leb-true 32 s (e4 .1),
+      leb-true 32 n (e5 .1),
+      leb-true 2048 m (e6 .1),
+    )
 
 module _ (f : List ℕ) (k s n c : ℕ) where
   record Found (v : Verdict Step) : Type 0 where
@@ -92,7 +100,8 @@ module _ (f : List ℕ) (k s n c : ℕ) where
       go (refused m) g q = let z : _≡_ {A = ℕ} 0 1 = cc in absurd (omega arith)
       go (taken t) g q = split (leb (length t) k) refl q
         where
-          split : (x : Bool) → leb (length t) k ≡ x → At s n c ≡ cond x Past (placed f (getD t k 0)) → Found (def.picked (def.problems f (taken t)) k)
+          split : (x : Bool) → leb (length t) k ≡ x → At s n c ≡ cond x Past (placed f (getD t k 0))
+              → Found (def.picked (def.problems f (taken t)) k)
           split true i q = let z : _≡_ {A = ℕ} 0 1 = cc in absurd (omega arith)
           split false i q =
               let less = leb-false (length t) k i in
@@ -102,7 +111,10 @@ module _ (f : List ℕ) (k s n c : ℕ) where
               let is-n : n ≡ rows f end = cc in
               let is-c : c ≡ coords f end = cc in
               rw (is-s, is-n, is-c)
-              (record { answer = ap (λ (x : Step). taken x) (pick-at f t k less); room = record { inside = omega (arith, h .reach, h .full, h .within); small = h .fair } })
+              (record {
+                answer = ap (λ (x : Step). taken x) (pick-at f t k less);
+                room = record { inside = omega (arith, h .reach, h .full, h .within); small = h .fair };
+              })
 
   -- its values lie in the file and have room in buffers of these lengths
   pub record Fits (w u l h sc nu m : ℕ) : Type 0 where
@@ -151,7 +163,8 @@ module _ (f : List ℕ) (k : ℕ) (b : Lent) where
         go (refused m) q = let z : _≡_ {A = ℕ} 0 1 = cc in absurd (omega arith)
         go (taken s) q = split (leb (length s) k) refl q
           where
-            split : (t : Bool) → leb (length s) k ≡ t → Past ≡ cond t Past (placed f (getD s k 0)) → def.picked (def.problems f (taken s)) k ≡ taken past
+            split : (t : Bool) → leb (length s) k ≡ t → Past ≡ cond t Past (placed f (getD s k 0))
+                → def.picked (def.problems f (taken s)) k ≡ taken past
             split true i q = ap (λ (x : Step). taken x) (pick-past f s k (leb-true (length s) k i))
             split false i q = let z : _≡_ {A = ℕ} 0 1 = cc in absurd (omega arith)
 

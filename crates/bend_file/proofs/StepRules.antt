@@ -130,7 +130,8 @@ module _ (f : List ℕ) (end : ℕ) where
   link-read k l is-k is-l = rw (← is-k) is-l
 
   -- where its values are: known from its end and its count
-  pub located : Kept f end → (n c k : ℕ) → n ≡ u16 f (end - 12) → c ≡ u16 f (end - 10) → k ≡ u32 f (end - 8) → At (end - (16 + 8 * k)) n c ≡ placed f end
+  pub located : Kept f end → (n c k : ℕ) → n ≡ u16 f (end - 12) → c ≡ u16 f (end - 10) → k ≡ u32 f (end - 8)
+      → At (end - (16 + 8 * k)) n c ≡ placed f end
   unfolding rows coords count
   located h n c k is-n is-c is-k =
       let e : end - (16 + 8 * k) ≡ link f end + start f end = omega (arith, h .reach) in

@@ -19,12 +19,14 @@ module _ (f : List ℕ) (start first : ℕ) where
   unfolding values
   values-start d = tab-start (λ i. value f (start + 8 * (first + i))) d
 
-  pub values-again : (n : ℕ) (d s : List Float) (v : Float) → s ≡ values f start first n ++ drop n d → length s ≡ length d → n < length s → v ≡ value f (start + 8 * (first + n))
+  pub values-again : (n : ℕ) (d s : List Float) (v : Float) → s ≡ values f start first n ++ drop n d
+      → length s ≡ length d → n < length s → v ≡ value f (start + 8 * (first + n))
       → set s n v ≡ values f start first (n + 1) ++ drop (n + 1) d
   unfolding values
   values-again n d s v e g l h = rw h (tab-again (λ i. value f (start + 8 * (first + i))) n d s e g l)
 
-  pub values-done : (n count : ℕ) (d s : List Float) → s ≡ values f start first n ++ drop n d → n ≤ count → count ≤ n → s ≡ over (values f start first count) d
+  pub values-done : (n count : ℕ) (d s : List Float) → s ≡ values f start first n ++ drop n d → n ≤ count → count ≤ n
+      → s ≡ over (values f start first count) d
   values-done n count d s e h k = let q : n ≡ count = omega arith in rw (values-length count, ← q) e
 
 module _ {A : Type 0} (front l : List A) (fits : length front ≤ length l) where

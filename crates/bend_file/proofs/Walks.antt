@@ -103,7 +103,9 @@ module _ (f : List ℕ) where
           pub walk-done : next ≡ 0 → record { number = 0; count = count + 1; ends = set l count end } ≡ told (ends f)
           walk-done h =
               let s = take count l ++ (end ∷ []) in
-              let q = verdict (suc count) (taken s) (omega arith) (on-first count end (take count l) (w .state) (sym is-k ∙ none) (sym is-next ∙ h)) in
-              let n : length s ≡ count + 1 = omega (arith, ap length longer, length-take (count + 1) (set l count end), length-set l count end, w .size) in
+              let q = verdict (suc count) (taken s) (omega arith)
+              (on-first count end (take count l) (w .state) (sym is-k ∙ none) (sym is-next ∙ h)) in
+              let n : length s ≡ count + 1 = omega
+              (arith, ap length longer, length-take (count + 1) (set l count end), length-set l count end, w .size) in
               let g = front-is (count + 1) (set l count end) (replicate 40 0) s longer beyond n in
               (λ i. record { number = 0; count = sym n i; ends = g i }) ∙ ap told (sym q)

@@ -9,5 +9,7 @@ unfolding def.wide
 returns c = search needs
 
 pub wide-spec : {M : Type 1} → statement M
-wide-spec = tie.close (tie.spec
+wide-spec =
+    tie.close
+    (tie.spec
     returns)

@@ -16,7 +16,9 @@ unfolding def.value
 returns-2 c = ap (ofBits binary64) (c .before .u64-at .ensures)
 
 pub f64-at-spec : {M : Type 1} → statement M
-f64-at-spec = tie.close (tie.spec
+f64-at-spec =
+    tie.close
+    (tie.spec
     (λ c κs. search needs)
     returns
     (λ c. number-pattern _ (c .if1 .left))

@@ -6,7 +6,9 @@ use Rattle.bend_file.proofs.step.number.Statement.{statement}
 use Rattle.bend_file.proofs.step.number.Tie as tie
 
 returns-3 : tie.Need-returns-3
-returns-3 c = unmarked _ _ (c .before .before .before .if1 .left) (c .before .before .if2 .left) _ (c .before .marked .ensures) (not-true _ (c .if3 .taken))
+returns-3 c =
+    unmarked _ _ (c .before .before .before .if1 .left) (c .before .before .if2 .left) _ (c .before .marked .ensures)
+    (not-true _ (c .if3 .taken))
 
 returns-4 : tie.Need-returns-4
 returns-4 c =

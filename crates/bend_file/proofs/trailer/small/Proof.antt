@@ -11,6 +11,8 @@ unfolding def.small
 returns c = search needs
 
 pub small-spec : {M : Type 1} → statement M
-small-spec = tie.close (tie.spec
+small-spec =
+    tie.close
+    (tie.spec
     (λ c. omega (arith, moving-fits (c .args .rows) (c .args .coords) (search needs) (search needs)))
     returns)
