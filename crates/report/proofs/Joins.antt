@@ -1,16 +1,16 @@
--- Laws of the joins. Where the residuals are values that an f64 holds, two reports come to the same in either order and three in either grouping, refusals included.
--- NOTHING is no identity of `and`: a residual that is negative or NaN becomes +0.
-use Prim.Native.Nat.{ℕ, _+_, _≤_, max}
-use mathlib.Core.Path.{_≡_, refl, sym, _∙_, ap}
-use mathlib.Core.Bool.{Bool, true, false, cond, _&&_, and-comm, and-assoc, true≢false}
-use mathlib.Core.List.{List, [], _∷_}
+-- Laws of the joins. Where the residuals are values that an f64 holds, two reports come to the same in either order and
+-- three in either grouping, refusals included. NOTHING is no identity of `and`: a residual that is negative or NaN
+-- becomes +0.
+use Prim.Native.Nat.{ℕ, max}
+use mathlib.Core.Path.{_≡_, refl, sym, _∙_}
+use mathlib.Core.Bool.{Bool, true, false, cond, and-comm, and-assoc, true≢false}
 use native.Mathlib.Omega.{arith}
+use borrow.Author.Needs.{needs}
 use native.Mathlib.Nat.{add-comm, add-assoc}
 use Rattle.floats.specs.Ops.{Fits}
-use Rattle.floats.specs.Helpers.{larger}
 use Rattle.floats.proofs.Maximum.{larger-fits, larger-comm, larger-assoc}
 use Rattle.report.specs.declared.SolveReport.{SolveReport}
-use Rattle.report.specs.Joins.{NOTHING, both, onward, most, sumFits, sumsFit, allSumsFit, Summable, AllSummable, Answer, refused, joined, and, continued, next, from, all}
+use Rattle.report.specs.Joins.{both, onward, sumFits, sumsFit, allSumsFit, Summable, AllSummable, Answer, refused, joined, and, continued, next}
 use Rattle.report.proofs.Sums.{summable, sums-fit, all-summable, all-sums-fit}
 
 -- the residual is a value that an f64 holds, as every f64 of the code is
@@ -109,16 +109,10 @@ before a (joined b) = and a b
 
 module _ (a b c : SolveReport) where
   shift : AllSummable a b → AllSummable (both a b) c → AllSummable b c × AllSummable a (both b c)
-  shift s t = (
-    record { increments = omega arith; others = record { iterations = omega arith; rejected = omega arith; anchors = omega arith; sweeps = omega arith; «exact_passes» = omega arith; stopped = omega arith } },
-    record { increments = omega arith; others = record { iterations = omega arith; rejected = omega arith; anchors = omega arith; sweeps = omega arith; «exact_passes» = omega arith; stopped = omega arith } },
-  )
+  shift s t = (search needs, search needs)
 
   shift-back : AllSummable b c → AllSummable a (both b c) → AllSummable a b × AllSummable (both a b) c
-  shift-back s t = (
-    record { increments = omega arith; others = record { iterations = omega arith; rejected = omega arith; anchors = omega arith; sweeps = omega arith; «exact_passes» = omega arith; stopped = omega arith } },
-    record { increments = omega arith; others = record { iterations = omega arith; rejected = omega arith; anchors = omega arith; sweeps = omega arith; «exact_passes» = omega arith; stopped = omega arith } },
-  )
+  shift-back s t = (search needs, search needs)
 
   -- both groupings refuse by 13, or both come to the same report
   pub and-is-assoc : Held a → Held b → Held c → next (and a b) c ≡ before a (and b c)
@@ -128,14 +122,19 @@ module _ (a b c : SolveReport) where
       never : (t : Bool) → t ≡ false → t ≡ true → ⊥
       never t e f = true≢false (sym f ∙ e)
 
-      go : (x : Bool) → allSumsFit a b ≡ x → (y : Bool) → allSumsFit (both a b) c ≡ y → (z : Bool) → allSumsFit b c ≡ z → (w : Bool) → allSumsFit a (both b c) ≡ w
+      go : (x : Bool) → allSumsFit a b ≡ x → (y : Bool) → allSumsFit (both a b) c ≡ y → (z : Bool) → allSumsFit b c ≡ z
+          → (w : Bool) → allSumsFit a (both b c) ≡ w
           → next (cond x (joined (both a b)) (refused 13)) c ≡ before a (cond z (joined (both b c)) (refused 13))
       go true i true j true k true l = rw (j, l, both-assoc a b c p q r)
-      go true i true j true k false l = absurd (never _ l (all-sums-fit a (both b c) (shift (all-summable a b i) (all-summable (both a b) c j) .1)))
+      go true i true j true k false l =
+          absurd (never _ l (all-sums-fit a (both b c) (shift (all-summable a b i) (all-summable (both a b) c j) .1)))
       go true i true j false k w l = absurd (never _ k (all-sums-fit b c (shift (all-summable a b i) (all-summable (both a b) c j) .0)))
-      go true i false j true k true l = absurd (never _ j (all-sums-fit (both a b) c (shift-back (all-summable b c k) (all-summable a (both b c) l) .1)))
+      go true i false j true k true l =
+          absurd
+          (never _ j (all-sums-fit (both a b) c (shift-back (all-summable b c k) (all-summable a (both b c) l) .1)))
       go true i false j true k false l = rw (j, l)
       go true i false j false k w l = rw j
-      go false i y j true k true l = absurd (never _ i (all-sums-fit a b (shift-back (all-summable b c k) (all-summable a (both b c) l) .0)))
+      go false i y j true k true l =
+          absurd (never _ i (all-sums-fit a b (shift-back (all-summable b c k) (all-summable a (both b c) l) .0)))
       go false i y j true k false l = rw l
       go false i y j false k w l = refl

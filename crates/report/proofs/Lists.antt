@@ -25,7 +25,8 @@ abbrev pub total : (SolveReport → ℕ) → List SolveReport → ℕ
 total count [] = 0
 total count (b ∷ l) = count b + total count l
 
--- a count that `and` adds is, of the list joined, what it was before and the list's total: so it is for increments, iterations, rejected, anchors, sweeps, exact_passes and stopped
+-- a count that `and` adds is, of the list joined, what it was before and the list's total: so it is for increments,
+-- iterations, rejected, anchors, sweeps, exact_passes and stopped
 module _ (count : SolveReport → ℕ) (adds : (a b : SolveReport) → count (both a b) ≡ count a + count b) where
   abbrev counted : ℕ → Answer → Type 0
   counted k (refused number) = Unit {0}
@@ -42,7 +43,8 @@ module _ (count : SolveReport → ℕ) (adds : (a b : SolveReport) → count (bo
       none : (number : ℕ) (k : ℕ) → counted k (from (refused number) l)
       none number k = rw (from-refused number l) tt
 
-      go : counted (count (both a b) + total count l) (from (joined (both a b)) l) → (t : Bool) → allSumsFit a b ≡ t → counted (count a + (count b + total count l)) (from (and a b) l)
+      go : counted (count (both a b) + total count l) (from (joined (both a b)) l) → (t : Bool) → allSumsFit a b ≡ t
+          → counted (count a + (count b + total count l)) (from (and a b) l)
       go h true e = rw (e, ← one) h
       go h false e = rw e (none 13 (count a + (count b + total count l)))
 
@@ -77,9 +79,11 @@ all-held (List·Permᴰ·trans d g) h = all-held g (all-held d h)
 
 from-perm : {l m : List SolveReport} → List·Permᴰ l m → AllHeld l → (a : Answer) → HeldIn a → from a l ≡ from a m
 from-perm List·Permᴰ·nil h a p = refl
-from-perm (List·Permᴰ·cons {a = b} {b = c} {l₁ = l} e d) h a p = ap (λ (x : SolveReport). from (next a x) l) e ∙ from-perm d (h .1) (next a c) (next-held a c p (rw e at (h .0)))
+from-perm (List·Permᴰ·cons {a = b} {b = c} {l₁ = l} e d) h a p =
+    ap (λ (x : SolveReport). from (next a x) l) e ∙ from-perm d (h .1) (next a c) (next-held a c p (rw e at (h .0)))
 from-perm (List·Permᴰ·swap {a = b} {b = c} {a′ = c′} {b′ = b′} {l = l} e g) h a p =
-    ap (λ (x : Answer). from x l) (next-swap a b c p (h .0) (h .1 .0)) ∙ ap (λ (x : SolveReport). from (next (next a x) b) l) g ∙ ap (λ (x : SolveReport). from (next (next a c′) x) l) e
+    ap (λ (x : Answer). from x l) (next-swap a b c p (h .0) (h .1 .0))
+    ∙ ap (λ (x : SolveReport). from (next (next a x) b) l) g ∙ ap (λ (x : SolveReport). from (next (next a c′) x) l) e
 from-perm (List·Permᴰ·trans d g) h a p = from-perm d h a p ∙ from-perm g (all-held d h) a p
 
 -- every order of the list gives the same answer, a refusal included

@@ -107,13 +107,20 @@ each x = report x x x x x x x x true true 0
 cases : List Case
 cases =
     -- every field: counts added, the larger most_iterations, flags both, the larger residual; in either order
-    ands (report 1 2 3 4 5 6 7 8 true false one) (report 10 20 2 40 50 60 70 80 true true two) (joined (report 11 22 3 44 55 66 77 88 true false two)) ∷
-    ands (report 10 20 2 40 50 60 70 80 true true two) (report 1 2 3 4 5 6 7 8 true false one) (joined (report 11 22 3 44 55 66 77 88 true false two)) ∷
-    ands (report 0 0 1 0 0 0 0 0 false true two) (report 0 0 9 0 0 0 0 0 true false one) (joined (report 0 0 9 0 0 0 0 0 false false two)) ∷
-    -- continued: the larger increments, most_iterations the sum of iterations, converged and residual the second's, exact both
-    continues (report 1 2 9 4 5 6 7 8 true true two) (report 1 20 8 40 50 60 70 80 false true one) (joined (report 1 22 22 44 55 66 77 88 false true one)) ∷
-    continues (report 3 2 9 4 5 6 7 8 false false NaN) (report 1 20 8 40 50 60 70 80 true true −one) (joined (report 3 22 22 44 55 66 77 88 true false −one)) ∷
-    continues (report 1 0 0 0 0 0 0 0 true true one) (report 2 0 0 0 0 0 0 0 true false NaN) (joined (report 2 0 0 0 0 0 0 0 true false NaN)) ∷
+    ands (report 1 2 3 4 5 6 7 8 true false one) (report 10 20 2 40 50 60 70 80 true true two)
+    (joined (report 11 22 3 44 55 66 77 88 true false two)) ∷
+    ands (report 10 20 2 40 50 60 70 80 true true two) (report 1 2 3 4 5 6 7 8 true false one)
+    (joined (report 11 22 3 44 55 66 77 88 true false two)) ∷
+    ands (report 0 0 1 0 0 0 0 0 false true two) (report 0 0 9 0 0 0 0 0 true false one)
+    (joined (report 0 0 9 0 0 0 0 0 false false two)) ∷
+    -- continued: the larger increments, most_iterations the sum of iterations, converged and residual the second's,
+    -- exact both
+    continues (report 1 2 9 4 5 6 7 8 true true two) (report 1 20 8 40 50 60 70 80 false true one)
+    (joined (report 1 22 22 44 55 66 77 88 false true one)) ∷
+    continues (report 3 2 9 4 5 6 7 8 false false NaN) (report 1 20 8 40 50 60 70 80 true true −one)
+    (joined (report 3 22 22 44 55 66 77 88 true false −one)) ∷
+    continues (report 1 0 0 0 0 0 0 0 true true one) (report 2 0 0 0 0 0 0 0 true false NaN)
+    (joined (report 2 0 0 0 0 0 0 0 true false NaN)) ∷
     -- zeros: +0 unless both are -0
     ands (rest +0) (rest −0) (joined (rest +0)) ∷
     ands (rest −0) (rest +0) (joined (rest +0)) ∷

@@ -1,4 +1,5 @@
--- Reports of solves and their joins, as report.rs gives them, with document 01's larger of two residuals. Definitions only; their laws are in proofs/.
+-- Reports of solves and their joins, as report.rs gives them, with document 01's larger of two residuals. Definitions
+-- only; their laws are in proofs/.
 use Prim.Native.Nat.{ℕ, _+_, _≤_, max}
 use mathlib.Core.Bool.{Bool, true, false, cond, _&&_}
 use mathlib.Core.List.{List, [], _∷_}

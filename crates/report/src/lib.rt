@@ -1,4 +1,5 @@
-// Reports of solves, joined: report.rs, where a count's sum above 4,294,967,295 gets document 01's number 13. Each call is total, and its contract is an equation with a definition of specs/.
+// Reports of solves, joined: report.rs, where a count's sum above 4,294,967,295 gets document 01's number 13. Each call
+// is total, and its contract is an equation with a definition of specs/.
 ghost use mathlib.Core.Path.{_≡_};
 ghost use Prim.Native.Nat.{max as natMax};
 ghost use Rattle.report.specs.Joins as def;
@@ -51,7 +52,8 @@ impl SolveReport {
         residual: 0.0,
     };
 
-    // This increment's report, the increment then going on from where it stopped as `then` reports: one increment, its steps and sweeps added up, and how it ended, `then`'s.
+    // This increment's report, the increment then going on from where it stopped as `then` reports: one increment, its
+    // steps and sweeps added up, and how it ended, `then`'s.
     pub fn continued(self, then: SolveReport) -> Joined
         ensures { λ r. ⌜ def.answer r ≡ def.continued self then ⌝ }
     {

@@ -4,15 +4,14 @@ use borrow.Author.Needs.{needs}
 use Rattle.report.proofs.all_sums_fit.Statement.{statement}
 use Rattle.report.proofs.all_sums_fit.Tie as tie
 
-sum-fits-requires : tie.Need-sum-fits-requires
-sum-fits-requires c κs = search needs
-
-sums-fit-requires : tie.Need-sums-fit-requires
-sums-fit-requires c κs = search needs
-
 returns : tie.Need-returns
 unfolding def.allSumsFit
 returns c = rw (c .before .sum-fits .ensures, c .sums-fit .ensures)
 
 pub all-sums-fit-spec : {M : Type 1} → statement M
-all-sums-fit-spec = tie.close (tie.spec sum-fits-requires sums-fit-requires returns)
+all-sums-fit-spec =
+    tie.close
+    (tie.spec
+    (λ c κs. search needs)
+    (λ c κs. search needs)
+    returns)

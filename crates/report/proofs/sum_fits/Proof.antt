@@ -4,11 +4,9 @@ use borrow.Author.Needs.{needs}
 use Rattle.report.proofs.sum_fits.Statement.{statement}
 use Rattle.report.proofs.sum_fits.Tie as tie
 
-sub-result : tie.Need-sub-result
-sub-result c = search needs
-
-returns : tie.Need-returns
-returns c = room-left (c .args .x) (c .args .y) (search needs)
-
 pub sum-fits-spec : {M : Type 1} → statement M
-sum-fits-spec = tie.close (tie.spec sub-result returns)
+sum-fits-spec =
+    tie.close
+    (tie.spec
+    (λ c. search needs)
+    (λ c. room-left (c .args .x) (c .args .y) (search needs)))

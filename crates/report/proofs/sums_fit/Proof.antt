@@ -4,24 +4,6 @@ use borrow.Author.Needs.{needs}
 use Rattle.report.proofs.sums_fit.Statement.{statement}
 use Rattle.report.proofs.sums_fit.Tie as tie
 
-sum-fits-requires : tie.Need-sum-fits-requires
-sum-fits-requires c κs = search needs
-
-sum-fits-requires-2 : tie.Need-sum-fits-requires-2
-sum-fits-requires-2 c κs = search needs
-
-sum-fits-requires-3 : tie.Need-sum-fits-requires-3
-sum-fits-requires-3 c κs = search needs
-
-sum-fits-requires-4 : tie.Need-sum-fits-requires-4
-sum-fits-requires-4 c κs = search needs
-
-sum-fits-requires-5 : tie.Need-sum-fits-requires-5
-sum-fits-requires-5 c κs = search needs
-
-sum-fits-requires-6 : tie.Need-sum-fits-requires-6
-sum-fits-requires-6 c κs = search needs
-
 returns : tie.Need-returns
 unfolding def.sumsFit
 returns c =
@@ -38,10 +20,10 @@ pub sums-fit-spec : {M : Type 1} → statement M
 sums-fit-spec =
     tie.close
     (tie.spec
-    sum-fits-requires
-    sum-fits-requires-2
-    sum-fits-requires-3
-    sum-fits-requires-4
-    sum-fits-requires-5
-    sum-fits-requires-6
+    (λ c κs. search needs)
+    (λ c κs. search needs)
+    (λ c κs. search needs)
+    (λ c κs. search needs)
+    (λ c κs. search needs)
+    (λ c κs. search needs)
     returns)

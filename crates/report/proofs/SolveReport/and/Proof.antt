@@ -6,12 +6,6 @@ use borrow.Author.Needs.{needs}
 use Rattle.report.proofs.SolveReport.and.Statement.{statement}
 use Rattle.report.proofs.SolveReport.and.Tie as tie
 
-all-sums-fit-requires : tie.Need-all-sums-fit-requires
-all-sums-fit-requires c κs = search needs
-
-both-requires : tie.Need-both-requires
-both-requires c κs = all-summable _ _ (sym (c .before .all-sums-fit .ensures) ∙ c .if1 .taken)
-
 returns : tie.Need-returns
 unfolding def.and
 returns c = rw (c .both .ensures, ← c .before .before .all-sums-fit .ensures, c .before .if1 .taken)
@@ -21,4 +15,10 @@ unfolding def.and
 returns-2 c = rw (← c .before .all-sums-fit .ensures, c .if1 .left)
 
 pub and-spec : {M : Type 1} → statement M
-and-spec = tie.close (tie.spec all-sums-fit-requires both-requires returns returns-2)
+and-spec =
+    tie.close
+    (tie.spec
+    (λ c κs. search needs)
+    (λ c κs. all-summable _ _ (sym (c .before .all-sums-fit .ensures) ∙ c .if1 .taken))
+    returns
+    returns-2)

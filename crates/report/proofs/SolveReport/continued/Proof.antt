@@ -6,12 +6,6 @@ use borrow.Author.Needs.{needs}
 use Rattle.report.proofs.SolveReport.continued.Statement.{statement}
 use Rattle.report.proofs.SolveReport.continued.Tie as tie
 
-sums-fit-requires : tie.Need-sums-fit-requires
-sums-fit-requires c κs = search needs
-
-onward-requires : tie.Need-onward-requires
-onward-requires c κs = summable _ _ (sym (c .before .sums-fit .ensures) ∙ c .if1 .taken)
-
 returns : tie.Need-returns
 unfolding def.continued
 returns c = rw (c .onward .ensures, ← c .before .before .sums-fit .ensures, c .before .if1 .taken)
@@ -21,4 +15,10 @@ unfolding def.continued
 returns-2 c = rw (← c .before .sums-fit .ensures, c .if1 .left)
 
 pub continued-spec : {M : Type 1} → statement M
-continued-spec = tie.close (tie.spec sums-fit-requires onward-requires returns returns-2)
+continued-spec =
+    tie.close
+    (tie.spec
+    (λ c κs. search needs)
+    (λ c κs. summable _ _ (sym (c .before .sums-fit .ensures) ∙ c .if1 .taken))
+    returns
+    returns-2)
