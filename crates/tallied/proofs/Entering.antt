@@ -1,6 +1,6 @@
 -- A tallied solve is refused on a full tally, and the solve by itself on any other.
 use Prim.Native.Nat.{ℕ, zero, suc}
-use mathlib.Core.Path.{_≡_, refl, sym, ap, _∙_}
+use mathlib.Core.Path.{_≡_, refl, sym, _∙_}
 use mathlib.Core.Bool.{true, false, cond}
 use mathlib.Core.List.{List}
 use native.Mathlib.Omega.{arith}
@@ -32,14 +32,19 @@ module _ (t : SolveReport) (c : Call) where
   refuses : (k : ℕ) → (k ≡ 0 → ⊥) → (w : List Float) → Entered (def.with t (reply k)) t (Refused k) (c .nu) (c .states) (c .listed) w w
   unfolding solve.reply def.with
   refuses zero h w = absurd (h refl)
-  refuses (suc k) h w = record { tally = refl; left = record { answer = refl; multipliers = refl; states = refl; listed = refl; workspace = refl } }
+  refuses (suc k) h w =
+      record {
+        tally = refl;
+        left = record { answer = refl; multipliers = refl; states = refl; listed = refl; workspace = refl };
+      }
 
   -- its own number or 11
   not-zero : (k : ℕ) → cond (eqb k 0) 11 k ≡ 0 → ⊥
   not-zero zero h = absurd (omega (arith, h))
   not-zero (suc k) h = absurd (omega (arith, rw (ne-eqb (suc k) 0 (λ e. omega (arith, e))) at h))
 
-  pub on-full : full t ≡ true → (k : ℕ) → k ≡ cond (eqb (number c) 0) 11 (number c) → (w : List Float) → Entered (tallied t c) t (Refused k) (c .nu) (c .states) (c .listed) w w
+  pub on-full : full t ≡ true → (k : ℕ) → k ≡ cond (eqb (number c) 0) 11 (number c) → (w : List Float)
+      → Entered (tallied t c) t (Refused k) (c .nu) (c .states) (c .listed) w w
   unfolding tallied def.answerOn def.numberOn
   on-full f k e w = rw (f, ← e) (refuses k (λ z. not-zero (number c) (sym e ∙ z)) w)
 
@@ -52,4 +57,8 @@ module _ (t : SolveReport) (c : Call) where
       → Entered (tallied t c) s r nu st q w w′
   unfolding tallied def.answerOn def.numberOn def.with
   on-room f s r nu st q w w′ l e =
-      rw (f, same-number (number c)) (record { tally = e ∙ rw (l .answer, l .multipliers) (joined-by t (reply (number c) .outcome) (reply (number c) .nu)); left = l })
+      rw (f, same-number (number c))
+      (record {
+        tally = e ∙ rw (l .answer, l .multipliers) (joined-by t (reply (number c) .outcome) (reply (number c) .nu));
+        left = l;
+      })

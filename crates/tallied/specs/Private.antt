@@ -1,5 +1,5 @@
--- Words of private contracts: how the code joins a report by the answer in place of the outcome. No promise of a public call stands on them; those are in Joining.antt.
--- Definitions only.
+-- Words of private contracts: how the code joins a report by the answer in place of the outcome. No promise of a public
+-- call stands on them; those are in Joining.antt. Definitions only.
 use mathlib.Core.Bool.{Bool}
 use Rattle.boxed.specs.declared.BoxReport.{BoxReport}
 use Rattle.boxed.specs.declared.BoxAnswer.{BoxAnswer}

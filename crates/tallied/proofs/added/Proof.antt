@@ -4,15 +4,6 @@ use borrow.Author.Needs.{needs}
 use Rattle.tallied.proofs.added.Statement.{statement}
 use Rattle.tallied.proofs.added.Tie as tie
 
-turned-requires : tie.Need-turned-requires
-turned-requires c κs = search needs
-
-and-requires : tie.Need-and-requires
-and-requires c κs = search needs
-
-kept-requires : tie.Need-kept-requires
-kept-requires c κs = search needs
-
 returns : tie.Need-returns
 unfolding private.added
 returns c = rw (c .kept .ensures, c .before .and .ensures, c .before .before .turned .ensures)
@@ -21,7 +12,7 @@ pub added-spec : {M : Type 1} → statement M
 added-spec =
     tie.close
     (tie.spec
-    turned-requires
-    and-requires
-    kept-requires
+    (λ c κs. search needs)
+    (λ c κs. search needs)
+    (λ c κs. search needs)
     returns)

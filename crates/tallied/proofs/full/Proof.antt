@@ -14,12 +14,21 @@ returns-2 c = rw (ne-eqb _ _ (c .before .before .if1 .left), lt-ltb _ _ (c .if2 
 
 returns-3 : tie.Need-returns-3
 unfolding def.full
-returns-3 c = rw (ne-eqb _ _ (c .before .before .before .before .if1 .left), le-ltb _ _ (c .before .before .if2 .left), lt-ltb _ _ (c .if3 .taken))
+returns-3 c =
+    rw (
+      ne-eqb _ _ (c .before .before .before .before .if1 .left),
+      le-ltb _ _ (c .before .before .if2 .left),
+      lt-ltb _ _
+          (c .if3 .taken),
+    )
 
 returns-4 : tie.Need-returns-4
 unfolding def.full
 returns-4 c =
-    rw (ne-eqb _ _ (c .before .before .before .before .before .if1 .left), le-ltb _ _ (c .before .before .before .if2 .left), le-ltb _ _ (c .before .if3 .left))
+    let at-if3 = c .before in
+    let at-if2 = at-if3 .before .before in
+    let at-if1 = at-if2 .before .before in
+    rw (ne-eqb _ _ (at-if1 .if1 .left), le-ltb _ _ (at-if2 .if2 .left), le-ltb _ _ (at-if3 .if3 .left))
 
 pub full-spec : {M : Type 1} → statement M
 full-spec =

@@ -20,21 +20,6 @@ loop-holds : tie.Need-loop-holds Inv-loop μ-loop
 unfolding every
 loop-holds c = (search needs, refl)
 
-mul-is-nan : tie.Need-mul-is-nan Inv-loop μ-loop
-mul-is-nan c = search needs
-
-shared-slice-read-is-nan : tie.Need-shared-slice-read-is-nan Inv-loop μ-loop
-shared-slice-read-is-nan c = search needs
-
-is-nan-requires : tie.Need-is-nan-requires Inv-loop μ-loop
-is-nan-requires c κs = search needs
-
-add-i : tie.Need-add-i Inv-loop μ-loop
-add-i c = search needs
-
-loop-less : tie.Need-loop-less Inv-loop μ-loop
-loop-less c = search needs
-
 loop-again : tie.Need-loop-again Inv-loop μ-loop
 unfolding every
 loop-again c = (search needs, rw (add-one, ← c .before .before .before .loop .inv .1, ← c .is-nan .ensures))
@@ -52,10 +37,10 @@ no-nan-spec =
     Inv-loop
     μ-loop
     loop-holds
-    mul-is-nan
-    shared-slice-read-is-nan
-    is-nan-requires
-    add-i
-    loop-less
+    (λ c. search needs)
+    (λ c. search needs)
+    (λ c κs. search needs)
+    (λ c. search needs)
+    (λ c. search needs)
     loop-again
     returns)

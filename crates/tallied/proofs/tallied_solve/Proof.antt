@@ -29,7 +29,8 @@ returns : tie.Need-returns
 unfolding refusalOf
 returns c =
     let full = c .before .before .before .before .before .before .full .ensures in
-    on-full _ _ (sym full ∙ c .before .before .before .before .before .if1 .taken) _ (rw (← c .before .refusal .ensures) (c .or-eleven .ensures)) _
+    on-full _ _ (sym full ∙ c .before .before .before .before .before .if1 .taken) _
+    (rw (← c .before .refusal .ensures) (c .or-eleven .ensures)) _
 
 solve-requires : tie.Need-solve-requires
 solve-requires c κs = search needs
@@ -57,7 +58,8 @@ unfolding refusalOf solveReply
 returns-2 c =
     let at-solve = c .before .before .before .before .before .before .before .before .before .before .before in
     let at-if1 = at-solve .before .before .before .before .before in
-    on-room _ _ (sym (at-if1 .before .full .ensures) ∙ at-if1 .if1 .left) _ _ _ _ _ _ _ (at-solve .solve .ensures) (rw (← c .before .no-nan .ensures) (c .joined-by .ensures))
+    on-room _ _ (sym (at-if1 .before .full .ensures) ∙ at-if1 .if1 .left) _ _ _ _ _ _ _ (at-solve .solve .ensures)
+    (rw (← c .before .no-nan .ensures) (c .joined-by .ensures))
 
 pub tallied-solve-spec : {M : Type 1} → statement M
 tallied-solve-spec =
