@@ -5,12 +5,6 @@ use Rattle.least_norm.proofs.Runs.{reduce-ended, reduce-run}
 use Rattle.least_norm.proofs.reduce.Statement.{statement}
 use Rattle.least_norm.proofs.reduce.Tie as tie
 
-returns : tie.Need-returns
-returns c =
-    let at-bring = c .before .before .before .before .before .before in
-    let at-find-pivot = at-bring .before .before .before .before in
-    reduce-ended _ _ _ _ _ _ _ _ _ (at-bring .bring .ensures) (c .if1 .taken) (at-find-pivot .find-pivot .ensures .0)
-
 returns-2 : tie.Need-returns-2
 returns-2 c =
     let at-eliminate = c .before .before .before .before .before .before in
@@ -29,7 +23,7 @@ reduce-spec =
     (λ c κs. omega arith)
     (λ c. search needs)
     (λ c. search needs)
-    returns
+    (λ c. search (reduce-ended, needs))
     (λ c κs. omega arith)
     (λ c. search needs)
     (λ c. search needs)

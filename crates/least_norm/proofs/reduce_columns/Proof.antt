@@ -18,16 +18,6 @@ Inv-loop a₀ m n k b₀ perm₀ v₀ j₀ a b perm v j =
 abbrev μ-loop : tie.MeasureT-loop
 μ-loop a₀ m n k b₀ perm₀ v₀ j₀ a b perm v j = k - j
 
-loop-holds : tie.Need-loop-holds Inv-loop μ-loop
-loop-holds c = (
-  search needs,
-  search needs,
-  search needs,
-  search needs,
-  reduced-from _ _ _ _ _ (c .before .before .before .before .pre .3),
-  search needs,
-)
-
 returns : tie.Need-returns Inv-loop μ-loop
 returns c =
     let at-reduce = c .before .before .before .before .before .before .before .before .before in
@@ -49,16 +39,13 @@ loop-again c =
       omega arith,
     )
 
-returns-2 : tie.Need-returns-2 Inv-loop μ-loop
-returns-2 c = reduced-done _ _ _ _ _ _ _ (c .before .loop .inv .4) (c .before .loop .inv .0) (c .loop-test .left)
-
 pub reduce-columns-spec : {M : Type 1} → statement M
 reduce-columns-spec =
     tie.close
     (tie.spec
     Inv-loop
     μ-loop
-    loop-holds
+    (λ c. search (reduced-from, needs))
     (λ c κs. omega arith)
     (λ c. search needs)
     (λ c. search needs)
@@ -72,4 +59,4 @@ reduce-columns-spec =
     (λ c. search needs)
     (λ c. search needs)
     (λ c. search needs)
-    returns-2)
+    (λ c. search (reduced-done, needs)))

@@ -10,15 +10,6 @@ use Rattle.loops.proofs.Index.{product}
 use Rattle.least_norm.proofs.solve_at.Statement.{statement}
 use Rattle.least_norm.proofs.solve_at.Tie as tie
 
-returns : tie.Need-returns
-returns c =
-    let at-zero = c .before .before in
-    let at-if1 = at-zero .before .before in
-    let at-entry = at-if1 .before .before .before .before .before .before .before in (
-      solved-none _ _ _ _ _ _ (at-if1 .if1 .taken) (replicate-at _ _ _ _ (at-zero .zero .ensures) (at-entry .pre .7)),
-      refl,
-    )
-
 solve-full-requires : tie.Need-solve-full-requires
 solve-full-requires c κs =
     let at-if2 = c .before .before .before in
@@ -33,12 +24,6 @@ solve-full-requires c κs =
       search needs,
       at-entry .pre .8,
     )
-
-returns-2 : tie.Need-returns-2
-returns-2 c =
-    let at-solve-full = c .before .before .before .before in
-    let at-if2 = at-solve-full .before .before .before .before in
-    (full-at _ _ _ _ _ _ (at-if2 .if2 .taken) (at-solve-full .solve-full .ensures), refl)
 
 mul-w : tie.Need-mul-w
 mul-w c =
@@ -90,12 +75,12 @@ solve-at-spec =
     (tie.spec
     (λ c κs. tt)
     (λ c. search needs)
-    returns
+    (λ c. search (solved-none, replicate-at, needs))
     solve-full-requires
     (λ c. refl)
     (λ c. search needs)
     (λ c. search needs)
-    returns-2
+    (λ c. search (full-at, needs))
     mul-w
     (λ c. search needs)
     slice-relend-prefix-solve-ranked

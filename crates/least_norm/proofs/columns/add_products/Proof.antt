@@ -14,16 +14,6 @@ Inv-loop a m n from c v r₀ row₀ r row = (from ≤ row) × (row ≤ m) × (la
 abbrev μ-loop : tie.MeasureT-loop
 μ-loop a m n from c v r₀ row₀ r row = m - row
 
-loop-again : tie.Need-loop-again Inv-loop μ-loop
-loop-again c =
-    let at-place = c .before .before in
-    let at-loop = at-place .before .before in (
-      omega arith,
-      omega arith,
-      products-again _ _ _ _ _ _ _ _ _ _ _ (c .add-scaled .ensures) (at-loop .loop .inv .2) (at-place .place .ensures .0)
-          (at-loop .loop .inv .0),
-    )
-
 pub add-products-spec : {M : Type 1} → statement M
 add-products-spec =
     tie.close
@@ -37,5 +27,5 @@ add-products-spec =
     (λ c κs. omega arith)
     (λ c. omega arith)
     (λ c. omega arith)
-    loop-again
+    (λ c. search (products-again, needs))
     (λ c. search (products-done, needs)))

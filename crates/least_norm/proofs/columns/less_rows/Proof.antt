@@ -2,7 +2,7 @@
 use Prim.Native.Nat.{_-_, _≤_}
 use borrow.Author.Needs.{needs}
 use lib.ListN.{length}
-use mathlib.Core.Path.{_≡_, _∙_, refl}
+use mathlib.Core.Path.{_≡_, refl}
 use native.Mathlib.Omega.{arith}
 use Rattle.least_norm.proofs.Steps.{lessRows-start, lessRows-again, lessRows-done}
 use Rattle.least_norm.specs.Blocks.{lanes, lessRows}
@@ -14,18 +14,6 @@ Inv-loop a₀ m n j c v f row₀ a row = (j ≤ row) × (row ≤ m) × (length a
 
 abbrev μ-loop : tie.MeasureT-loop
 μ-loop a₀ m n j c v f row₀ a row = m - row
-
-loop-again : tie.Need-loop-again Inv-loop μ-loop
-loop-again c =
-    let at-less-lanes = c .before .before in
-    let at-place = at-less-lanes .before .before .before in
-    let at-loop = at-place .before .before in (
-      omega arith,
-      omega arith,
-      at-less-lanes .less-lanes .kept .0 ∙ at-loop .loop .inv .2,
-      lessRows-again _ _ _ _ _ _ _ _ _ _ _ (at-less-lanes .less-lanes .ensures) (at-loop .loop .inv .3)
-          (at-place .place .ensures .0) (at-loop .loop .inv .0),
-    )
 
 pub less-rows-spec : {M : Type 1} → statement M
 less-rows-spec =
@@ -40,6 +28,6 @@ less-rows-spec =
     (λ c κs. omega arith)
     (λ c. omega arith)
     (λ c. omega arith)
-    loop-again
+    (λ c. search (lessRows-again, needs))
     (λ c. search needs)
     (λ c. search (lessRows-done, needs)))

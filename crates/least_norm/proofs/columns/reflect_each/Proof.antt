@@ -2,7 +2,7 @@
 use Prim.Native.Nat.{ℕ, _-_, _≤_}
 use borrow.Author.Needs.{needs}
 use lib.ListN.{length}
-use mathlib.Core.Path.{_≡_, _∙_, refl}
+use mathlib.Core.Path.{_≡_, refl}
 use native.Mathlib.Omega.{arith}
 use Rattle.floats.specs.Ops.{at}
 use Rattle.least_norm.specs.LeastNorm.{reflectColumn}
@@ -19,17 +19,6 @@ Inv-loop a₀ m n j c v vtv next₀ a next =
 abbrev μ-loop : tie.MeasureT-loop
 μ-loop a₀ m n j c v vtv next₀ a next = n - next
 
-loop-again : tie.Need-loop-again Inv-loop μ-loop
-loop-again c =
-    let at-reflect-column = c .before .before in
-    let at-loop = at-reflect-column .before .before .before in (
-      omega arith,
-      omega arith,
-      at-reflect-column .reflect-column .kept .0 ∙ at-loop .loop .inv .2,
-      between-again _ _ _ _ _ _ (at-loop .loop .inv .0) (at-loop .loop .inv .3)
-          (at-reflect-column .reflect-column .ensures),
-    )
-
 pub reflect-each-spec : {M : Type 1} → statement M
 reflect-each-spec =
     tie.close
@@ -40,6 +29,6 @@ reflect-each-spec =
     (λ c κs. omega arith)
     (λ c. omega arith)
     (λ c. omega arith)
-    loop-again
+    (λ c. search (between-again, needs))
     (λ c. search needs)
     (λ c. search (between-done, needs)))

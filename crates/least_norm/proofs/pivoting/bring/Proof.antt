@@ -5,15 +5,6 @@ use Rattle.least_norm.proofs.Runs.{brought-still, brought-run}
 use Rattle.least_norm.proofs.pivoting.bring.Statement.{statement}
 use Rattle.least_norm.proofs.pivoting.bring.Tie as tie
 
-returns-2 : tie.Need-returns-2
-returns-2 c =
-    let at-swap-entries = c .before .before in
-    let at-swap-columns = at-swap-entries .before .before .before .before in
-    let at-if1 = at-swap-columns .before .before in
-    λ b.
-    brought-run _ _ _ _ _ b _ _ _ (at-swap-entries .swap-entries .ensures) (at-swap-columns .swap-columns .ensures)
-    (at-if1 .if1 .left)
-
 pub bring-spec : {M : Type 1} → statement M
 bring-spec =
     tie.close
@@ -23,4 +14,4 @@ bring-spec =
     (λ c κs. omega arith)
     (λ c. search needs)
     (λ c. search needs)
-    returns-2)
+    (λ c. search (brought-run, needs)))

@@ -14,16 +14,6 @@ Inv-loop a m n c j s₀ row₀ s row = (j ≤ row) × (row ≤ m) × (lanes s �
 abbrev μ-loop : tie.MeasureT-loop
 μ-loop a m n c j s₀ row₀ s row = m - row
 
-loop-again : tie.Need-loop-again Inv-loop μ-loop
-loop-again c =
-    let at-place = c .before in
-    let at-loop = at-place .before .before in (
-      omega arith,
-      omega arith,
-      squares-again _ _ _ _ _ _ _ _ _ _ (c .add-squares .ensures) (at-loop .loop .inv .2) (at-place .place .ensures .0)
-          (at-loop .loop .inv .0),
-    )
-
 pub column-norms-spec : {M : Type 1} → statement M
 column-norms-spec =
     tie.close
@@ -36,5 +26,5 @@ column-norms-spec =
     (λ c κs. omega arith)
     (λ c. omega arith)
     (λ c. omega arith)
-    loop-again
+    (λ c. search (squares-again, needs))
     (λ c. search (squares-done, needs)))

@@ -16,17 +16,6 @@ Inv-loop a m n j c p₀ next₀ p next = (c ≤ next) × (next ≤ n) × (p .col
 abbrev μ-loop : tie.MeasureT-loop
 μ-loop a m n j c p₀ next₀ p next = n - next
 
-loop-again : tie.Need-loop-again Inv-loop μ-loop
-loop-again c =
-    let at-column-norm2 = c .before in
-    let at-loop = at-column-norm2 .before .before in (
-      omega arith,
-      omega arith,
-      omega (arith, c .picked .ensures .1),
-      one-picked _ _ _ _ _ _ _ _ _ _ (c .picked .ensures .0) (at-column-norm2 .column-norm2 .ensures)
-          (at-loop .loop .inv .3) (at-loop .loop .inv .0),
-    )
-
 pub pick-each-spec : {M : Type 1} → statement M
 pick-each-spec =
     tie.close
@@ -38,5 +27,5 @@ pick-each-spec =
     (λ c κs. omega arith)
     (λ c. omega arith)
     (λ c. omega arith)
-    loop-again
+    (λ c. search (one-picked, needs))
     (λ c. search (between-done, needs)))

@@ -5,14 +5,11 @@ use Rattle.least_norm.proofs.Runs.{turned-some, turned-none}
 use Rattle.least_norm.proofs.solution.turn_back.Statement.{statement}
 use Rattle.least_norm.proofs.solution.turn_back.Tie as tie
 
-returns : tie.Need-returns
-returns c = turned-some _ _ _ _ _ (c .before .before .turn-each .ensures) (c .before .before .before .before .if1 .taken)
-
 pub turn-back-spec : {M : Type 1} → statement M
 turn-back-spec =
     tie.close
     (tie.spec
     (λ c κs. omega arith)
     (λ c. search needs)
-    returns
+    (λ c. search (turned-some, needs))
     (λ c. turned-none _ _ _ _ (c .if1 .left)))

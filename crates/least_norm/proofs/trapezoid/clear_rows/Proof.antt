@@ -19,7 +19,7 @@ abbrev μ-loop : tie.MeasureT-loop
 
 loop-again : tie.Need-loop-again Inv-loop μ-loop
 unfolding cleared
-loop-again c = (omega arith, search needs, search needs, search (downward-again, needs))
+loop-again c = search (downward-again, needs)
 
 returns : tie.Need-returns Inv-loop μ-loop
 unfolding cleared

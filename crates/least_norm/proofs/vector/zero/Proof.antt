@@ -2,7 +2,7 @@
 use native.Mathlib.Omega.{arith}
 use Prim.Native.Nat.{_-_, _≤_}
 use borrow.Author.Needs.{needs}
-use lib.ListN.{length, length-set, replicate, drop}
+use lib.ListN.{length, replicate, drop}
 use mathlib.Core.List.{_++_}
 use mathlib.Core.Path.{_≡_}
 use Rattle.floats.specs.Ops.{0ᶠ}
