@@ -6,9 +6,6 @@ use borrow.Author.Needs.{needs}
 use Rattle.bend_file.proofs.chain.find.Statement.{statement}
 use Rattle.bend_file.proofs.chain.find.Tie as tie
 
-returns-2 : tie.Need-returns-2
-returns-2 c = found-past _ _ _ (c .before .before .steps .ensures) (c .before .if1 .left) (c .if2 .taken)
-
 mul-locate : tie.Need-mul-locate
 mul-locate c =
     let at-if1 = c .before .before in
@@ -37,7 +34,7 @@ find-spec =
     (tie.spec
     (λ c κs. search needs)
     (λ c. found-refused _ _ _ (c .before .steps .ensures) (c .if1 .taken))
-    returns-2
+    (λ c. search (found-past, needs))
     mul-locate
     array-read-locate
     locate-requires

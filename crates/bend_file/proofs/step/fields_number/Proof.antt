@@ -8,14 +8,6 @@ use borrow.Author.Needs.{needs}
 use Rattle.bend_file.proofs.step.fields_number.Statement.{statement}
 use Rattle.bend_file.proofs.step.fields_number.Tie as tie
 
-returns : tie.Need-returns
-returns c =
-    let at-small = c .before in
-    let at-u16-at2 = at-small .before in
-    let at-u16-at = at-u16-at2 .before in
-    large _ _ _ _ (at-u16-at .u16-at .ensures .0) (at-u16-at2 .u16-at2 .ensures .0) _ (at-small .small .ensures)
-    (not-true _ (c .if1 .taken))
-
 wanted-requires : tie.Need-wanted-requires
 wanted-requires c κs = small-is _ _ (sym (c .before .before .small .ensures) ∙ not-false _ (c .before .if1 .left))
 
@@ -53,7 +45,7 @@ fields-number-spec =
     (λ c. search needs)
     (λ c κs. search needs)
     (λ c κs. search needs)
-    returns
+    (λ c. search (large, not-true, needs))
     (λ c. search needs)
     (λ c κs. search needs)
     wanted-requires

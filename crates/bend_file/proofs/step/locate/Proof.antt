@@ -9,14 +9,6 @@ sub-t9 : tie.Need-sub-t9
 unfolding fields.count
 sub-t9 c = search needs
 
-returns : tie.Need-returns
-returns c =
-    let at-u16-at2 = c .before in
-    let at-u16-at = at-u16-at2 .before in
-    let at-entry = at-u16-at .before .before in
-    located _ _ (at-entry .pre) _ _ _ (at-u16-at .u16-at .ensures .0) (at-u16-at2 .u16-at2 .ensures .0)
-    (c .u32-at .ensures .0)
-
 pub locate-spec : {M : Type 1} → statement M
 locate-spec =
     tie.close
@@ -30,4 +22,4 @@ locate-spec =
     (λ c. search needs)
     (λ c. search needs)
     sub-t9
-    returns)
+    (λ c. search (located, needs)))

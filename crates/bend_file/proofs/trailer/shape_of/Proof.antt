@@ -6,24 +6,6 @@ use borrow.Author.Needs.{needs}
 use Rattle.bend_file.proofs.trailer.shape_of.Statement.{statement}
 use Rattle.bend_file.proofs.trailer.shape_of.Tie as tie
 
-returns-3 : tie.Need-returns-3
-returns-3 c =
-    unmarked _ (c .before .before .before .if1 .left) (c .before .before .if2 .left) _ (c .before .marked .ensures)
-    (not-true _ (c .if3 .taken))
-
-returns-4 : tie.Need-returns-4
-returns-4 c =
-    let at-small = c .before in
-    let at-u16-at2 = at-small .before .before in
-    let at-u16-at = at-u16-at2 .before in
-    let at-if3 = at-u16-at .before .before in
-    let at-marked = at-if3 .before in
-    let at-if2 = at-marked .before in
-    let at-if1 = at-if2 .before in
-    large _ (at-if1 .if1 .left) (at-if2 .if2 .left) _ (at-marked .marked .ensures) (not-false _ (at-if3 .if3 .left)) _ _
-    (at-u16-at .u16-at .ensures .0) (at-u16-at2 .u16-at2 .ensures .0) _ (at-small .small .ensures)
-    (not-true _ (c .if4 .taken))
-
 -- what was read of the trailer, rules 1 to 3 being kept
 read-trailer : (c : tie.Else4) →
     let at-u32-at2 = c .before .before in
@@ -66,7 +48,7 @@ shape-of-spec =
     (λ c. short _ (c .if1 .taken))
     (λ c. long _ (c .if2 .taken))
     (λ c κs. search needs)
-    returns-3
+    (λ c. search (unmarked, not-true, needs))
     (λ c κs. search needs)
     (λ c. search needs)
     (λ c κs. search needs)
@@ -75,7 +57,7 @@ shape-of-spec =
     (λ c. search needs)
     (λ c κs. search needs)
     (λ c κs. search needs)
-    returns-4
+    (λ c. search (large, not-false, not-true, needs))
     (λ c κs. small-is _ _ (sym (c .before .small .ensures) ∙ not-false _ (c .if4 .left)))
     returns-5
     (λ c. search needs)
