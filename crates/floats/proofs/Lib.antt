@@ -3,6 +3,7 @@ pub mod Order
 pub mod Maximum
 pub mod Box
 pub mod Meaning
+pub mod OneValue
 pub mod Bits
 pub mod Infinity
 pub mod Commute

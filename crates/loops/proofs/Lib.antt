@@ -1,3 +1,4 @@
+pub mod Common
 pub mod Turns
 pub mod Fill
 pub mod Gather
@@ -7,3 +8,6 @@ pub mod Places
 pub mod Updates
 pub mod Every
 pub mod Paste
+pub mod Parts
+pub mod Same
+pub mod Rounds
