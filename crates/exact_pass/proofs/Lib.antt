@@ -5,5 +5,6 @@ pub mod Collecting
 pub mod Releases
 pub mod Periods
 pub mod Stepping
+pub mod Lent
 pub mod Running
 pub mod Replies

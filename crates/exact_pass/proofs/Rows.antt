@@ -1,13 +1,8 @@
 -- The free rows: as places of lists, and as a loop gathers them.
-use Prim.Native.Nat.{ℕ, _≤_, _<_}
-use mathlib.Core.Path.{_≡_, refl, sym, ap, _∙_}
-use mathlib.Core.Bool.{Bool}
-use mathlib.Core.List.{List}
-use lib.ListN.{getD, length}
-use native.Mathlib.Omega.{arith}
-use Rattle.loops.specs.Loops.{those, fronted}
+use Rattle.loops.proofs.Common.{ℕ, _≤_, _<_, _≡_, Bool, List, arith, length, getD}
+use Rattle.loops.specs.Loops.{those}
 use Rattle.loops.specs.Gathering.{Gathering}
-use Rattle.loops.proofs.Gather.{those-le, those-gathered, each-at, Gathered}
+use Rattle.loops.proofs.Gather.{those-le, those-gathered, each-at}
 use Rattle.loops.proofs.Paste.{front-read}
 use Rattle.exact_pass.specs.Private.{Below, Free}
 

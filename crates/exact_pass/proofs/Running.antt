@@ -1,39 +1,22 @@
 -- The steps of a pass as their loop makes them.
-use Prim.Native.Nat.{ℕ, zero, suc, _+_, _-_, _*_, _≤_, _<_}
-use mathlib.Core.Path.{_≡_, refl, sym, ap, _∙_}
-use mathlib.Core.Bool.{Bool, true, false, true≢false}
-use mathlib.Core.List.{List}
-use native.Mathlib.Omega.{arith}
-use lib.ListN.{length, take, drop}
-use lib.Ieee.{Float}
+use Rattle.loops.proofs.Common.{ℕ, _+_, _-_, _*_, _≤_, _<_, _≡_, refl, sym, ap, _∙_, true, false, List, arith, length, take, drop, Float}
+use mathlib.Core.Bool.{true≢false}
 use Rattle.loops.specs.Loops.{turns}
 use Rattle.loops.proofs.Turns.{stays}
 use Rattle.box_rows.specs.Rows as box
+use Rattle.box_rows.proofs.Matrix.{later}
 use Rattle.exact_pass.specs.Pass as def
-use Rattle.exact_pass.specs.Private as private
 use Rattle.exact_pass.specs.Pass.{Trial, trial, Pass, moved, found, failed, infeasible}
 use Rattle.exact_pass.specs.Promise.{Passed}
-use Rattle.exact_pass.specs.Private.{isMoved, part}
+use Rattle.exact_pass.specs.Private as private
+use Rattle.exact_pass.specs.Private.{isMoved, part, Copied, RunLent, MarksLent, Stepped}
+use Rattle.exact_pass.specs.declared.Mark.{Mark}
 use Rattle.exact_pass.specs.declared.Exact.{Exact}
 use Rattle.exact_pass.specs.declared.Exact.the-variants.{Failed}
+use Rattle.exact_pass.proofs.Lent.{Kept, refit, relent}
 use Rattle.exact_pass.proofs.Periods.{steps-more}
 
--- the lengths of what a run is lent stay
-pub record Kept (st₀ st : List ℕ) (nu₀ nu m₀ m y₀ y z₀ z : List Float) (q₀ q : List ℕ) (work₀ work : List Float) (marks₀ marks : List ℕ) : Type 0 where
-  pub of-st : length st ≡ length st₀
-  pub of-nu : length nu ≡ length nu₀
-  pub of-m : length m ≡ length m₀
-  pub of-y : length y ≡ length y₀
-  pub of-z : length z ≡ length z₀
-  pub of-rows : length q ≡ length q₀
-  pub of-work : length work ≡ length work₀
-  pub of-marks : length marks ≡ length marks₀
-
-pub square-le : (n n₀ m m₀ : ℕ) → n ≡ n₀ → m ≡ m₀ → n₀ * n₀ ≤ m₀ → n * n ≤ m
-square-le n n₀ m m₀ e f h = rw (e, f) h
-
-abbrev pub next : box.Problem → List Float → List ℕ → Pass
-next p nu st = def.stepOf p (trial nu st) (def.freeRows st (box.size p))
+-- ---- how a step ends a pass, or does not
 
 going-on : (c : Pass) (q : List ℕ) (e : Exact) (nu : List Float) (st q′ : List ℕ) → Passed c q e nu st q′ → isMoved e ≡ true → (c ≡ moved (trial nu st)) × (q′ ≡ q)
 going-on (moved t) q e nu st q′ h f = (ap moved (sym (h .tried)), h .listed)
@@ -42,64 +25,161 @@ going-on (failed t) q e nu st q′ h f = absurd (true≢false (sym (rw (h .answe
 going-on (infeasible l t) q e nu st q′ h f = absurd (true≢false (sym (rw (h .answer) at f)))
 
 -- a step that ends the pass ends it for good
-ended-stays : (p : box.Problem) (c : Pass) (q : List ℕ) (e : Exact) (nu : List Float) (st q′ : List ℕ) → Passed c q e nu st q′ → isMoved e ≡ false → (i : ℕ) → def.step p i c ≡ c
-unfolding def.step
-ended-stays p (moved t) q e nu st q′ h f i = absurd (true≢false (rw (h .answer) at f))
-ended-stays p (found t) q e nu st q′ h f i = refl
-ended-stays p (failed t) q e nu st q′ h f i = refl
-ended-stays p (infeasible l t) q e nu st q′ h f i = refl
+ended-stays : (p : box.Problem) (c : Pass) {q : List ℕ} {e : Exact} {nu : List Float} {st q′ : List ℕ} → Passed c q e nu st q′ → isMoved e ≡ false → ((i : ℕ) → def.step p i c ≡ c) × (def.closed c ≡ c)
+unfolding def.step def.closed
+ended-stays p (moved t) h f = absurd (true≢false (rw (h .answer) at f))
+ended-stays p (found t) h f = (λ i. refl, refl)
+ended-stays p (failed t) h f = (λ i. refl, refl)
+ended-stays p (infeasible l t) h f = (λ i. refl, refl)
 
-ended-closed : (c : Pass) (q : List ℕ) (e : Exact) (nu : List Float) (st q′ : List ℕ) → Passed c q e nu st q′ → isMoved e ≡ false → def.closed c ≡ c
-unfolding def.closed
-ended-closed (moved t) q e nu st q′ h f = absurd (true≢false (rw (h .answer) at f))
-ended-closed (found t) q e nu st q′ h f = refl
-ended-closed (failed t) q e nu st q′ h f = refl
-ended-closed (infeasible l t) q e nu st q′ h f = refl
-
-pub steps-start : (p : box.Problem) (t : Trial) → def.steps p t 0 ≡ moved t
+steps-start : (p : box.Problem) (t : Trial) → def.steps p t 0 ≡ moved t
 unfolding def.steps turns
 steps-start p t = refl
 
-steps-one : (p : box.Problem) (nu : List Float) (st : List ℕ) → def.steps p (trial nu st) 1 ≡ next p nu st
+abbrev next : box.Problem → Trial → Pass
+next p t = def.stepOf p t (def.freeRows (t .states) (box.size p))
+
+steps-one : (p : box.Problem) (t : Trial) → def.steps p t 1 ≡ next p t
 unfolding def.steps def.step turns
-steps-one p nu st = refl
+steps-one p t = refl
 
--- one turn of the loop: t began, nu and st are the multipliers and states now
-module _ (p : box.Problem) (t : Trial) (most left : ℕ) (nu : List Float) (st q : List ℕ) (a : def.steps p t most ≡ def.steps p (trial nu st) left) (more-left : 0 < left)
-    (e : Exact) (nu′ : List Float) (st′ q′ : List ℕ) (s : Passed (next p nu st) q e nu′ st′ q′) where
-  ended : isMoved e ≡ false → def.steps p t most ≡ next p nu st
-  unfolding def.steps
-  ended f = a ∙ stays (def.step p) (moved (trial nu st)) (next p nu st) 1 (steps-one p nu st) (λ i g. ended-stays p (next p nu st) q e nu′ st′ q′ s f i) left more-left
-
-  pub turn-ended : (q₀ : List ℕ) → q ≡ q₀ → isMoved e ≡ false → Passed (def.closed (def.steps p t most)) q₀ e nu′ st′ q′
-  turn-ended q₀ o f = rw (← o, ended f, ended-closed (next p nu st) q e nu′ st′ q′ s f) s
-
-  pub turn-on : (m : Trial) (since : ℕ) → isMoved e ≡ true → def.steps p m since ≡ moved (trial nu st) → (def.steps p t most ≡ def.steps p (trial nu′ st′) (left - 1)) × (def.steps p m (since + 1) ≡ moved (trial nu′ st′)) × (q′ ≡ q)
-  turn-on m since f b =
-      let o = going-on (next p nu st) q e nu′ st′ q′ s f in
-      let one : def.steps p (trial nu st) 1 ≡ moved (trial nu′ st′) = steps-one p nu st ∙ o .0 in
-      let l : 1 + (left - 1) ≡ left = omega arith in
-      let x : def.steps p (trial nu st) left ≡ def.steps p (trial nu′ st′) (left - 1) = ap (def.steps p (trial nu st)) (sym l) ∙ steps-more p (trial nu st) (trial nu′ st′) 1 (left - 1) one in
-      (a ∙ x, steps-more p m (trial nu st) since 1 b ∙ one, o .1)
-
--- no step is left
-pub turn-over : (p : box.Problem) (t : Trial) (most left : ℕ) (nu : List Float) (st q q′ : List ℕ) → def.steps p t most ≡ def.steps p (trial nu st) left → left ≤ 0 → q′ ≡ q → Passed (def.closed (def.steps p t most)) q Failed nu st q′
-unfolding def.closed
-turn-over p t most left nu st q q′ a z f =
-    let e : left ≡ 0 = omega arith in
-    let x : def.steps p t most ≡ moved (trial nu st) = a ∙ ap (def.steps p (trial nu st)) e ∙ steps-start p (trial nu st) in
-    rw x (record { answer = refl; tried = refl; listed = f })
-
--- marked anew
+-- multipliers and states marked anew
 pub marked-new : (p : box.Problem) (nu m : List Float) (st k : List ℕ) → m ≡ nu → k ≡ st → def.steps p (trial m k) 0 ≡ moved (trial nu st)
 marked-new p nu m st k e f = rw (e, f) (steps-start p (trial nu st))
 
--- what is marked is not touched by a step
-pub marked-kept : (p : box.Problem) (nu nu′ : List Float) (st st′ : List ℕ) (work work′ : List Float) (marks : List ℕ) (since : ℕ) (t : Pass) → length nu′ ≡ length nu → length st′ ≡ length st → drop 1088 work′ ≡ drop 1088 work
-    → def.steps p (trial (part 1088 (length nu) work) (take (length st) marks)) since ≡ t → def.steps p (trial (part 1088 (length nu′) work′) (take (length st′) marks)) since ≡ t
-marked-kept p nu nu′ st st′ work work′ marks since t e f d h = rw (e, f, d) h
+-- ---- the loop of the steps: b is what it began with, n what it has now
 
--- the whole pass: nu′ and st′ are the multipliers and states after the start
-pub pass-run : (p : box.Problem) (nu : List Float) (st : List ℕ) (nu′ : List Float) (st′ : List ℕ) (k n : ℕ) (q : List ℕ) (e : Exact) (nu″ : List Float) (st″ q′ : List ℕ) → private.started nu′ st′ k ≡ def.start (p .lo) (p .hi) (p .scale) nu st n → n ≡ box.size p → Passed (def.closed (def.steps p (trial nu′ st′) (8 * k + 8))) q e nu″ st″ q′ → Passed (def.exactPass p st nu) q e nu″ st″ q′
-unfolding def.exactPass
-pass-run p nu st nu′ st′ k n q e nu″ st″ q′ s f h = rw (← f, ← s) h
+pub record Now : Type 0 where
+  pub st : List ℕ
+  pub nu : List Float
+  pub m : List Float
+  pub y : List Float
+  pub z : List Float
+  pub q : List ℕ
+  pub work : List Float
+  pub marks : List ℕ
+  pub mark : Mark
+  pub left : ℕ
+
+abbrev pub now : List ℕ → List Float → List Float → List Float → List Float → List ℕ → List Float → List ℕ → Mark → ℕ → Now
+now st nu m y z q work marks mark left = record { st = st; nu = nu; m = m; y = y; z = z; q = q; work = work; marks = marks; mark = mark; left = left }
+
+abbrev at : Now → Trial
+at n = trial (n .nu) (n .st)
+
+abbrev marked : Now → Trial
+marked n = private.marked (length (n .nu)) (n .work) (n .marks)
+
+pub record Going (p : box.Problem) (most : ℕ) (b n : Now) : Type 0 where
+  pub bounded : most ≤ 264
+  pub few : n .left ≤ most
+  pub since : n .mark .since + n .left ≤ most
+  pub span : n .mark .span ≤ 528
+  pub lent : RunLent (box.size p) (p .w) (p .lo) (p .hi) (p .scale) (n .st) (n .nu) (n .m) (n .y) (n .z) (n .q) (n .work)
+  pub matrix : length (n .m) ≡ length (b .m)
+  pub direction : length (n .y) ≡ length (b .y)
+  pub solution : length (n .z) ≡ length (b .z)
+  pub workspace : length (n .work) ≡ length (b .work)
+  pub marks-long : length (n .marks) ≡ 32
+  pub steps : def.steps p (at b) most ≡ def.steps p (at n) (n .left)
+  pub round : def.steps p (marked n) (n .mark .since) ≡ moved (at n)
+  pub listed : n .q ≡ b .q
+  pub beyond : drop 1120 (n .work) ≡ drop 1120 (b .work)
+
+-- it begins: st₀ and nu₀ are those that the pass was lent, st and nu those after its start
+module _ {p : box.Problem} {st₀ : List ℕ} {nu₀ m y z : List Float} {q : List ℕ} {work₀ : List Float} (r : RunLent (box.size p) (p .w) (p .lo) (p .hi) (p .scale) st₀ nu₀ m y z q work₀)
+    {st : List ℕ} {nu work : List Float} where
+  pub going-start : {marks : List ℕ} {most : ℕ} → length st ≡ length st₀ → length nu ≡ length nu₀ → length work ≡ length work₀ → Copied nu 1088 work₀ work → take (length st) marks ≡ st → length marks ≡ 32 → most ≤ 264
+      → let n = now st nu m y z q work marks (record { since = 0; span = 2 }) most in Going p most n n
+  going-start kept-st kept-nu kept-work copied noted long bounded =
+      record {
+        bounded = bounded;
+        few = omega arith;
+        since = omega arith;
+        span = omega arith;
+        lent = record {
+          fit = refit (r .fit) kept-st kept-nu;
+          matrix = r .matrix;
+          direction = r .direction;
+          solution = r .solution;
+          list = r .list;
+          workspace = rw kept-work (r .workspace);
+        };
+        matrix = refl;
+        direction = refl;
+        solution = refl;
+        workspace = refl;
+        marks-long = long;
+        steps = refl;
+        round = marked-new p nu _ st _ (copied .part) (rw (kept-st ∙ r .fit .states ∙ sym (kept-nu ∙ r .fit .values)) at noted);
+        listed = refl;
+        beyond = refl;
+      }
+
+  -- what the pass leaves, by what its loop leaves
+  pub pass-ran : {acting : ℕ} {e : Exact} {nu′ : List Float} {st′ q′ : List ℕ} {work′ : List Float} → (private.started nu st acting ≡ def.start (p .lo) (p .hi) (p .scale) nu₀ st₀ (length nu₀)) × (acting ≤ length nu₀) → length nu ≡ length nu₀
+      → Copied nu 1088 work₀ work → Passed (def.closed (def.steps p (trial nu st) (8 * acting + 8))) q e nu′ st′ q′ × (drop 1120 work′ ≡ drop 1120 work) → private.Ran p st₀ nu₀ q work₀ e nu′ st′ q′ work′
+  unfolding def.exactPass
+  pass-ran s kept copied a =
+      record {
+        passed = rw (← r .fit .values, ← s .0) (a .0);
+        workspace = a .1 ∙ later (1088 + length nu) 1120 work work₀ (omega (arith, kept, r .fit .values, r .fit .sized .0)) (copied .after);
+      }
+
+-- ---- one turn, from what its calls promise
+
+module _ {p : box.Problem} {most : ℕ} {b n : Now} (g : Going p most b n) where
+  module _ {e : Exact} {nu : List Float} {st q : List ℕ} {work : List Float} (s : Stepped (next p (at n)) (n .q) (n .work) e nu st q work) (more-left : 0 < n .left) where
+    beyond-step : drop 1120 work ≡ drop 1120 (b .work)
+    beyond-step = later 1088 1120 work (n .work) (omega arith) (s .workspace) ∙ g .beyond
+
+    -- the pass ends in this step
+    pub going-ended : isMoved e ≡ false → Passed (def.closed (def.steps p (at b) most)) (b .q) e nu st q × (drop 1120 work ≡ drop 1120 (b .work))
+    unfolding def.steps
+    going-ended f =
+        let o = ended-stays p (next p (at n)) (s .passed) f in
+        let x = g .steps ∙ stays (def.step p) (moved (at n)) (next p (at n)) 1 (steps-one p (at n)) (λ i h. o .0 i) (n .left) more-left in
+        (rw (← g .listed, x, o .1) (s .passed), beyond-step)
+
+    -- the pass goes on with fewer steps, and may be marked anew
+    pub going-again : {m y z work′ : List Float} {marks : List ℕ} {mark : Mark} {left : ℕ} → isMoved e ≡ true → Kept (n .st) (n .nu) (n .m) (n .y) (n .z) (n .q) (n .work) st nu m y z q work
+        → ((p : box.Problem) → def.steps p (private.marked (length nu) work (n .marks)) (n .mark .since + 1) ≡ moved (trial nu st) → def.steps p (trial nu st) (n .left - 1) ≡ def.steps p (trial nu st) left) × (left ≤ n .left - 1)
+        → private.Marked nu st work (n .marks) (n .mark .since + 1) work′ marks (mark .since) × (mark .since ≤ n .mark .since + 1) × (mark .span ≤ 528) × (drop 1120 work′ ≡ drop 1120 work)
+        → length work′ ≡ length work → length marks ≡ length (n .marks) → Going p most b (now st nu m y z q work′ marks mark left)
+    going-again f h l a kept-work kept-marks =
+        let o = going-on (next p (at n)) (n .q) e nu st q (s .passed) f in
+        let one : def.steps p (at n) 1 ≡ moved (trial nu st) = steps-one p (at n) ∙ o .0 in
+        let less : 1 + (n .left - 1) ≡ n .left = omega arith in
+        let more : def.steps p (at n) (n .left) ≡ def.steps p (trial nu st) (n .left - 1) = ap (def.steps p (at n)) (sym less) ∙ steps-more p (at n) (trial nu st) 1 (n .left - 1) one in
+        let since : def.steps p (marked n) (n .mark .since + 1) ≡ moved (trial nu st) = steps-more p (marked n) (at n) (n .mark .since) 1 (g .round) ∙ one in
+        let round : def.steps p (private.marked (length nu) work (n .marks)) (n .mark .since + 1) ≡ moved (trial nu st) = rw (h .1 .0, s .workspace) since in
+        record {
+          bounded = g .bounded;
+          few = omega (arith, l .1, g .few);
+          since = omega (arith, a .1, l .1, g .since, more-left);
+          span = a .2;
+          lent = relent (g .lent) work h kept-work;
+          matrix = h .1 .1 .0 ∙ g .matrix;
+          direction = h .1 .1 .1 .0 ∙ g .direction;
+          solution = h .1 .1 .1 .1 .0 ∙ g .solution;
+          workspace = kept-work ∙ h .1 .1 .1 .1 .1 .1 .0 ∙ g .workspace;
+          marks-long = kept-marks ∙ g .marks-long;
+          steps = g .steps ∙ more ∙ l .0 p round;
+          round = a .0 p round;
+          listed = o .1 ∙ g .listed;
+          beyond = a .3 ∙ beyond-step;
+        }
+
+  -- what is compared and marked fits: lengths after the step
+  pub marks-lent : {j : ℕ} {st : List ℕ} {work : List Float} → length st ≡ length (n .st) → j ≡ length (n .nu) → length work ≡ length (n .work) → MarksLent j st work (n .marks)
+  marks-lent kept-st kept-nu kept-work =
+      let f = g .lent .fit in
+      rw (kept-nu, f .values) (record { states = kept-st ∙ f .states; few = f .sized .0; workspace = rw kept-work (g .lent .workspace); long = rw (g .marks-long) (f .sized .0) })
+
+  -- no step is left
+  pub going-over : n .left ≤ 0 → Passed (def.closed (def.steps p (at b) most)) (b .q) Failed (n .nu) (n .st) (n .q) × (drop 1120 (n .work) ≡ drop 1120 (b .work))
+  unfolding def.closed
+  going-over z =
+      let e : n .left ≡ 0 = omega arith in
+      let x : def.steps p (at b) most ≡ moved (at n) = g .steps ∙ ap (def.steps p (at n)) e ∙ steps-start p (at n) in
+      (rw x (record { answer = refl; tried = refl; listed = g .listed }), g .beyond)

@@ -1,13 +1,7 @@
 -- One step of a pass, from what its calls promise: one law for each return.
-use Prim.Native.Nat.{ℕ, zero, suc, _+_, _*_, _≤_, _<_}
-use mathlib.Core.Path.{_≡_, refl, sym, ap, _∙_}
-use mathlib.Core.Bool.{Bool, true, false, cond}
-use mathlib.Core.List.{List, [], _∷_}
-use native.Mathlib.Omega.{arith}
-use lib.Dec.{eqb}
-use lib.ListN.{length, replicate}
-use lib.Ieee.{Float, lt}
-use borrow.Author.Tests.{eq-eqb, ne-eqb}
+use Rattle.loops.proofs.Common.{ℕ, _<_, _≡_, refl, sym, ap, _∙_, Bool, true, false, cond, List, [], _∷_, arith, length, Float, eq-eqb, ne-eqb}
+use lib.ListN.{replicate}
+use lib.Ieee.{lt}
 use Rattle.floats.specs.Ops.{_⊖_, _⊘_, 0ᶠ}
 use Rattle.floats.specs.Helpers.{isFinite}
 use Rattle.box_rows.specs.Rows as box
@@ -20,42 +14,26 @@ use Rattle.exact_pass.specs.declared.Blocking.{Blocking}
 use Rattle.exact_pass.specs.declared.Exact.{Exact}
 use Rattle.exact_pass.specs.declared.Exact.the-variants.{Moved, Failed, Infeasible}
 
--- ---- the blocking row is a row
+-- ---- the blocking row is one of n rows, and its state is a byte
 
-nearer-row : (n a s : ℕ) (ratio : Float) (r : Blocking) → a < n → r .row < n → private.nearer a s ratio r .row < n
+abbrev pub Blocks : ℕ → Blocking → Type 0
+Blocks n r = (r .row < n) × (r .state < 256)
+
+nearer-blocks : {n a s : ℕ} (ratio : Float) (r : Blocking) → a < n → s < 256 → Blocks n r → Blocks n (private.nearer a s ratio r)
 unfolding private.nearer
-nearer-row n a s ratio r h g = go (lt ratio (r .alpha)) refl
+nearer-blocks {n = n} {a = a} {s = s} ratio r h b g = go (lt ratio (r .alpha)) refl
   where
-    go : (b : Bool) → lt ratio (r .alpha) ≡ b → private.nearer a s ratio r .row < n
-    go true e = rw e h
+    go : (c : Bool) → lt ratio (r .alpha) ≡ c → Blocks n (private.nearer a s ratio r)
+    go true e = rw e (h, b)
     go false e = rw e g
 
-pub ratio-row-below : (n a : ℕ) (v y lo hi : Float) (r q : Blocking) → q ≡ private.ratioRow a v y lo hi r → a < n → r .row < n → q .row < n
+pub ratio-row-blocks : (n a : ℕ) (v y lo hi : Float) (r q : Blocking) → q ≡ private.ratioRow a v y lo hi r → a < n → Blocks n r → Blocks n q
 unfolding private.ratioRow
-ratio-row-below n a v y lo hi r q e h g = rw e (go (lt 0ᶠ y) (lt y 0ᶠ))
+ratio-row-blocks n a v y lo hi r q e h g = rw e (go (lt 0ᶠ y) (lt y 0ᶠ))
   where
-    go : (b c : Bool) → cond b (private.nearer a 2 ((hi ⊖ v) ⊘ y) r) (cond c (private.nearer a 1 ((lo ⊖ v) ⊘ y) r) r) .row < n
-    go true c = nearer-row n a 2 ((hi ⊖ v) ⊘ y) r h g
-    go false true = nearer-row n a 1 ((lo ⊖ v) ⊘ y) r h g
-    go false false = g
-
--- its state is one of three
-
-nearer-state : (a s : ℕ) (ratio : Float) (r : Blocking) → s < 256 → r .state < 256 → private.nearer a s ratio r .state < 256
-unfolding private.nearer
-nearer-state a s ratio r h g = go (lt ratio (r .alpha)) refl
-  where
-    go : (b : Bool) → lt ratio (r .alpha) ≡ b → private.nearer a s ratio r .state < 256
-    go true e = rw e h
-    go false e = rw e g
-
-pub ratio-row-state : (a : ℕ) (v y lo hi : Float) (r q : Blocking) → q ≡ private.ratioRow a v y lo hi r → r .state < 256 → q .state < 256
-unfolding private.ratioRow
-ratio-row-state a v y lo hi r q e g = rw e (go (lt 0ᶠ y) (lt y 0ᶠ))
-  where
-    go : (b c : Bool) → cond b (private.nearer a 2 ((hi ⊖ v) ⊘ y) r) (cond c (private.nearer a 1 ((lo ⊖ v) ⊘ y) r) r) .state < 256
-    go true c = nearer-state a 2 ((hi ⊖ v) ⊘ y) r (omega arith) g
-    go false true = nearer-state a 1 ((lo ⊖ v) ⊘ y) r (omega arith) g
+    go : (b c : Bool) → Blocks n (cond b (private.nearer a 2 ((hi ⊖ v) ⊘ y) r) (cond c (private.nearer a 1 ((lo ⊖ v) ⊘ y) r) r))
+    go true c = nearer-blocks ((hi ⊖ v) ⊘ y) r h (omega arith) g
+    go false true = nearer-blocks ((lo ⊖ v) ⊘ y) r h (omega arith) g
     go false false = g
 
 -- ---- no bound is met
@@ -81,7 +59,7 @@ module _ (p : box.Problem) (st l : List ℕ) (y d : List Float) (rows : List ℕ
   unfolding private.unbounded
   unbounded-ray h nu = rw (← scattered) (unmet-ray (ray p st d) rows c rows′ f nu st (ray p st d) refl h)
 
--- ---- along y, by how the ratio test comes out
+-- ---- the step in the direction y, by how the ratio test comes out
 
 module _ (p : box.Problem) (nu : List Float) (st l : List ℕ) (y : List Float) (b : Bool) (alpha : Float) (r : Blocking) (rows : List ℕ)
     (far : alpha ≡ def.longest b) (test : r ≡ def.ratioTest (p .lo) (p .hi) l nu y alpha (length l)) where
@@ -89,23 +67,23 @@ module _ (p : box.Problem) (nu : List Float) (st l : List ℕ) (y : List Float) 
   tested = rw (← far) (sym test)
 
   pub taken-unbounded : (e : Exact) (rows′ : List ℕ) (f : Bool) → f ≡ isFinite (r .alpha) → f ≡ false → ((v : List Float) → Passed (private.unbounded p (trial v st) l y) rows e v st rows′) → Passed (private.takeStep p (trial nu st) l y b) rows e nu st rows′
-  unfolding private.takeStep private.stepped
+  unfolding private.takeStep
   taken-unbounded e rows′ f g h k = rw (tested, ← g, h) (k nu)
 
   pub taken-released : (e : Exact) (nu′ : List Float) (st′ : List ℕ) (f : Bool) → f ≡ isFinite (r .alpha) → f ≡ true → r .state ≡ 0 → nu′ ≡ def.advance l y (r .alpha) nu (length l) → ((m : List ℕ) → Passed (def.release p (trial nu′ st)) m e nu′ st′ m) → Passed (private.takeStep p (trial nu st) l y b) rows e nu′ st′ rows
-  unfolding private.takeStep private.stepped
+  unfolding private.takeStep
   taken-released e nu′ st′ f g h s m k = rw (tested, ← g, h, eq-eqb (r .state) 0 s, ← m) (k rows)
 
   pub taken-to-bound : (nu′ nu″ : List Float) (st″ : List ℕ) (f : Bool) → f ≡ isFinite (r .alpha) → f ≡ true → (r .state ≡ 0 → ⊥) → nu′ ≡ def.advance l y (r .alpha) nu (length l) → trial nu″ st″ ≡ def.hold (p .lo) (p .hi) (trial nu′ st) r → Passed (private.takeStep p (trial nu st) l y b) rows Moved nu″ st″ rows
-  unfolding private.takeStep private.stepped
+  unfolding private.takeStep
   taken-to-bound nu′ nu″ st″ f g h s m k = rw (tested, ← g, h, ne-eqb (r .state) 0 s, ← m) (record { answer = refl; tried = k; listed = refl })
 
--- ---- toward the target
+-- ---- a step of the free rows
 
-pub toward-run : (p : box.Problem) (nu : List Float) (st l : List ℕ) (z y₁ y : List Float) (b : Bool) (rows : List ℕ) (e : Exact) (nu′ : List Float) (st′ rows′ : List ℕ) → Passed (private.takeStep p (trial nu st) l y b) rows e nu′ st′ rows′ → y ≡ def.direction b (p .scale) l z nu y₁
-    → private.targeted z y₁ b ≡ def.target (p .w) (p .uFree) (p .scale) st nu l → Passed (private.toward p (trial nu st) l) rows e nu′ st′ rows′
-unfolding private.toward
-toward-run p nu st l z y₁ y b rows e nu′ st′ rows′ h f g = rw (← g, ← f) h
+pub free-step-run : (p : box.Problem) (nu : List Float) (st l : List ℕ) (z y₁ y : List Float) (b : Bool) (rows : List ℕ) (e : Exact) (nu′ : List Float) (st′ rows′ : List ℕ) → Passed (private.takeStep p (trial nu st) l y b) rows e nu′ st′ rows′ → y ≡ def.direction b (p .scale) l z nu y₁
+    → private.targeted z y₁ b ≡ def.target (p .w) (p .uFree) (p .scale) st nu l → Passed (private.freeStep p (trial nu st) l) rows e nu′ st′ rows′
+unfolding private.freeStep
+free-step-run p nu st l z y₁ y b rows e nu′ st′ rows′ h f g = rw (← g, ← f) h
 
 -- ---- a step, where l lists the free rows
 
@@ -115,7 +93,7 @@ module _ (p : box.Problem) (t : Trial) (rows : List ℕ) (e : Exact) (nu′ : Li
   step-released [] f g h = h
   step-released (a ∷ l) f g h = absurd (omega (arith, f, g))
 
-  pub step-toward : (l : List ℕ) → k ≡ length l → (k ≡ 0 → ⊥) → Passed (private.toward p t l) rows e nu′ st′ rows′ → Passed (def.stepOf p t l) rows e nu′ st′ rows′
-  unfolding def.stepOf private.toward private.takeStep private.stepped private.unbounded
-  step-toward [] f g h = absurd (g f)
-  step-toward (a ∷ l) f g h = h
+  pub step-free : (l : List ℕ) → k ≡ length l → (k ≡ 0 → ⊥) → Passed (private.freeStep p t l) rows e nu′ st′ rows′ → Passed (def.stepOf p t l) rows e nu′ st′ rows′
+  unfolding def.stepOf private.freeStep private.takeStep private.unbounded
+  step-free [] f g h = absurd (g f)
+  step-free (a ∷ l) f g h = h

@@ -41,9 +41,9 @@ start lo hi scale nu st n =
     turns n (record { trial = trial nu st; acting = 0 }) λ i s.
     let nu = s .trial .nu in
     let st = s .trial .states in
-    let shown = box.stateOf (at lo i) (at hi i) (at scale i) (at nu i) in
+    let state = box.stateOf (at lo i) (at hi i) (at scale i) (at nu i) in
     cond (box.acts st i)
-    (record { trial = trial (set nu i (placed (at lo i) (at hi i) shown (at nu i))) (set st i shown); acting = suc (s .acting) })
+    (record { trial = trial (set nu i (placed (at lo i) (at hi i) state (at nu i))) (set st i state); acting = suc (s .acting) })
     s
 
 -- ---- the free rows, strictly inside their boxes
@@ -94,7 +94,7 @@ target w uFree scale st nu l =
           b || lt 1e-9 (abs (residual w scale l rhs z i ⊘ at (box.row w (length scale) a) a) ⊘ at scale a);
     }
 
--- ---- the direction, to the target or along what its solution leaves, and the longest step
+-- ---- the direction, to the target or what its solution leaves, and the longest step
 
 unfoldable pub direction : Bool → List Float → List ℕ → List Float → List Float → List Float → List Float
 direction inconsistent scale l z nu y =
@@ -103,7 +103,7 @@ direction inconsistent scale l z nu y =
 unfoldable pub longest : Bool → Float
 longest inconsistent = cond inconsistent ∞ 1ᶠ
 
--- ---- the ratio test: how far the boxes let the free rows go along y, and the row that blocks it
+-- ---- the ratio test: how far the boxes let the free rows go in the direction y, and the row that blocks it
 
 unfoldable pub ratioTest : List Float → List Float → List ℕ → List Float → List Float → Float → ℕ → Blocking
 ratioTest lo hi l nu y alpha k =
@@ -114,7 +114,7 @@ ratioTest lo hi l nu y alpha k =
     cond (lt 0ᶠ (at y i)) (nearer box.atHi ((at hi a ⊖ at nu a) ⊘ at y i))
     (cond (lt (at y i) 0ᶠ) (nearer box.atLo ((at lo a ⊖ at nu a) ⊘ at y i)) r)
 
--- the free rows moved by alpha along y
+-- the free rows moved by alpha times y
 unfoldable pub advance : List ℕ → List Float → Float → List Float → ℕ → List Float
 advance l y alpha nu k = turns k nu λ i nu. set nu (getD l i 0) (at nu (getD l i 0) ⊕ alpha ⊗ at y i)
 

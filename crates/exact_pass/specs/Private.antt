@@ -11,10 +11,11 @@ use Rattle.loops.specs.Updates.{updated}
 use Rattle.floats.specs.Ops.{_⊕_, _⊖_, _⊗_, _⊘_, at, 0ᶠ, 1e6, 1e-9}
 use Rattle.floats.specs.Helpers.{larger, abs, isFinite}
 use Rattle.box_rows.specs.Rows as box
+use Rattle.box_rows.specs.Private as lists
 use Rattle.exact_pass.specs.Ray.{ray}
 use Rattle.exact_pass.specs.Pass as def
 use Rattle.exact_pass.specs.Walk as walks
-use Rattle.exact_pass.specs.Promise.{Front}
+use Rattle.exact_pass.specs.Promise.{Front, Passed}
 use Rattle.exact_pass.specs.declared.Blocking.{Blocking}
 use Rattle.exact_pass.specs.declared.Worst.{Worst}
 use Rattle.exact_pass.specs.declared.Exact.{Exact}
@@ -35,12 +36,122 @@ pub record Copied (from : List Float) (a : ℕ) (to₀ to : List Float) : Type 0
   pub part : take (length from) (drop a to) ≡ from
   pub after : drop (a + length from) to ≡ drop (a + length from) to₀
 
--- the rows f, below n, stand at the front of l, k of them
+-- the rows f, below n, at the front of l, k of them
 pub record Free (f : List ℕ) (n k : ℕ) (l : List ℕ) : Type 0 where
   pub count : k ≡ length f
   pub few : k ≤ n
   pub front : take k l ≡ f
   pub below : Below n f
+
+-- ---- what the functions are lent
+
+-- the lists of a problem of n rows, with a state and a value for each row
+pub record Fit (n : ℕ) (w lo hi scale : List Float) (st : List ℕ) (v : List Float) : Type 0 where
+  pub sized : lists.Sized n w lo hi scale
+  pub states : length st ≡ n
+  pub values : length v ≡ n
+
+-- l lists some of n rows, and y has a value for each of them
+pub record Listed (n : ℕ) (l : List ℕ) (y : List Float) : Type 0 where
+  pub below : Below n l
+  pub long : length y ≡ length l
+
+pub record RatioLent (n : ℕ) (lo hi : List Float) (l : List ℕ) (y : List Float) : Type 0 where
+  pub listed : Listed n l y
+  pub los : length lo ≡ n
+  pub his : length hi ≡ n
+  pub some : 0 < n
+
+pub record DirectionLent (n : ℕ) (scale : List Float) (l : List ℕ) (z y : List Float) : Type 0 where
+  pub listed : Listed n l y
+  pub scales : length scale ≡ n
+  pub solution : length z ≡ length l
+
+-- the system of the free rows l, and scratch for it
+pub record TargetLent (n : ℕ) (w uFree scale : List Float) (st l : List ℕ) (m y z work : List Float) : Type 0 where
+  pub square : lists.Square w n
+  pub motions : length uFree ≡ n
+  pub scales : length scale ≡ n
+  pub states : length st ≡ n
+  pub listed : Listed n l y
+  pub few : length l ≤ 32
+  pub matrix : length m ≡ length l * length l
+  pub solution : length z ≡ length l
+  pub workspace : 1120 ≤ length work
+
+-- r blocks a step by one of n rows, on a bound
+pub record Blocked (n : ℕ) (lo hi : List Float) (st : List ℕ) (r : Blocking) : Type 0 where
+  pub row : r .row < n
+  pub los : length lo ≡ n
+  pub his : length hi ≡ n
+  pub states : length st ≡ n
+  pub byte : r .state < 256
+
+pub record RayLent (n : ℕ) (w lo hi scale : List Float) (st l : List ℕ) (y : List Float) (rows : List ℕ) : Type 0 where
+  pub sized : lists.Sized n w lo hi scale
+  pub states : length st ≡ n
+  pub listed : Listed n l y
+  pub list : n ≤ length rows
+
+pub record StepLent (n : ℕ) (w lo hi scale : List Float) (st : List ℕ) (nu : List Float) (l : List ℕ) (y : List Float) (rows : List ℕ) : Type 0 where
+  pub fit : Fit n w lo hi scale st nu
+  pub listed : Listed n l y
+  pub some : 0 < n
+  pub list : n ≤ length rows
+
+-- scratch of as many values as there are free rows
+pub record FreeStepLent (n : ℕ) (w lo hi scale : List Float) (st : List ℕ) (nu : List Float) (l : List ℕ) (m y z : List Float) (rows : List ℕ) (work : List Float) : Type 0 where
+  pub lent : StepLent n w lo hi scale st nu l y rows
+  pub few : length l ≤ 32
+  pub matrix : length m ≡ length l * length l
+  pub solution : length z ≡ length l
+  pub workspace : 1120 ≤ length work
+
+-- scratch for n free rows
+pub record RunLent (n : ℕ) (w lo hi scale : List Float) (st : List ℕ) (nu m y z : List Float) (rows : List ℕ) (work : List Float) : Type 0 where
+  pub fit : Fit n w lo hi scale st nu
+  pub matrix : n * n ≤ length m
+  pub direction : n ≤ length y
+  pub solution : n ≤ length z
+  pub list : n ≤ length rows
+  pub workspace : 1120 ≤ length work
+
+pub record PassLent (n : ℕ) (w lo hi scale : List Float) (st : List ℕ) (nu : List Float) (rows : List ℕ) (work : List Float) : Type 0 where
+  pub fit : Fit n w lo hi scale st nu
+  pub list : n ≤ length rows
+  pub workspace : 1120 ≤ length work
+
+-- n rows, marked in the workspace and in `marks`
+pub record MarksLent (n : ℕ) (st : List ℕ) (work : List Float) (marks : List ℕ) : Type 0 where
+  pub states : length st ≡ n
+  pub few : n ≤ 32
+  pub workspace : 1120 ≤ length work
+  pub long : n ≤ length marks
+
+-- n rows, at most k
+pub record Small (n k : ℕ) : Type 0 where
+  pub rows : n ≤ k
+  pub entries : n * n ≤ k * k
+
+-- ---- what they leave
+
+abbrev pub targeted : List Float → List Float → Bool → def.Target
+targeted z y b = record { z = z; y = y; inconsistent = b }
+
+-- after the system of the free rows is solved
+pub record Targeted (t : def.Target) (work : List Float) (b : Bool) (y z work′ : List Float) : Type 0 where
+  pub target : targeted z y b ≡ t
+  pub workspace : drop 1088 work′ ≡ drop 1088 work
+
+-- after a step: what is marked in the workspace stays
+pub record Stepped (p : def.Pass) (rows : List ℕ) (work : List Float) (e : Exact) (nu : List Float) (st rows′ : List ℕ) (work′ : List Float) : Type 0 where
+  pub passed : Passed p rows e nu st rows′
+  pub workspace : drop 1088 work′ ≡ drop 1088 work
+
+-- after a pass
+pub record Ran (p : box.Problem) (st : List ℕ) (nu : List Float) (rows : List ℕ) (work : List Float) (e : Exact) (nu′ : List Float) (st′ rows′ : List ℕ) (work′ : List Float) : Type 0 where
+  pub passed : Passed (def.exactPass p st nu) rows e nu′ st′ rows′
+  pub workspace : drop 1120 work′ ≡ drop 1120 work
 
 -- column j of w times v, taken from the right-hand sides of the first k rows of l
 abbrev pub columnTaken : List Float → ℕ → List ℕ → ℕ → Float → ℕ → List Float → List Float
@@ -55,17 +166,23 @@ part a k work = take k (drop a work)
 unfoldable pub verdict : Bool → Bool → ℕ
 verdict drop grow = cond drop 0 (cond grow 1 2)
 
--- the rows of a walk over the first n, at the front of a list that was l₀, and their farthest; none is 0 rows,
--- whatever else is left then
-pub data Collecting (c : walks.Walked) (l₀ : List ℕ) (n k : ℕ) (far : Float) (l : List ℕ) : Type 0 where
-  nothing : c ≡ walks.none → k ≡ 0 → Collecting c l₀ n k far l
-  some : (f : List ℕ) → c ≡ walks.these f far → Front f l₀ k l → k ≤ n → Below n f → Collecting c l₀ n k far l
+-- of a walk over the first n rows: k rows, at the front of l, and their farthest
+pub record Collecting (c : walks.Walked) (n k : ℕ) (far : Float) (l : List ℕ) : Type 0 where
+  pub rows : walks.rowsOf c ≡ take k l
+  pub farthest : walks.farthestOf c ≡ far
+  pub few : k ≤ n
+  pub room : k ≤ length l
+  pub below : Below n (take k l)
 
--- The multipliers and states marked, from which the pass came to nu and st: after so many steps before, and after.
+-- the multipliers and states marked, of n rows
+abbrev pub marked : ℕ → List Float → List ℕ → def.Trial
+marked n work marks = def.trial (part 1088 n work) (take n marks)
+
+-- From what is marked the pass came to nu and st: after so many steps before, and after.
 abbrev pub Marked : List Float → List ℕ → List Float → List ℕ → ℕ → List Float → List ℕ → ℕ → Type 0
 Marked nu st work marks since work′ marks′ since′ =
-    (p : box.Problem) → def.steps p (def.trial (part 1088 (length nu) work) (take (length st) marks)) since ≡ def.moved (def.trial nu st)
-    → def.steps p (def.trial (part 1088 (length nu) work′) (take (length st) marks′)) since′ ≡ def.moved (def.trial nu st)
+    (p : box.Problem) → def.steps p (marked (length nu) work marks) since ≡ def.moved (def.trial nu st)
+    → def.steps p (marked (length nu) work′ marks′) since′ ≡ def.moved (def.trial nu st)
 
 -- ---- single rows and short words of Pass.antt, as the functions have them
 
@@ -76,8 +193,8 @@ unfoldable pub startRow : List Float → List Float → List Float → ℕ → d
 startRow lo hi scale i s =
     let nu = s .trial .nu in
     let st = s .trial .states in
-    let shown = box.stateOf (at lo i) (at hi i) (at scale i) (at nu i) in
-    cond (box.acts st i) (started (set nu i (def.placed (at lo i) (at hi i) shown (at nu i))) (set st i shown) (suc (s .acting))) s
+    let state = box.stateOf (at lo i) (at hi i) (at scale i) (at nu i) in
+    cond (box.acts st i) (started (set nu i (def.placed (at lo i) (at hi i) state (at nu i))) (set st i state) (suc (s .acting))) s
 
 abbrev pub isFree : List ℕ → ℕ → Bool
 isFree st i = eqb (box.state st i) box.inside
@@ -101,19 +218,16 @@ residualRow r scale l z b k = turns k (neg b) λ j s. s ⊕ scaled r scale l j �
 unfoldable pub tooLarge : Float → Float → Float → Bool
 tooLarge r d s = lt 1e-9 (abs (r ⊘ d) ⊘ s)
 
-unfoldable pub inconsistent : List Float → List Float → List ℕ → List Float → List Float → ℕ → Bool
+abbrev pub inconsistent : List Float → List Float → List ℕ → List Float → List Float → ℕ → Bool
 inconsistent w scale l rhs z k =
     turns k false λ i b.
     let a = getD l i 0 in
     b || tooLarge (def.residual w scale l rhs z i) (at (box.row w (length scale) a) a) (at scale a)
 
-unfoldable pub downhill : List Float → List Float → List ℕ → List Float → List Float → ℕ → List Float
+abbrev pub downhill : List Float → List Float → List ℕ → List Float → List Float → ℕ → List Float
 downhill w scale l rhs z k = tab (λ (i : ℕ). neg (def.residual w scale l rhs z i)) k
 
-abbrev pub targeted : List Float → List Float → Bool → def.Target
-targeted z y b = record { z = z; y = y; inconsistent = b }
-
-unfoldable pub toTarget : List Float → List ℕ → List Float → List Float → ℕ → List Float
+abbrev pub toTarget : List Float → List ℕ → List Float → List Float → ℕ → List Float
 toTarget scale l z nu k = tab (λ (i : ℕ). at scale (getD l i 0) ⊗ at z i ⊖ at nu (getD l i 0)) k
 
 unfoldable pub nearer : ℕ → ℕ → Float → Blocking → Blocking
@@ -134,25 +248,22 @@ unfoldable pub releaseRow : box.Problem → List ℕ → List Float → ℕ → 
 releaseRow p st nu i best =
     cond (pushed (box.state st i) (box.rowSum (box.row (p .w) (box.size p) i) (at (p .uFree) i) nu)) (worse i (box.residualAt p nu i) best) best
 
-unfoldable pub worstRow : box.Problem → List ℕ → List Float → ℕ → Worst
+abbrev pub worstRow : box.Problem → List ℕ → List Float → ℕ → Worst
 worstRow p st nu n = turns n (record { residual = 1e-9; row = box.size p }) (releaseRow p st nu)
 
 unfoldable pub unbounded : box.Problem → def.Trial → List ℕ → List Float → def.Pass
 unbounded p t l y = def.unmet t (ray p (t .states) (def.scattered l y (replicate (box.size p) 0ᶠ) (length l)))
 
--- a step along y as far as r lets it
-unfoldable pub stepped : box.Problem → def.Trial → List ℕ → List Float → Blocking → def.Pass
-stepped p t l y r =
+-- the step in the direction y that the ratio test allows
+unfoldable pub takeStep : box.Problem → def.Trial → List ℕ → List Float → Bool → def.Pass
+takeStep p t l y inconsistent =
+    let r = def.ratioTest (p .lo) (p .hi) l (t .nu) y (def.longest inconsistent) (length l) in
     let u = def.trial (def.advance l y (r .alpha) (t .nu) (length l)) (t .states) in
     cond (isFinite (r .alpha)) (cond (eqb (r .state) box.inside) (def.release p u) (def.moved (def.hold (p .lo) (p .hi) u r)))
     (unbounded p t l y)
 
-unfoldable pub takeStep : box.Problem → def.Trial → List ℕ → List Float → Bool → def.Pass
-takeStep p t l y inconsistent =
-    stepped p t l y (def.ratioTest (p .lo) (p .hi) l (t .nu) y (def.longest inconsistent) (length l))
-
-unfoldable pub toward : box.Problem → def.Trial → List ℕ → def.Pass
-toward p t l =
+unfoldable pub freeStep : box.Problem → def.Trial → List ℕ → def.Pass
+freeStep p t l =
     let g = def.target (p .w) (p .uFree) (p .scale) (t .states) (t .nu) l in
     takeStep p t l (def.direction (g .inconsistent) (p .scale) l (g .z) (t .nu) (g .y)) (g .inconsistent)
 

@@ -13,7 +13,7 @@ use Rattle.exact_pass.specs.Ray.{ray}
 use Rattle.exact_pass.specs.declared.Exact.{Exact}
 use Rattle.exact_pass.specs.declared.Exact.the-variants.{Moved, Found, Failed, Infeasible}
 
--- the lists of a problem of at most 32 rows, with a state and a value for each row, and room in the row list
+-- the lists of a problem of at most 32 rows, with a state and a value for each row, and a row list long enough
 abbrev pub fits : box.Problem → List ℕ → List Float → List ℕ → Bool
 fits p st v rows =
     leb (box.size p) 32 && eqb (length (p .w)) (box.size p * box.size p) && eqb (length (p .lo)) (box.size p)

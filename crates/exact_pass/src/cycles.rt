@@ -24,30 +24,19 @@ fn same(x: f64, y: f64) -> bool
     f64::to_bits(x) == f64::to_bits(y)
 }
 
-fn same_multipliers(nu: &[f64], work: &[f64]) -> bool
-    requires { ⌜ 1088 + length (now nu) ≤ length (now work) ⌝ }
-    ensures { λ q. ⌜
-        (q ≡ true → (now (nu .entry)) ≡ private.part 1088 (length (now (nu .entry))) (now (work .entry))) ⌝ }
+// Whether multipliers and states are those marked.
+fn same_trial(nu: &[f64], states: &[u8], work: &[f64], marks: &[u8]) -> bool
+    requires { ⌜ private.MarksLent (length (now nu)) (now states) (now work) (now marks) ⌝ }
+    ensures { λ q. ⌜ (q ≡ true → def.trial (now (nu .entry)) (now (states .entry))
+        ≡ private.marked (length (now (nu .entry))) (now (work .entry)) (now (marks .entry))) ⌝ }
 {
     let n = nu.len();
     let mut i = 0;
     while i < n {
-        if !same(read::at(work, crate::MARKED + i), read::at(nu, i)) {
+        if read::state(marks, i) != read::state(states, i) {
             return false;
         }
-        i += 1;
-    }
-    true
-}
-
-fn same_states(states: &[u8], marks: &[u8]) -> bool
-    requires { ⌜ length (now states) ≤ length (now marks) ⌝ }
-    ensures { λ q. ⌜ (q ≡ true → (now (states .entry)) ≡ take (length (now (states .entry))) (now (marks .entry))) ⌝ }
-{
-    let n = states.len();
-    let mut i = 0;
-    while i < n {
-        if read::state(marks, i) != read::state(states, i) {
+        if !same(read::at(work, crate::MARKED + i), read::at(nu, i)) {
             return false;
         }
         i += 1;
@@ -64,22 +53,16 @@ pub fn left_after(
     since: usize,
     left: usize,
 ) -> usize
-    requires { ⌜
-        (1088 + length (now nu) ≤ length (now work)) × (length (now states) ≤ length (now marks)) × (0 < since) ⌝ }
+    requires { ⌜ private.MarksLent (length (now nu)) (now states) (now work) (now marks) × (0 < since) ⌝ }
     ensures { λ q. ⌜ ((p : box.Problem)
-        → def.steps p
-        (def.trial (private.part 1088 (length (now (nu .entry))) (now (work .entry)))
-        (take (length (now (states .entry))) (now (marks .entry))))
-        since
+        → def.steps p (private.marked (length (now (nu .entry))) (now (work .entry)) (now (marks .entry))) since
         ≡ def.moved (def.trial (now (nu .entry)) (now (states .entry)))
         → def.steps p (def.trial (now (nu .entry)) (now (states .entry))) left
         ≡ def.steps p (def.trial (now (nu .entry)) (now (states .entry))) q)
         × (q ≤ left) ⌝ }
 {
-    if same_states(states, marks) {
-        if same_multipliers(nu, work) {
-            return left % since;
-        }
+    if same_trial(nu, states, work, marks) {
+        return left % since;
     }
     left
 }
@@ -99,8 +82,8 @@ pub fn mark_states(states: &[u8], marks: &mut [u8])
 
 // The mark is set anew after 2, 4, 8 .. steps (Brent).
 pub fn mark(nu: &[f64], states: &[u8], work: &mut [f64], marks: &mut [u8], m: Mark) -> Mark
-    requires { ⌜ (1120 ≤ length (now work)) × (length (now nu) ≤ 32) × (length (now states) ≤ length (now marks))
-        × (m .since ≤ 264) × (m .span ≤ 528) ⌝ }
+    requires { ⌜ private.MarksLent (length (now nu)) (now states) (now work) (now marks) × (m .since ≤ 264)
+        × (m .span ≤ 528) ⌝ }
     ensures { λ q. ⌜
         private.Marked (now (nu .entry)) (now (states .entry)) (now (work .entry)) (now (marks .entry)) (m .since)
         (now (work .exit)) (now (marks .exit)) (q .since)

@@ -1,4 +1,4 @@
-// The direction of a step: to the target, or where there is none along what its solution leaves.
+// The direction of a step: to the target or, where there is none, what its solution leaves.
 ghost use mathlib.Core.Path.{_≡_};
 ghost use lib.ListN.{length};
 ghost use Rattle.exact_pass.specs.Pass as def;
@@ -6,9 +6,7 @@ ghost use Rattle.exact_pass.specs.Private as private;
 use crate::read;
 
 fn to_target(scale: &[f64], free: &[u8], z: &[f64], nu: &[f64], y: &mut [f64])
-    requires { ⌜ private.Below (length (now nu)) (now free) × (length (now scale) ≡ length (now nu))
-        × (length (now z) ≡ length (now free))
-        × (length (now y) ≡ length (now free)) ⌝ }
+    requires { ⌜ private.DirectionLent (length (now nu)) (now scale) (now free) (now z) (now y) ⌝ }
     ensures { λ q. ⌜ now (y .exit)
         ≡ private.toTarget (now (scale .entry)) (now (free .entry)) (now (z .entry)) (now (nu .entry))
         (length (now (free .entry))) ⌝ }
@@ -30,9 +28,7 @@ pub fn direction(
     nu: &[f64],
     y: &mut [f64],
 )
-    requires { ⌜ private.Below (length (now nu)) (now free) × (length (now scale) ≡ length (now nu))
-        × (length (now z) ≡ length (now free))
-        × (length (now y) ≡ length (now free)) ⌝ }
+    requires { ⌜ private.DirectionLent (length (now nu)) (now scale) (now free) (now z) (now y) ⌝ }
     ensures { λ q. ⌜ now (y .exit)
         ≡ def.direction inconsistent (now (scale .entry)) (now (free .entry)) (now (z .entry)) (now (nu .entry))
         (now (y .entry)) ⌝ }

@@ -42,8 +42,8 @@ pub enum Exact {
     Infeasible(usize),
 }
 
-// How far the boxes let a step go, and the row that blocks it with its state there: INSIDE is no row. The state stands
-// in a whole word: a byte would have the compiler copy what fills up the struct, row by row.
+// How far the boxes let a step go, and the row that blocks it with its state there: INSIDE is no row. The state is a
+// whole word: a byte would have the compiler copy what fills up the struct, row by row.
 pub struct Blocking {
     pub alpha: f64,
     pub row: usize,
@@ -86,29 +86,11 @@ fn fits(
     if n > 32 {
         return false;
     }
-    if w != n * n {
-        return false;
-    }
-    if lo != n {
-        return false;
-    }
-    if hi != n {
-        return false;
-    }
-    if scale != n {
-        return false;
-    }
-    if states != n {
-        return false;
-    }
-    if nu != n {
-        return false;
-    }
-    n <= rows
+    (w == n * n) & (lo == n) & (hi == n) & (scale == n) & (states == n) & (nu == n) & (n <= rows)
 }
 
 // From the multipliers in nu the exact solution, in their place, with the states that the pass leaves; or the rows
-// along which the problem falls without end, at the front of `rows`. A call whose lists do not fit, or whose workspace
+// of a ray, on which the problem falls without end, at the front of `rows`. A call whose lists do not fit, or whose workspace
 // is too short, fails and changes nothing.
 pub fn exact_pass(
     w: &[f64],

@@ -20,7 +20,7 @@ fn nearer(a: usize, state: usize, ratio: f64, r: Blocking) -> Blocking
     r
 }
 
-// Row a at v, which goes along y.
+// Row a at v, which moves by y.
 fn ratio_row(a: usize, v: f64, y: f64, lo: f64, hi: f64, r: Blocking) -> Blocking
     ensures { λ q. ⌜ q ≡ private.ratioRow a v y lo hi r ⌝ }
 {
@@ -33,7 +33,7 @@ fn ratio_row(a: usize, v: f64, y: f64, lo: f64, hi: f64, r: Blocking) -> Blockin
     r
 }
 
-// As far as the boxes let the free rows go along y, and no farther than alpha.
+// How far the boxes let the free rows go in the direction y, and no farther than alpha.
 pub fn ratio_test(
     lo: &[f64],
     hi: &[f64],
@@ -42,9 +42,7 @@ pub fn ratio_test(
     y: &[f64],
     alpha: f64,
 ) -> Blocking
-    requires { ⌜ private.Below (length (now nu)) (now free) × (length (now free) ≤ length (now y))
-        × (length (now lo) ≡ length (now nu))
-        × (length (now hi) ≡ length (now nu)) × (0 < length (now nu)) ⌝ }
+    requires { ⌜ private.RatioLent (length (now nu)) (now lo) (now hi) (now free) (now y) ⌝ }
     ensures { λ q. ⌜ (q
         ≡ def.ratioTest (now (lo .entry)) (now (hi .entry)) (now (free .entry)) (now (nu .entry)) (now (y .entry))
         alpha (length (now (free .entry))))
@@ -72,9 +70,9 @@ pub fn ratio_test(
     r
 }
 
-// The free rows moved by alpha along y.
+// The free rows moved by alpha times y.
 pub fn advance(free: &[u8], y: &[f64], alpha: f64, nu: &mut [f64])
-    requires { ⌜ private.Below (length (now nu)) (now free) × (length (now free) ≤ length (now y)) ⌝ }
+    requires { ⌜ private.Listed (length (now nu)) (now free) (now y) ⌝ }
     ensures { λ q. ⌜ now (nu .exit)
         ≡ def.advance (now (free .entry)) (now (y .entry)) alpha (now (nu .entry)) (length (now (free .entry))) ⌝ }
 {

@@ -111,7 +111,7 @@ fn collect(
     ensures { λ q. ⌜ private.Collecting
         (walks.walked (now (lo .entry)) (now (hi .entry)) (now (scale .entry)) (now (states .entry)) (now (y .entry))
         least (length (now (y .entry))))
-        (now (list .entry)) (length (now (y .entry))) (q .count) (q .farthest) (now (list .exit)) ⌝ }
+        (length (now (y .entry))) (q .count) (q .farthest) (now (list .exit)) ⌝ }
 {
     let n = y.len();
     let mut k = 0;
@@ -199,7 +199,7 @@ fn falls(w: &[f64], u_free: &[f64], y: &[f64], l: &[usize], far: f64) -> bool
         × (length (now «u_free») ≡ length (now y)) ⌝ }
     ensures { λ q. ⌜ q ≡ private.falls
         (private.linear (now («u_free» .entry)) (now (y .entry)) (now (l .entry)) (length (now (l .entry))))
-        (private.quadratic (now (w .entry)) (length (now («u_free» .entry))) (now (y .entry)) (now (l .entry))
+        (private.quadratic (now (w .entry)) (length (now (y .entry))) (now (y .entry)) (now (l .entry))
         (length (now (l .entry))))
         far ⌝ }
 {
@@ -236,9 +236,8 @@ pub fn ray(
     y: &[f64],
     rows: &mut [usize],
 ) -> usize
-    requires { ⌜ lists.Sized (length (now «u_free»)) (now w) (now lo) (now hi) (now scale)
-        × (length (now states) ≡ length (now «u_free»))
-        × (length (now y) ≡ length (now «u_free»)) × (length (now «u_free») ≤ length (now rows)) ⌝ }
+    requires { ⌜ private.Fit (length (now «u_free»)) (now w) (now lo) (now hi) (now scale) (now states) (now y)
+        × (length (now «u_free») ≤ length (now rows)) ⌝ }
     ensures { λ q. ⌜ promise.Front
         (rays.ray
         (box.problem (now (w .entry)) (now («u_free» .entry)) (now (lo .entry)) (now (hi .entry)) (now (scale .entry)))

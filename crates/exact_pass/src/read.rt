@@ -28,7 +28,7 @@ pub fn state(l: &[u8], i: usize) -> u8
     l[i]
 }
 
-// The number of a row that stands at i as a byte.
+// The number of a row, which is a byte at place i.
 pub fn row_number(l: &[u8], i: usize) -> usize
     requires { ⌜ i < length (now l) ⌝ }
     ensures { λ q. ⌜ q ≡ getD (now (l .entry)) i 0 ⌝ }

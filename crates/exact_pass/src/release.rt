@@ -7,7 +7,6 @@ ghost use Prim.Native.Nat.{ℕ, _≤_, _<_};
 ghost use lib.ListN.{length};
 ghost use Rattle.floats.specs.Ops.{at};
 ghost use Rattle.box_rows.specs.Rows as box;
-ghost use Rattle.box_rows.specs.Private as lists;
 ghost use Rattle.exact_pass.specs.Pass as def;
 ghost use Rattle.exact_pass.specs.Private as private;
 ghost use Rattle.exact_pass.specs.Promise as promise;
@@ -81,15 +80,14 @@ fn release_row(
     i: usize,
     worst: Worst,
 ) -> Worst
-    requires { ⌜ lists.Sized (length (now nu)) (now w) (now lo) (now hi) (now scale)
-        × (length (now «u_free») ≡ length (now nu)) × (length (now states) ≡ length (now nu))
-        × (i < length (now nu)) × (worst .row ≤ length (now nu)) ⌝ }
+    requires { ⌜ private.Fit (length (now «u_free»)) (now w) (now lo) (now hi) (now scale) (now states) (now nu)
+        × (i < length (now «u_free»)) × (worst .row ≤ length (now «u_free»)) ⌝ }
     ensures { λ q. ⌜ (q
         ≡ private.releaseRow
         (box.problem (now (w .entry)) (now («u_free» .entry)) (now (lo .entry)) (now (hi .entry))
         (now (scale .entry)))
         (now (states .entry)) (now (nu .entry)) i worst)
-        × (q .row ≤ length (now (nu .entry))) ⌝ }
+        × (q .row ≤ length (now («u_free» .entry))) ⌝ }
 {
     let s = read::state(states, i);
     if s == box_rows::INSIDE {
@@ -98,7 +96,7 @@ fn release_row(
     if s == box_rows::IDLE {
         return worst;
     }
-    let n = nu.len();
+    let n = u_free.len();
     bound_row(
         read::row(w, n, i),
         read::at(u_free, i),
@@ -122,16 +120,15 @@ fn worst_row(
     states: &[u8],
     nu: &[f64],
 ) -> usize
-    requires { ⌜ lists.Sized (length (now nu)) (now w) (now lo) (now hi) (now scale)
-        × (length (now «u_free») ≡ length (now nu)) × (length (now states) ≡ length (now nu)) ⌝ }
+    requires { ⌜ private.Fit (length (now «u_free»)) (now w) (now lo) (now hi) (now scale) (now states) (now nu) ⌝ }
     ensures { λ q. ⌜ (q
         ≡ private.worstRow
         (box.problem (now (w .entry)) (now («u_free» .entry)) (now (lo .entry)) (now (hi .entry))
         (now (scale .entry)))
-        (now (states .entry)) (now (nu .entry)) (length (now (nu .entry))) .row)
-        × (q ≤ length (now (nu .entry))) ⌝ }
+        (now (states .entry)) (now (nu .entry)) (length (now («u_free» .entry))) .row)
+        × (q ≤ length (now («u_free» .entry))) ⌝ }
 {
-    let n = nu.len();
+    let n = u_free.len();
     let mut worst = Worst {
         residual: crate::EXACT_RESIDUAL,
         row: n,
@@ -154,8 +151,7 @@ pub fn release(
     states: &mut [u8],
     nu: &[f64],
 ) -> Exact
-    requires { ⌜ lists.Sized (length (now nu)) (now w) (now lo) (now hi) (now scale)
-        × (length (now «u_free») ≡ length (now nu)) × (length (now states) ≡ length (now nu)) ⌝ }
+    requires { ⌜ private.Fit (length (now «u_free»)) (now w) (now lo) (now hi) (now scale) (now states) (now nu) ⌝ }
     ensures { λ q. ⌜ ((r : List ℕ)
         → promise.Passed
         (def.release
@@ -166,7 +162,7 @@ pub fn release(
         ⌝ }
 {
     let i = worst_row(w, u_free, lo, hi, scale, states, nu);
-    if i == nu.len() {
+    if i == u_free.len() {
         return Exact::Found;
     }
     read::put_state(states, i, box_rows::INSIDE);

@@ -25,7 +25,7 @@ use crate::start;
 use crate::system;
 
 fn scatter(free: &[u8], y: &[f64], d: &mut [f64])
-    requires { ⌜ private.Below (length (now d)) (now free) × (length (now y) ≡ length (now free)) ⌝ }
+    requires { ⌜ private.Listed (length (now d)) (now free) (now y) ⌝ }
     ensures { λ q. ⌜ now (d .exit)
         ≡ def.scattered (now (free .entry)) (now (y .entry)) (now (d .entry)) (length (now (free .entry))) ⌝ }
 {
@@ -37,18 +37,7 @@ fn scatter(free: &[u8], y: &[f64], d: &mut [f64])
     }
 }
 
-fn clear(d: &mut [f64])
-    ensures { λ q. ⌜ now (d .exit) ≡ replicate (length (now (d .entry))) 0ᶠ ⌝ }
-{
-    let n = d.len();
-    let mut i = 0;
-    while i < n {
-        read::put(d, i, 0.0);
-        i += 1;
-    }
-}
-
-// The rows of a ray along the direction y of the free rows. d is scratch for the direction of all rows.
+// The rows of a ray in the direction y of the free rows. d is 0 everywhere, and becomes the direction of all rows.
 fn free_ray(
     w: &[f64],
     u_free: &[f64],
@@ -61,11 +50,9 @@ fn free_ray(
     rows: &mut [usize],
     d: &mut [f64],
 ) -> usize
-    requires { ⌜ lists.Sized (length (now «u_free»)) (now w) (now lo) (now hi) (now scale)
-        × (length (now states) ≡ length (now «u_free»))
-        × private.Below (length (now «u_free»)) (now free) × (length (now y) ≡ length (now free))
-        × (length (now «u_free») ≤ length (now rows))
-        × (length (now d) ≡ length (now «u_free»)) ⌝ }
+    requires { ⌜ private.RayLent (length (now «u_free»)) (now w) (now lo) (now hi) (now scale) (now states)
+        (now free) (now y) (now rows)
+        × (now d ≡ replicate (length (now «u_free»)) 0ᶠ) ⌝ }
     ensures { λ q. ⌜ promise.Front
         (ray
         (box.problem (now (w .entry)) (now («u_free» .entry)) (now (lo .entry)) (now (hi .entry))
@@ -75,7 +62,6 @@ fn free_ray(
         (length (now (free .entry)))))
         (now (rows .entry)) q (now (rows .exit)) ⌝ }
 {
-    clear(d);
     scatter(free, y, d);
     rays::ray(w, u_free, lo, hi, scale, states, d, rows)
 }
@@ -92,10 +78,8 @@ fn unbounded(
     y: &[f64],
     rows: &mut [usize],
 ) -> Exact
-    requires { ⌜ lists.Sized (length (now «u_free»)) (now w) (now lo) (now hi) (now scale)
-        × (length (now states) ≡ length (now «u_free»))
-        × private.Below (length (now «u_free»)) (now free) × (length (now y) ≡ length (now free))
-        × (length (now «u_free») ≤ length (now rows)) ⌝ }
+    requires { ⌜ private.RayLent (length (now «u_free»)) (now w) (now lo) (now hi) (now scale) (now states)
+        (now free) (now y) (now rows) ⌝ }
     ensures { λ q. ⌜ ((v : List Float)
         → promise.Passed
         (private.unbounded
@@ -114,10 +98,9 @@ fn unbounded(
     Exact::Infeasible(c)
 }
 
-// The row that blocks a step is held on its bound.
+// The row that blocks a step is put on its bound.
 fn hold(lo: &[f64], hi: &[f64], states: &mut [u8], nu: &mut [f64], r: Blocking)
-    requires { ⌜ (r .row < length (now nu)) × (length (now lo) ≡ length (now nu)) × (length (now hi) ≡ length (now nu))
-        × (length (now states) ≡ length (now nu)) × (r .state < 256) ⌝ }
+    requires { ⌜ private.Blocked (length (now nu)) (now lo) (now hi) (now states) r ⌝ }
     ensures { λ q. ⌜ def.trial (now (nu .exit)) (now (states .exit))
         ≡ def.hold (now (lo .entry)) (now (hi .entry)) (def.trial (now (nu .entry)) (now (states .entry))) r ⌝ }
 {
@@ -131,7 +114,7 @@ fn hold(lo: &[f64], hi: &[f64], states: &mut [u8], nu: &mut [f64], r: Blocking)
     read::put_state(states, a, state);
 }
 
-// A step of the free rows along y, as far as the boxes let it. At its end a row is freed.
+// The step of the free rows in the direction y, as long as the boxes let it be. At its end a row is freed.
 fn take_step(
     w: &[f64],
     u_free: &[f64],
@@ -145,10 +128,8 @@ fn take_step(
     inconsistent: bool,
     rows: &mut [usize],
 ) -> Exact
-    requires { ⌜ lists.Sized (length (now nu)) (now w) (now lo) (now hi) (now scale)
-        × (length (now «u_free») ≡ length (now nu)) × (length (now states) ≡ length (now nu))
-        × private.Below (length (now nu)) (now free) × (length (now y) ≡ length (now free)) × (0 < length (now nu))
-        × (length (now nu) ≤ length (now rows)) ⌝ }
+    requires { ⌜ private.StepLent (length (now «u_free»)) (now w) (now lo) (now hi) (now scale) (now states) (now nu)
+        (now free) (now y) (now rows) ⌝ }
     ensures { λ q. ⌜ promise.Passed
         (private.takeStep
         (box.problem (now (w .entry)) (now («u_free» .entry)) (now (lo .entry)) (now (hi .entry))
@@ -169,8 +150,8 @@ fn take_step(
     Exact::Moved
 }
 
-// A step toward the target of the free rows.
-fn toward(
+// A step where some row is free: to the target of the free rows, or in the direction that their system leaves.
+fn free_step(
     w: &[f64],
     u_free: &[f64],
     lo: &[f64],
@@ -185,19 +166,15 @@ fn toward(
     rows: &mut [usize],
     work: &mut [f64],
 ) -> Exact
-    requires { ⌜ lists.Sized (length (now nu)) (now w) (now lo) (now hi) (now scale)
-        × (length (now «u_free») ≡ length (now nu)) × (length (now states) ≡ length (now nu))
-        × private.Below (length (now nu)) (now free) × (0 < length (now nu)) × (length (now free) ≤ 32)
-        × (length (now m) ≡ length (now free) * length (now free)) × (length (now y) ≡ length (now free))
-        × (length (now z) ≡ length (now free)) × (length (now nu) ≤ length (now rows))
-        × (1120 ≤ length (now work)) ⌝ }
-    ensures { λ q. ⌜ promise.Passed
-        (private.toward
+    requires { ⌜ private.FreeStepLent (length (now «u_free»)) (now w) (now lo) (now hi) (now scale) (now states) (now nu)
+        (now free) (now m) (now y) (now z) (now rows) (now work) ⌝ }
+    ensures { λ q. ⌜ private.Stepped
+        (private.freeStep
         (box.problem (now (w .entry)) (now («u_free» .entry)) (now (lo .entry)) (now (hi .entry))
         (now (scale .entry)))
         (def.trial (now (nu .entry)) (now (states .entry))) (now (free .entry)))
-        (now (rows .entry)) q (now (nu .exit)) (now (states .exit)) (now (rows .exit))
-        × (drop 1088 (now (work .exit)) ≡ drop 1088 (now (work .entry))) ⌝ }
+        (now (rows .entry)) (now (work .entry)) q (now (nu .exit)) (now (states .exit)) (now (rows .exit))
+        (now (work .exit)) ⌝ }
 {
     let inconsistent = system::target(w, u_free, scale, states, nu, free, m, y, z, work);
     direction::direction(inconsistent, scale, free, z, nu, y);
@@ -230,18 +207,16 @@ fn step(
     rows: &mut [usize],
     work: &mut [f64],
 ) -> Exact
-    requires { ⌜ lists.Sized (length (now nu)) (now w) (now lo) (now hi) (now scale)
-        × (length (now «u_free») ≡ length (now nu)) × (length (now states) ≡ length (now nu))
-        × (length (now nu) * length (now nu) ≤ length (now m)) × (length (now nu) ≤ length (now y))
-        × (length (now nu) ≤ length (now z)) × (length (now nu) ≤ length (now rows)) × (1120 ≤ length (now work)) ⌝ }
-    ensures { λ q. ⌜ promise.Passed
+    requires { ⌜ private.RunLent (length (now «u_free»)) (now w) (now lo) (now hi) (now scale) (now states) (now nu)
+        (now m) (now y) (now z) (now rows) (now work) ⌝ }
+    ensures { λ q. ⌜ private.Stepped
         (def.stepOf
         (box.problem (now (w .entry)) (now («u_free» .entry)) (now (lo .entry)) (now (hi .entry))
         (now (scale .entry)))
         (def.trial (now (nu .entry)) (now (states .entry)))
         (def.freeRows (now (states .entry)) (length (now («u_free» .entry)))))
-        (now (rows .entry)) q (now (nu .exit)) (now (states .exit)) (now (rows .exit))
-        × (drop 1088 (now (work .exit)) ≡ drop 1088 (now (work .entry))) ⌝ }
+        (now (rows .entry)) (now (work .entry)) q (now (nu .exit)) (now (states .exit)) (now (rows .exit))
+        (now (work .exit)) ⌝ }
 {
     let mut free = [0u8; 32];
     let k = free_rows::free_rows(states, &mut free);
@@ -249,7 +224,7 @@ fn step(
         return release::release(w, u_free, lo, hi, scale, states, nu);
     }
     let kk = k * k;
-    toward(
+    free_step(
         w,
         u_free,
         lo,
@@ -277,7 +252,8 @@ fn moved(e: Exact) -> bool
     }
 }
 
-// At most so many steps; each is held against the multipliers and states marked, so that a cycle is found.
+// A pass makes at most 8 steps for each row that acts, and 8. Each is compared with the multipliers and states marked,
+// so that a cycle is found.
 fn run(
     w: &[f64],
     u_free: &[f64],
@@ -291,22 +267,17 @@ fn run(
     z: &mut [f64],
     rows: &mut [usize],
     work: &mut [f64],
-    most: usize,
 ) -> Exact
-    requires { ⌜ lists.Sized (length (now nu)) (now w) (now lo) (now hi) (now scale)
-        × (length (now «u_free») ≡ length (now nu)) × (length (now states) ≡ length (now nu))
-        × (length (now nu) * length (now nu) ≤ length (now matrix)) × (length (now nu) ≤ length (now y))
-        × (length (now nu) ≤ length (now z)) × (length (now nu) ≤ length (now rows)) × (1120 ≤ length (now work))
-        × (most ≤ 264) ⌝ }
-    ensures { λ q. ⌜ promise.Passed
-        (def.closed
-        (def.steps
+    requires { ⌜ private.RunLent (length (now «u_free»)) (now w) (now lo) (now hi) (now scale) (now states) (now nu)
+        (now matrix) (now y) (now z) (now rows) (now work) ⌝ }
+    ensures { λ q. ⌜ private.Ran
         (box.problem (now (w .entry)) (now («u_free» .entry)) (now (lo .entry)) (now (hi .entry))
         (now (scale .entry)))
-        (def.trial (now (nu .entry)) (now (states .entry))) most))
-        (now (rows .entry)) q (now (nu .exit)) (now (states .exit)) (now (rows .exit))
-        × (drop 1120 (now (work .exit)) ≡ drop 1120 (now (work .entry))) ⌝ }
+        (now (states .entry)) (now (nu .entry)) (now (rows .entry)) (now (work .entry)) q (now (nu .exit))
+        (now (states .exit)) (now (rows .exit)) (now (work .exit)) ⌝ }
 {
+    let acting = start::start(lo, hi, scale, states, nu);
+    let most = 8 * acting + 8;
     let mut marks = [0u8; 32];
     read::copy(nu, work, crate::MARKED);
     cycles::mark_states(states, &mut marks);
@@ -348,19 +319,14 @@ fn pass_2(
     nu: &mut [f64],
     rows: &mut [usize],
     work: &mut [f64],
-    most: usize,
 ) -> Exact
-    requires { ⌜ lists.Sized (length (now nu)) (now w) (now lo) (now hi) (now scale)
-        × (length (now «u_free») ≡ length (now nu)) × (length (now states) ≡ length (now nu))
-        × (length (now nu) ≤ 2) × (length (now nu) ≤ length (now rows)) × (1120 ≤ length (now work)) × (most ≤ 264) ⌝ }
-    ensures { λ q. ⌜ promise.Passed
-        (def.closed
-        (def.steps
+    requires { ⌜ private.PassLent (length (now «u_free»)) (now w) (now lo) (now hi) (now scale) (now states) (now nu)
+        (now rows) (now work) × private.Small (length (now «u_free»)) 2 ⌝ }
+    ensures { λ q. ⌜ private.Ran
         (box.problem (now (w .entry)) (now («u_free» .entry)) (now (lo .entry)) (now (hi .entry))
         (now (scale .entry)))
-        (def.trial (now (nu .entry)) (now (states .entry))) most))
-        (now (rows .entry)) q (now (nu .exit)) (now (states .exit)) (now (rows .exit))
-        × (drop 1120 (now (work .exit)) ≡ drop 1120 (now (work .entry))) ⌝ }
+        (now (states .entry)) (now (nu .entry)) (now (rows .entry)) (now (work .entry)) q (now (nu .exit))
+        (now (states .exit)) (now (rows .exit)) (now (work .exit)) ⌝ }
 {
     let mut m = [0.0f64; 4];
     let mut y = [0.0f64; 2];
@@ -378,7 +344,6 @@ fn pass_2(
         &mut z,
         rows,
         work,
-        most,
     )
 }
 
@@ -392,19 +357,14 @@ fn pass_8(
     nu: &mut [f64],
     rows: &mut [usize],
     work: &mut [f64],
-    most: usize,
 ) -> Exact
-    requires { ⌜ lists.Sized (length (now nu)) (now w) (now lo) (now hi) (now scale)
-        × (length (now «u_free») ≡ length (now nu)) × (length (now states) ≡ length (now nu))
-        × (length (now nu) ≤ 8) × (length (now nu) ≤ length (now rows)) × (1120 ≤ length (now work)) × (most ≤ 264) ⌝ }
-    ensures { λ q. ⌜ promise.Passed
-        (def.closed
-        (def.steps
+    requires { ⌜ private.PassLent (length (now «u_free»)) (now w) (now lo) (now hi) (now scale) (now states) (now nu)
+        (now rows) (now work) × private.Small (length (now «u_free»)) 8 ⌝ }
+    ensures { λ q. ⌜ private.Ran
         (box.problem (now (w .entry)) (now («u_free» .entry)) (now (lo .entry)) (now (hi .entry))
         (now (scale .entry)))
-        (def.trial (now (nu .entry)) (now (states .entry))) most))
-        (now (rows .entry)) q (now (nu .exit)) (now (states .exit)) (now (rows .exit))
-        × (drop 1120 (now (work .exit)) ≡ drop 1120 (now (work .entry))) ⌝ }
+        (now (states .entry)) (now (nu .entry)) (now (rows .entry)) (now (work .entry)) q (now (nu .exit))
+        (now (states .exit)) (now (rows .exit)) (now (work .exit)) ⌝ }
 {
     let mut m = [0.0f64; 64];
     let mut y = [0.0f64; 8];
@@ -422,7 +382,6 @@ fn pass_8(
         &mut z,
         rows,
         work,
-        most,
     )
 }
 
@@ -436,19 +395,14 @@ fn pass_16(
     nu: &mut [f64],
     rows: &mut [usize],
     work: &mut [f64],
-    most: usize,
 ) -> Exact
-    requires { ⌜ lists.Sized (length (now nu)) (now w) (now lo) (now hi) (now scale)
-        × (length (now «u_free») ≡ length (now nu)) × (length (now states) ≡ length (now nu))
-        × (length (now nu) ≤ 16) × (length (now nu) ≤ length (now rows)) × (1120 ≤ length (now work)) × (most ≤ 264) ⌝ }
-    ensures { λ q. ⌜ promise.Passed
-        (def.closed
-        (def.steps
+    requires { ⌜ private.PassLent (length (now «u_free»)) (now w) (now lo) (now hi) (now scale) (now states) (now nu)
+        (now rows) (now work) × private.Small (length (now «u_free»)) 16 ⌝ }
+    ensures { λ q. ⌜ private.Ran
         (box.problem (now (w .entry)) (now («u_free» .entry)) (now (lo .entry)) (now (hi .entry))
         (now (scale .entry)))
-        (def.trial (now (nu .entry)) (now (states .entry))) most))
-        (now (rows .entry)) q (now (nu .exit)) (now (states .exit)) (now (rows .exit))
-        × (drop 1120 (now (work .exit)) ≡ drop 1120 (now (work .entry))) ⌝ }
+        (now (states .entry)) (now (nu .entry)) (now (rows .entry)) (now (work .entry)) q (now (nu .exit))
+        (now (states .exit)) (now (rows .exit)) (now (work .exit)) ⌝ }
 {
     let mut m = [0.0f64; 256];
     let mut y = [0.0f64; 16];
@@ -466,7 +420,6 @@ fn pass_16(
         &mut z,
         rows,
         work,
-        most,
     )
 }
 
@@ -480,19 +433,14 @@ fn pass_32(
     nu: &mut [f64],
     rows: &mut [usize],
     work: &mut [f64],
-    most: usize,
 ) -> Exact
-    requires { ⌜ lists.Sized (length (now nu)) (now w) (now lo) (now hi) (now scale)
-        × (length (now «u_free») ≡ length (now nu)) × (length (now states) ≡ length (now nu))
-        × (length (now nu) ≤ 32) × (length (now nu) ≤ length (now rows)) × (1120 ≤ length (now work)) × (most ≤ 264) ⌝ }
-    ensures { λ q. ⌜ promise.Passed
-        (def.closed
-        (def.steps
+    requires { ⌜ private.PassLent (length (now «u_free»)) (now w) (now lo) (now hi) (now scale) (now states) (now nu)
+        (now rows) (now work) × private.Small (length (now «u_free»)) 32 ⌝ }
+    ensures { λ q. ⌜ private.Ran
         (box.problem (now (w .entry)) (now («u_free» .entry)) (now (lo .entry)) (now (hi .entry))
         (now (scale .entry)))
-        (def.trial (now (nu .entry)) (now (states .entry))) most))
-        (now (rows .entry)) q (now (nu .exit)) (now (states .exit)) (now (rows .exit))
-        × (drop 1120 (now (work .exit)) ≡ drop 1120 (now (work .entry))) ⌝ }
+        (now (states .entry)) (now (nu .entry)) (now (rows .entry)) (now (work .entry)) q (now (nu .exit))
+        (now (states .exit)) (now (rows .exit)) (now (work .exit)) ⌝ }
 {
     let mut m = [0.0f64; 1024];
     let mut y = [0.0f64; 32];
@@ -510,12 +458,10 @@ fn pass_32(
         &mut z,
         rows,
         work,
-        most,
     )
 }
 
-// A pass makes at most 8 steps for each row that acts, and 8. Its scratch has one of four sizes, so that a small
-// problem does not clear nine kilobytes.
+// The scratch of a pass has one of four sizes, so that a small problem does not clear nine kilobytes.
 pub fn pass(
     w: &[f64],
     u_free: &[f64],
@@ -527,28 +473,23 @@ pub fn pass(
     rows: &mut [usize],
     work: &mut [f64],
 ) -> Exact
-    requires { ⌜ lists.Sized (length (now nu)) (now w) (now lo) (now hi) (now scale)
-        × (length (now «u_free») ≡ length (now nu)) × (length (now states) ≡ length (now nu))
-        × (length (now nu) ≤ length (now rows)) × (1120 ≤ length (now work)) ⌝ }
-    ensures { λ q. ⌜ promise.Passed
-        (def.exactPass
+    requires { ⌜ private.PassLent (length (now «u_free»)) (now w) (now lo) (now hi) (now scale) (now states) (now nu)
+        (now rows) (now work) ⌝ }
+    ensures { λ q. ⌜ private.Ran
         (box.problem (now (w .entry)) (now («u_free» .entry)) (now (lo .entry)) (now (hi .entry))
         (now (scale .entry)))
-        (now (states .entry)) (now (nu .entry)))
-        (now (rows .entry)) q (now (nu .exit)) (now (states .exit)) (now (rows .exit))
-        × (drop 1120 (now (work .exit)) ≡ drop 1120 (now (work .entry))) ⌝ }
+        (now (states .entry)) (now (nu .entry)) (now (rows .entry)) (now (work .entry)) q (now (nu .exit))
+        (now (states .exit)) (now (rows .exit)) (now (work .exit)) ⌝ }
 {
-    let n = nu.len();
-    let acting = start::start(lo, hi, scale, states, nu);
-    let most = 8 * acting + 8;
+    let n = u_free.len();
     if n <= 2 {
-        return pass_2(w, u_free, lo, hi, scale, states, nu, rows, work, most);
+        return pass_2(w, u_free, lo, hi, scale, states, nu, rows, work);
     }
     if n > 16 {
-        return pass_32(w, u_free, lo, hi, scale, states, nu, rows, work, most);
+        return pass_32(w, u_free, lo, hi, scale, states, nu, rows, work);
     }
     if n > 8 {
-        return pass_16(w, u_free, lo, hi, scale, states, nu, rows, work, most);
+        return pass_16(w, u_free, lo, hi, scale, states, nu, rows, work);
     }
-    pass_8(w, u_free, lo, hi, scale, states, nu, rows, work, most)
+    pass_8(w, u_free, lo, hi, scale, states, nu, rows, work)
 }

@@ -1,5 +1,5 @@
-// The system of the free rows, W_ss diag(s) z = −(u_free_s + W_s,held ν_held), its solution of least norm, and what
-// that leaves of it.
+// The system of the free rows s, W_ss diag(scale_s) z = −(u_free_s + W_sb ν_b) where b are the others, its solution of
+// least norm, and what that leaves of it.
 ghost use mathlib.Core.Path.{_≡_};
 ghost use mathlib.Core.Bool.{cond};
 ghost use Prim.Native.Nat.{ℕ, _*_, _≤_, _<_};
@@ -46,8 +46,8 @@ fn right_hand_column(w: &[f64], n: usize, free: &[u8], j: usize, v: f64, rhs: &m
     }
 }
 
-// The same, where row j is held; the columns of free rows stand on the left.
-fn held_column(state: u8, w: &[f64], n: usize, free: &[u8], j: usize, v: f64, rhs: &mut [f64])
+// The same, where row j is not free: the columns of free rows are on the left.
+fn bound_column(state: u8, w: &[f64], n: usize, free: &[u8], j: usize, v: f64, rhs: &mut [f64])
     requires { ⌜ lists.Square (now w) n × (j < n) × private.Below n (now free)
         × (length (now rhs) ≡ length (now free)) ⌝ }
     ensures { λ q. ⌜ now (rhs .exit)
@@ -81,7 +81,7 @@ pub fn right_hand_side(
     right_hand_start(u_free, free, rhs);
     let mut j = 0;
     while j < n {
-        held_column(read::state(states, j), w, n, free, j, read::at(nu, j), rhs);
+        bound_column(read::state(states, j), w, n, free, j, read::at(nu, j), rhs);
         j += 1;
     }
 }
@@ -213,15 +213,12 @@ pub fn target(
     z: &mut [f64],
     work: &mut [f64],
 ) -> bool
-    requires { ⌜ lists.Square (now w) (length (now nu)) × (length (now «u_free») ≡ length (now nu))
-        × (length (now scale) ≡ length (now nu)) × (length (now states) ≡ length (now nu))
-        × private.Below (length (now nu)) (now free) × (length (now free) ≤ 32)
-        × (length (now m) ≡ length (now free) * length (now free))
-        × (length (now y) ≡ length (now free)) × (length (now z) ≡ length (now free)) × (1120 ≤ length (now work)) ⌝ }
-    ensures { λ q. ⌜ (private.targeted (now (z .exit)) (now (y .exit)) q
-        ≡ def.target (now (w .entry)) (now («u_free» .entry)) (now (scale .entry)) (now (states .entry))
+    requires { ⌜ private.TargetLent (length (now nu)) (now w) (now «u_free») (now scale) (now states) (now free)
+        (now m) (now y) (now z) (now work) ⌝ }
+    ensures { λ q. ⌜ private.Targeted
+        (def.target (now (w .entry)) (now («u_free» .entry)) (now (scale .entry)) (now (states .entry))
         (now (nu .entry)) (now (free .entry)))
-        × (drop 1088 (now (work .exit)) ≡ drop 1088 (now (work .entry))) ⌝ }
+        (now (work .entry)) q (now (y .exit)) (now (z .exit)) (now (work .exit)) ⌝ }
 {
     right_hand_side(w, u_free, states, nu, free, y);
     read::copy(y, work, crate::RIGHT_HAND_SIDE);

@@ -2,19 +2,18 @@
 use Prim.Native.Nat.{ℕ, zero, suc, _+_, _*_, _/_, _≤_, _<_}
 use mathlib.Core.Path.{_≡_, refl, sym, ap, _∙_}
 use mathlib.Core.Bool.{Bool, true, false, not, cond, _&&_, _||_}
-use mathlib.Core.List.{List, [], _∷_, _++_}
+use mathlib.Core.List.{List}
 use mathlib.Core.Logic.{⊎-elim}
 use native.Mathlib.Omega.{arith}
 use native.Mathlib.Numerals.{add-one}
-use native.Mathlib.Nat.{not-suc-le-zero, le-of-suc-le-suc, suc-mul, add-mul-div-left, eq-or-lt-of-le}
+use native.Mathlib.Nat.{not-suc-le-zero, le-of-suc-le-suc, add-mul-div-left, eq-or-lt-of-le}
 use lib.Dec.{leb, ltb, eqb}
-use lib.ListN.{length, getD, length-append, List·getD-append}
-use lib.Seq.{getD-at, getD-append-add}
+use lib.ListN.{length, getD}
 use lib.Ieee.{Float, nan}
 use borrow.Author.Tests.{le-leb, lt-leb, leb-true, leb-false, eq-eqb, eqb-true, eqb-false}
-use Rattle.loops.specs.Loops.{turns, tab}
+use Rattle.loops.specs.Loops.{tab}
+use Rattle.loops.proofs.Parts.{joined-length, joined-at}
 use Rattle.loops.proofs.Fill.{tab-length, tab-at}
-use Rattle.loops.proofs.Index as index
 use Rattle.floats.specs.Ops.{at}
 use Rattle.box_rows.specs.Rows as box
 use Rattle.boxed.specs.Solve.{Watch, Result, refusal, solveReply}
@@ -36,26 +35,6 @@ row-fits (suc n) i h =
     (λ (e : i ≡ n). rw (e, row-start-suc n) (omega arith))
     (λ (l : i < n). omega (arith, row-fits n i l, row-start-suc n))
     (eq-or-lt-of-le (le-of-suc-le-suc h))
-
--- ---- a table and a list of tables, by their places
-
-module _ {A : Type 0} (g : ℕ → List A) (k : ℕ) (long : (i : ℕ) → length (g i) ≡ k) where
-  abbrev joined : ℕ → List A
-  joined i = turns i [] λ i m. m ++ g i
-
-  pub joined-length : (i : ℕ) → length (joined i) ≡ i * k
-  unfolding turns
-  joined-length zero = omega arith
-  joined-length (suc i) = length-append (joined i) (g i) ∙ omega (arith, joined-length i, long i, suc-mul i k)
-
-  pub joined-at : (n i j : ℕ) (d : A) → i < n → j < k → getD (joined n) (i * k + j) d ≡ getD (g i) j d
-  unfolding turns
-  joined-at zero i j d h l = absurd (not-suc-le-zero h)
-  joined-at (suc n) i j d h l =
-      ⊎-elim
-      (λ (e : i ≡ n). rw (e, ← joined-length n) (getD-append-add (joined n) (g n) j d))
-      (λ (c : i < n). List·getD-append (joined n) (g n) d (i * k + j) (rw (joined-length n) (index.place n k i j c l)) ∙ joined-at n i j d c l)
-      (eq-or-lt-of-le (le-of-suc-le-suc h))
 
 -- ---- the mirrored matrix
 

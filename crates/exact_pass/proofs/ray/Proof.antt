@@ -1,22 +1,15 @@
 use Rattle.box_rows.specs.Rows as box
-use lib.ListN.{length}
-use mathlib.Core.Path.{_≡_, refl, sym, ap, _∙_}
-use Rattle.exact_pass.proofs.Replies.{Fitting, fits-lengths, left-short, left-unfit, left-passed, ray-fits, ray-unfit}
+use mathlib.Core.Path.{sym, _∙_}
+use Rattle.exact_pass.proofs.Replies.{fits-lengths, ray-fits, ray-unfit}
 use Rattle.exact_pass.proofs.ray.Statement.{statement}
 use Rattle.exact_pass.proofs.ray.Tie as tie
-
-fits-requires : tie.Need-fits-requires
-fits-requires c κs = tt
 
 ray-requires : tie.Need-ray-requires
 ray-requires c κs =
     let at-if1 = c .before in
     let at-fits2 = at-if1 .before in
     let at-args = at-fits2 .before .before .before .before .before .before .before .before .before in
-    let g = fits-lengths (box.problem (at-args .args .w .now) (at-args .args .u-free .now) (at-args .args .lo .now) (at-args .args .hi .now) (at-args .args .scale .now)) (at-args .args .states .now) (at-args .args .y .now) (at-args .args .rows .now) (sym (at-fits2 .fits2 .ensures) ∙ at-if1 .if1 .taken) in (g .sized, g .states, g .values, g .listed)
-
-same-length : tie.Need-same-length
-same-length c = c .before .before .ray .kept .1 .1 .1 .1 .1 .1 .1 .0
+    let g = fits-lengths (box.problem (at-args .args .w .now) (at-args .args .u-free .now) (at-args .args .lo .now) (at-args .args .hi .now) (at-args .args .scale .now)) (at-args .args .states .now) (at-args .args .y .now) (at-args .args .rows .now) (sym (at-fits2 .fits2 .ensures) ∙ at-if1 .if1 .taken) in g
 
 returns : tie.Need-returns
 returns c =
@@ -25,8 +18,10 @@ returns c =
     let at-fits2 = at-if1 .before in
     ray-fits _ _ _ _ _ (at-fits2 .fits2 .ensures) _ _ (at-if1 .if1 .taken) (at-ray .ray .ensures)
 
-returns-2 : tie.Need-returns-2
-returns-2 c = ray-unfit _ _ _ _ _ (c .before .fits2 .ensures) (c .if1 .left)
-
 pub ray-spec : {M : Type 1} → statement M
-ray-spec = tie.close (tie.spec fits-requires ray-requires same-length returns returns-2)
+ray-spec = tie.close (tie.spec
+    (λ c κs. tt)
+    ray-requires
+    (λ c. c .before .before .ray .kept .1 .1 .1 .1 .1 .1 .1 .0)
+    returns
+    (λ c. ray-unfit _ _ _ _ _ (c .before .fits2 .ensures) (c .if1 .left)))

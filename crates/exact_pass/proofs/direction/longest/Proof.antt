@@ -1,4 +1,4 @@
-use Rattle.floats.proofs.Infinity.{infinity-is, neg-infinity-is}
+use Rattle.floats.proofs.Infinity.{infinity-is}
 use Rattle.exact_pass.specs.Pass as def
 use Rattle.exact_pass.proofs.direction.longest.Statement.{statement}
 use Rattle.exact_pass.proofs.direction.longest.Tie as tie
@@ -12,4 +12,6 @@ unfolding def.longest
 returns-2 c = rw (c .if1 .left)
 
 pub longest-spec : {M : Type 1} → statement M
-longest-spec = tie.close (tie.spec returns returns-2)
+longest-spec = tie.close (tie.spec
+    returns
+    returns-2)

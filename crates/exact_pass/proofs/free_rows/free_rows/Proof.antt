@@ -1,13 +1,8 @@
+use Rattle.loops.proofs.Common.{_-_, _≤_, _≡_, arith, length, needs}
 use Rattle.exact_pass.proofs.Rows.{free-done}
 use Rattle.loops.proofs.Gather.{gather-start, gather-again, gather-le}
 use Rattle.loops.specs.Gathering.{Gathering}
-use Prim.Native.Nat.{_+_, _*_, _≤_, _<_, _-_}
-use mathlib.Core.Path.{_≡_, refl, sym, ap, _∙_}
-use lib.ListN.{length}
-use Rattle.exact_pass.specs.Pass as def
 use Rattle.exact_pass.specs.Private as private
-use borrow.Author.Needs.{needs}
-use native.Mathlib.Omega.{arith}
 use Rattle.exact_pass.proofs.free_rows.free_rows.Statement.{statement}
 use Rattle.exact_pass.proofs.free_rows.free_rows.Tie as tie
 
@@ -17,21 +12,6 @@ Inv-loop states free₀ n k₀ i₀ free k i = (i ≤ n) × (n ≡ length states
 abbrev μ-loop : tie.MeasureT-loop
 μ-loop states free₀ n k₀ i₀ free k i = n - i
 
-loop-holds : tie.Need-loop-holds Inv-loop μ-loop
-loop-holds c = (search needs, search needs, search needs, gather-start _ _)
-
-state-requires : tie.Need-state-requires Inv-loop μ-loop
-state-requires c κs = omega arith
-
-free-row-requires : tie.Need-free-row-requires Inv-loop μ-loop
-free-row-requires c κs = (omega (arith, gather-le _ _ _ _ _ (c .before .before .before .loop .inv .3)), omega arith)
-
-add-i : tie.Need-add-i Inv-loop μ-loop
-add-i c = omega arith
-
-loop-less : tie.Need-loop-less Inv-loop μ-loop
-loop-less c = omega arith
-
 loop-again : tie.Need-loop-again Inv-loop μ-loop
 loop-again c =
     let at-free-row = c .before .before in
@@ -39,23 +19,17 @@ loop-again c =
     let at-loop = at-state .before .before in
     (search needs, search needs, search needs, gather-again _ _ _ _ _ _ _ (at-loop .loop .inv .3) (rw (← at-state .state .ensures) (at-free-row .free-row .ensures .0)) (rw (← at-state .state .ensures) (at-free-row .free-row .ensures .1)))
 
-same-length : tie.Need-same-length Inv-loop μ-loop
-same-length c = c .before .loop .inv .2
-
-returns : tie.Need-returns Inv-loop μ-loop
-returns c = free-done _ _ (c .before .loop .i) _ _ _ (omega arith) (omega arith) (omega arith) (c .before .loop .inv .3)
-
 pub free-rows-spec : {M : Type 1} → statement M
 free-rows-spec =
     tie.close
     (tie.spec
     Inv-loop
     μ-loop
-    loop-holds
-    state-requires
-    free-row-requires
-    add-i
-    loop-less
+    (λ c. (search needs, search needs, search needs, gather-start _ _))
+    (λ c κs. omega arith)
+    (λ c κs. (omega (arith, gather-le _ _ _ _ _ (c .before .before .before .loop .inv .3)), omega arith))
+    (λ c. omega arith)
+    (λ c. omega arith)
     loop-again
-    same-length
-    returns)
+    (λ c. omega arith)
+    (λ c. free-done _ _ (c .before .loop .i) _ _ _ (omega arith) (omega arith) (omega arith) (c .before .loop .inv .3)))

@@ -1,11 +1,7 @@
+use Rattle.loops.proofs.Common.{_-_, _≤_, _≡_, arith, length, needs}
 use Rattle.exact_pass.proofs.Rows.{free-row}
-use Prim.Native.Nat.{_+_, _*_, _≤_, _<_, _-_}
-use mathlib.Core.Path.{_≡_, refl, sym, ap, _∙_}
-use lib.ListN.{length}
 use Rattle.exact_pass.specs.Pass as def
 use Rattle.loops.proofs.Turns.{turns-from, turns-again, turns-done}
-use borrow.Author.Needs.{needs}
-use native.Mathlib.Omega.{arith}
 use Rattle.exact_pass.proofs.ratio.advance.Statement.{statement}
 use Rattle.exact_pass.proofs.ratio.advance.Tie as tie
 
@@ -19,36 +15,10 @@ loop-holds : tie.Need-loop-holds Inv-loop μ-loop
 unfolding def.advance
 loop-holds c = search (turns-from, needs)
 
-row-number-requires : tie.Need-row-number-requires Inv-loop μ-loop
-row-number-requires c κs = omega arith
-
-at-requires : tie.Need-at-requires Inv-loop μ-loop
-at-requires c κs = search (free-row, needs)
-
-at-requires-2 : tie.Need-at-requires-2 Inv-loop μ-loop
-at-requires-2 c κs = omega arith
-
-put-requires : tie.Need-put-requires Inv-loop μ-loop
-put-requires c κs = search (free-row, needs)
-
-add-i : tie.Need-add-i Inv-loop μ-loop
-add-i c = omega arith
-
-loop-less : tie.Need-loop-less Inv-loop μ-loop
-loop-less c = omega arith
-
 loop-again : tie.Need-loop-again Inv-loop μ-loop
 unfolding def.advance
 loop-again c =
-    let at-put = c .before .before in
-    let at-at2 = at-put .before in
-    let at-at = at-at2 .before in
-    let at-row-number = at-at .before .before .before in
-    let at-loop = at-row-number .before .before in
-    (search needs, search needs, search needs, turns-again _ _ _ _ _ (at-loop .loop .inv .3) (rw (at-put .put .ensures, at-at .at .ensures, at-at2 .at2 .ensures, at-row-number .row-number .ensures)))
-
-same-length : tie.Need-same-length Inv-loop μ-loop
-same-length c = search needs
+    (search needs, search needs, search needs, turns-again _ _ _ _ _ (c .before .before .before .before .before .before .before .before .before .loop .inv .3) (cc))
 
 returns : tie.Need-returns Inv-loop μ-loop
 unfolding def.advance
@@ -61,12 +31,12 @@ advance-spec =
     Inv-loop
     μ-loop
     loop-holds
-    row-number-requires
-    at-requires
-    at-requires-2
-    put-requires
-    add-i
-    loop-less
+    (λ c κs. omega arith)
+    (λ c κs. search (free-row, needs))
+    (λ c κs. omega arith)
+    (λ c κs. search (free-row, needs))
+    (λ c. omega arith)
+    (λ c. omega arith)
     loop-again
-    same-length
+    (λ c. search needs)
     returns)

@@ -1,64 +1,28 @@
-use Rattle.exact_pass.specs.Ray as rays
-use Rattle.exact_pass.specs.Private as private
+use Rattle.loops.proofs.Common.{_-_, _≤_, _≡_, arith, length, needs}
+use Rattle.exact_pass.specs.Private.{quadraticRow}
 use Rattle.exact_pass.proofs.Rows.{free-row}
-use Prim.Native.Nat.{_+_, _*_, _≤_, _<_, _-_}
-use mathlib.Core.Path.{_≡_, refl, sym, ap, _∙_}
-use lib.ListN.{length}
-use Rattle.exact_pass.specs.Pass as def
 use Rattle.loops.proofs.Turns.{turns-from, turns-again, turns-done}
-use borrow.Author.Needs.{needs}
-use native.Mathlib.Omega.{arith}
 use Rattle.exact_pass.proofs.rays.quadratic_row.Statement.{statement}
 use Rattle.exact_pass.proofs.rays.quadratic_row.Tie as tie
 
 abbrev Inv-loop : tie.InvT-loop
-Inv-loop row v y l quad k q₀ j₀ q j = (j ≤ k) × (k ≡ length l) × (q ≡ private.quadraticRow row v y l quad j)
+Inv-loop row v y l quad k q₀ j₀ q j = (j ≤ k) × (k ≡ length l) × (q ≡ quadraticRow row v y l quad j)
 
 abbrev μ-loop : tie.MeasureT-loop
 μ-loop row v y l quad k q₀ j₀ q j = k - j
 
-loop-holds : tie.Need-loop-holds Inv-loop μ-loop
-unfolding private.quadraticRow
-loop-holds c = search (turns-from, needs)
-
-number-requires : tie.Need-number-requires Inv-loop μ-loop
-number-requires c κs = omega arith
-
-at-requires : tie.Need-at-requires Inv-loop μ-loop
-at-requires c κs = search (free-row, needs)
-
-at-requires-2 : tie.Need-at-requires-2 Inv-loop μ-loop
-at-requires-2 c κs = search (free-row, needs)
-
-add-j : tie.Need-add-j Inv-loop μ-loop
-add-j c = omega arith
-
-loop-less : tie.Need-loop-less Inv-loop μ-loop
-loop-less c = omega arith
-
-loop-again : tie.Need-loop-again Inv-loop μ-loop
-unfolding private.quadraticRow
-loop-again c =
-    let at-at = c .before in
-    let at-number = at-at .before in
-    let at-loop = at-number .before .before in
-    (search needs, search needs, turns-again _ _ _ _ _ (at-loop .loop .inv .2) (rw (at-at .at .ensures, c .at2 .ensures, at-number .number .ensures)))
-
-returns : tie.Need-returns Inv-loop μ-loop
-unfolding private.quadraticRow
-returns c = search (turns-done, needs)
-
 pub quadratic-row-spec : {M : Type 1} → statement M
+unfolding quadraticRow
 quadratic-row-spec =
     tie.close
     (tie.spec
     Inv-loop
     μ-loop
-    loop-holds
-    number-requires
-    at-requires
-    at-requires-2
-    add-j
-    loop-less
-    loop-again
-    returns)
+    (λ c. search (turns-from, needs))
+    (λ c κs. omega arith)
+    (λ c κs. search (free-row, needs))
+    (λ c κs. search (free-row, needs))
+    (λ c. omega arith)
+    (λ c. omega arith)
+    (λ c. (omega arith, omega arith, turns-again _ _ _ _ _ (c .before .before .before .before .loop .inv .2) (cc)))
+    (λ c. search (turns-done, needs)))

@@ -1,8 +1,5 @@
 use borrow.Author.Tests.{eq-eqb, ne-eqb}
-use Rattle.exact_pass.specs.Pass as def
 use Rattle.exact_pass.specs.Private as private
-use borrow.Author.Needs.{needs}
-use native.Mathlib.Omega.{arith}
 use Rattle.exact_pass.proofs.release.pushed.Statement.{statement}
 use Rattle.exact_pass.proofs.release.pushed.Tie as tie
 
@@ -19,4 +16,7 @@ unfolding private.pushed
 returns-3 c = rw (ne-eqb _ _ (c .before .if1 .left), ne-eqb _ _ (c .if2 .left))
 
 pub pushed-spec : {M : Type 1} → statement M
-pushed-spec = tie.close (tie.spec returns returns-2 returns-3)
+pushed-spec = tie.close (tie.spec
+    returns
+    returns-2
+    returns-3)

@@ -1,7 +1,4 @@
-use Rattle.exact_pass.specs.Pass as def
 use Rattle.exact_pass.specs.Private as private
-use borrow.Author.Needs.{needs}
-use native.Mathlib.Omega.{arith}
 use Rattle.exact_pass.proofs.release.worse.Statement.{statement}
 use Rattle.exact_pass.proofs.release.worse.Tie as tie
 
@@ -14,4 +11,6 @@ unfolding private.worse
 returns-2 c = rw (c .if1 .left)
 
 pub worse-spec : {M : Type 1} → statement M
-worse-spec = tie.close (tie.spec returns returns-2)
+worse-spec = tie.close (tie.spec
+    returns
+    returns-2)

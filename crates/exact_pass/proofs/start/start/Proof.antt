@@ -1,12 +1,7 @@
-use Rattle.exact_pass.proofs.Rows.{free-row}
-use Prim.Native.Nat.{_+_, _*_, _≤_, _<_, _-_}
-use mathlib.Core.Path.{_≡_, refl, sym, ap, _∙_}
-use lib.ListN.{length}
+use Rattle.loops.proofs.Common.{_-_, _≤_, _≡_, arith, length, needs}
 use Rattle.exact_pass.specs.Pass as def
 use Rattle.exact_pass.specs.Private as private
 use Rattle.loops.proofs.Turns.{turns-from, turns-again, turns-done}
-use borrow.Author.Needs.{needs}
-use native.Mathlib.Omega.{arith}
 use Rattle.exact_pass.proofs.start.start.Statement.{statement}
 use Rattle.exact_pass.proofs.start.start.Tie as tie
 
@@ -20,27 +15,12 @@ loop-holds : tie.Need-loop-holds Inv-loop μ-loop
 unfolding def.start private.startRow
 loop-holds c = search (turns-from, needs)
 
-start-row-requires : tie.Need-start-row-requires Inv-loop μ-loop
-start-row-requires c κs = omega arith
-
-add-i : tie.Need-add-i Inv-loop μ-loop
-add-i c = omega arith
-
-loop-less : tie.Need-loop-less Inv-loop μ-loop
-loop-less c = omega arith
-
 loop-again : tie.Need-loop-again Inv-loop μ-loop
 unfolding def.start private.startRow
 loop-again c =
     let at-start-row = c .before .before .before .before in
     let at-loop = at-start-row .before .before .before .before in
     (search needs, at-start-row .start-row .ensures .1, search needs, search needs, search needs, turns-again _ _ _ _ _ (at-loop .loop .inv .5) (at-start-row .start-row .ensures .0))
-
-same-length : tie.Need-same-length Inv-loop μ-loop
-same-length c = c .before .loop .inv .3
-
-same-length-2 : tie.Need-same-length-2 Inv-loop μ-loop
-same-length-2 c = c .before .loop .inv .2
 
 returns : tie.Need-returns Inv-loop μ-loop
 unfolding def.start private.startRow
@@ -53,10 +33,10 @@ start-spec =
     Inv-loop
     μ-loop
     loop-holds
-    start-row-requires
-    add-i
-    loop-less
+    (λ c κs. omega arith)
+    (λ c. omega arith)
+    (λ c. omega arith)
     loop-again
-    same-length
-    same-length-2
+    (λ c. omega arith)
+    (λ c. omega arith)
     returns)

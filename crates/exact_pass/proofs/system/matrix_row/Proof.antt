@@ -1,16 +1,8 @@
-use Rattle.box_rows.proofs.Matrix.{tab-filled, row-length}
-use lib.ListN.{drop}
-use mathlib.Core.List.{_++_}
-use Rattle.loops.proofs.Fill.{tab-start, tab-again, tab-done}
+use Rattle.loops.proofs.Common.{_+_, _-_, _≤_, _≡_, _++_, arith, length, drop, needs}
+use Rattle.box_rows.proofs.Matrix.{tab-filled}
+use Rattle.loops.proofs.Fill.{tab-start, tab-again}
 use Rattle.exact_pass.proofs.Rows.{free-row}
-use Prim.Native.Nat.{_+_, _*_, _≤_, _<_, _-_}
-use mathlib.Core.Path.{_≡_, refl, sym, ap, _∙_}
-use lib.ListN.{length}
-use Rattle.exact_pass.specs.Pass as def
 use Rattle.exact_pass.specs.Private as private
-use Rattle.loops.proofs.Turns.{turns-from, turns-again, turns-done}
-use borrow.Author.Needs.{needs}
-use native.Mathlib.Omega.{arith}
 use Rattle.exact_pass.proofs.system.matrix_row.Statement.{statement}
 use Rattle.exact_pass.proofs.system.matrix_row.Tie as tie
 
@@ -24,37 +16,11 @@ loop-holds : tie.Need-loop-holds Inv-loop μ-loop
 unfolding private.matrixRow
 loop-holds c = (search needs, search needs, search needs, tab-start _ _)
 
-row-number-requires : tie.Need-row-number-requires Inv-loop μ-loop
-row-number-requires c κs = omega arith
-
-at-requires : tie.Need-at-requires Inv-loop μ-loop
-at-requires c κs = search (free-row, needs)
-
-at-requires-2 : tie.Need-at-requires-2 Inv-loop μ-loop
-at-requires-2 c κs = search (free-row, needs)
-
-put-requires : tie.Need-put-requires Inv-loop μ-loop
-put-requires c κs = omega arith
-
-add-j : tie.Need-add-j Inv-loop μ-loop
-add-j c = omega arith
-
-loop-less : tie.Need-loop-less Inv-loop μ-loop
-loop-less c = omega arith
-
 loop-again : tie.Need-loop-again Inv-loop μ-loop
 unfolding private.matrixRow
 loop-again c =
-    let at-put = c .before .before in
-    let at-at2 = at-put .before in
-    let at-at = at-at2 .before in
-    let at-row-number = at-at .before .before in
-    let at-loop = at-row-number .before .before in
-    let at-pre = at-loop .before .before .before .before .before in
-    (search needs, search needs, search needs, rw (at-put .put .ensures, at-at .at .ensures, at-at2 .at2 .ensures, at-row-number .row-number .ensures) (tab-again _ _ _ _ (at-loop .loop .inv .3) (at-loop .loop .inv .2) (omega (arith, at-pre .pre .2, at-loop .loop .inv .2))))
-
-same-length : tie.Need-same-length Inv-loop μ-loop
-same-length c = c .before .loop .inv .2
+    let l = c .before .before .before .before .before .before .before .before .loop in
+    (search needs, search needs, search needs, cc (tab-again _ _ _ _ (l .inv .3) (l .inv .2) (omega arith)))
 
 returns : tie.Need-returns Inv-loop μ-loop
 unfolding private.matrixRow
@@ -70,12 +36,12 @@ matrix-row-spec =
     Inv-loop
     μ-loop
     loop-holds
-    row-number-requires
-    at-requires
-    at-requires-2
-    put-requires
-    add-j
-    loop-less
+    (λ c κs. omega arith)
+    (λ c κs. search (free-row, needs))
+    (λ c κs. search (free-row, needs))
+    (λ c κs. omega arith)
+    (λ c. omega arith)
+    (λ c. omega arith)
     loop-again
-    same-length
+    (λ c. omega arith)
     returns)

@@ -1,15 +1,10 @@
-use Prim.Native.Nat.{ℕ, _+_, _*_, _≤_, _<_, _-_}
-use mathlib.Core.Path.{_≡_, refl, sym, ap, _∙_}
-use mathlib.Core.List.{_++_}
-use lib.ListN.{length, getD, drop}
+use Rattle.loops.proofs.Common.{ℕ, _+_, _-_, _≤_, _≡_, _++_, arith, length, getD, drop, needs}
 use lib.Ieee.{neg}
 use Rattle.loops.specs.Loops.{tab}
-use Rattle.loops.proofs.Fill.{tab-start, tab-again, tab-done}
+use Rattle.loops.proofs.Fill.{tab-start, tab-again}
 use Rattle.floats.specs.Ops.{at}
 use Rattle.box_rows.proofs.Matrix.{tab-filled}
 use Rattle.exact_pass.proofs.Rows.{free-row}
-use borrow.Author.Needs.{needs}
-use native.Mathlib.Omega.{arith}
 use Rattle.exact_pass.proofs.system.right_hand_start.Statement.{statement}
 use Rattle.exact_pass.proofs.system.right_hand_start.Tie as tie
 
@@ -19,35 +14,10 @@ Inv-loop u-free free rhs₀ k i₀ rhs i = (i ≤ k) × (k ≡ length free) × (
 abbrev μ-loop : tie.MeasureT-loop
 μ-loop u-free free rhs₀ k i₀ rhs i = k - i
 
-loop-holds : tie.Need-loop-holds Inv-loop μ-loop
-loop-holds c = (search needs, search needs, search needs, tab-start _ _)
-
-row-number-requires : tie.Need-row-number-requires Inv-loop μ-loop
-row-number-requires c κs = search needs
-
-at-requires : tie.Need-at-requires Inv-loop μ-loop
-at-requires c κs = search (free-row, needs)
-
-put-requires : tie.Need-put-requires Inv-loop μ-loop
-put-requires c κs = search needs
-
-add-i : tie.Need-add-i Inv-loop μ-loop
-add-i c = search needs
-
-loop-less : tie.Need-loop-less Inv-loop μ-loop
-loop-less c = search needs
-
 loop-again : tie.Need-loop-again Inv-loop μ-loop
 loop-again c =
-    let at-put = c .before .before in
-    let at-at = at-put .before in
-    let at-row-number = at-at .before in
-    let at-loop = at-row-number .before .before .before in
-    let at-pre = at-loop .before .before .before .before in
-    (search needs, search needs, search needs, rw (at-put .put .ensures, at-at .at .ensures, at-row-number .row-number .ensures) (tab-again _ _ _ _ (at-loop .loop .inv .3) (at-loop .loop .inv .2) (omega (arith, at-pre .pre .1, at-loop .loop .inv .2))))
-
-same-length : tie.Need-same-length Inv-loop μ-loop
-same-length c = search needs
+    let l = c .before .before .before .before .before .before .before .loop in
+    (search needs, search needs, search needs, cc (tab-again _ _ _ _ (l .inv .3) (l .inv .2) (omega arith)))
 
 returns : tie.Need-returns Inv-loop μ-loop
 returns c =
@@ -61,12 +31,12 @@ right-hand-start-spec =
     (tie.spec
     Inv-loop
     μ-loop
-    loop-holds
-    row-number-requires
-    at-requires
-    put-requires
-    add-i
-    loop-less
+    (λ c. (search needs, search needs, search needs, tab-start _ _))
+    (λ c κs. search needs)
+    (λ c κs. search (free-row, needs))
+    (λ c κs. search needs)
+    (λ c. search needs)
+    (λ c. search needs)
     loop-again
-    same-length
+    (λ c. search needs)
     returns)

@@ -4,7 +4,7 @@ use mathlib.Core.List.{_++_}
 use native.Mathlib.Nat.{mul-le-mul-right, suc-mul}
 use lib.ListN.{length, drop}
 use Rattle.loops.proofs.Index.{product}
-use Rattle.exact_pass.proofs.Systems.{parts-start, parts-again, parts-done, part-length}
+use Rattle.loops.proofs.Parts.{parts-start, parts-again, parts-done, part-length}
 use Rattle.triangle.specs.Triangle as def
 use Rattle.triangle.proofs.Mirrored.{mirror-row-length}
 use borrow.Author.Needs.{needs}
