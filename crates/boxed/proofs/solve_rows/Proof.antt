@@ -9,18 +9,6 @@ start-requires c κs =
     let at-pre = c .before .before .before .before .before .before .before .before .before .before .before .before in
     rw (at-pre .pre .2) ((at-pre .pre .0 .0, at-pre .pre .0 .1), at-pre .pre .0 .2, at-pre .pre .0 .3, at-pre .pre .1)
 
-cast-nothing : tie.Need-cast-nothing
-cast-nothing c = omega arith
-
-nothing-requires : tie.Need-nothing-requires
-nothing-requires c κs = tt
-
-same-length : tie.Need-same-length
-same-length c = c .before .before .before .before .before .before .start .kept .1 .1 .1 .1 .0
-
-same-length-2 : tie.Need-same-length-2
-same-length-2 c = c .before .before .before .before .before .before .start .kept .1 .1 .1 .0
-
 returns : tie.Need-returns
 returns c =
     let at-nothing = c in
@@ -29,9 +17,6 @@ returns c =
     let at-args = at-start .before .before .before .before .before .before .before .before .before .before .before .before .before in
     let at-pre = at-args in
     (all-idle _ _ _ (at-args .args .nu .now) _ _ (at-pre .pre .2) _ _ _ (at-start .start .ensures .0) (at-if1 .if1 .taken) _ (at-nothing .nothing .ensures), refl)
-
-run-requires : tie.Need-run-requires
-run-requires c κs = omega arith
 
 cast-answer : tie.Need-cast-answer
 cast-answer c =
@@ -52,17 +37,8 @@ to-run c = c .before .before .before .before .before .before .before .before .be
 abbrev to-start-2 : tie.After-slice-known11 → tie.After-start
 to-start-2 c = c .before .before .before .before .before .before .before .before .before .before .before .before .before .before .before .before .before .before .before .before .before .before .before
 
-same-length-3 : tie.Need-same-length-3
-same-length-3 c = to-run c .run .kept .1 .1 .1 .1 .1 .1 .1 .1 .0 ∙ to-start-2 c .start .kept .1 .1 .1 .1 .0
-
 same-length-4 : tie.Need-same-length-4
 same-length-4 c = c .before .before .answer .kept .1 .1 .1 .1 .1 .0 ∙ to-run c .run .kept .1 .1 .1 .1 .1 .1 .1 .0 ∙ to-start-2 c .start .kept .1 .1 .1 .0
-
-same-length-5 : tie.Need-same-length-5
-same-length-5 c = to-run c .run .kept .1 .1 .1 .1 .1 .1 .1 .1 .1 .0
-
-same-length-6 : tie.Need-same-length-6
-same-length-6 c = to-run c .run .kept .1 .1 .1 .1 .1 .1 .1 .1 .1 .1 .0
 
 returns-2 : tie.Need-returns-2
 returns-2 c =
@@ -79,16 +55,16 @@ solve-rows-spec =
     tie.close
     (tie.spec
     start-requires
-    cast-nothing
-    nothing-requires
-    same-length
-    same-length-2
+    (λ c. omega arith)
+    (λ c κs. tt)
+    (λ c. c .before .before .before .before .before .before .start .kept .1 .1 .1 .1 .0)
+    (λ c. c .before .before .before .before .before .before .start .kept .1 .1 .1 .0)
     returns
-    run-requires
+    (λ c κs. omega arith)
     cast-answer
     answer-requires
-    same-length-3
+    (λ c. to-run c .run .kept .1 .1 .1 .1 .1 .1 .1 .1 .0 ∙ to-start-2 c .start .kept .1 .1 .1 .1 .0)
     same-length-4
-    same-length-5
-    same-length-6
+    (λ c. to-run c .run .kept .1 .1 .1 .1 .1 .1 .1 .1 .1 .0)
+    (λ c. to-run c .run .kept .1 .1 .1 .1 .1 .1 .1 .1 .1 .1 .0)
     returns-2)

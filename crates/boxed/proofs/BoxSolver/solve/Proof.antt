@@ -3,26 +3,11 @@ use lib.ListN.{length}
 use Rattle.boxed.proofs.Accepting.{accepted-by}
 use Rattle.boxed.proofs.Solving.{is-refused, is-solved}
 use lib.Seq.{length-take-le, length-front}
-use mathlib.Core.Path.{sym, _∙_, refl}
+use mathlib.Core.Path.{sym}
 use native.Mathlib.Omega.{arith}
 use borrow.Author.Needs.{needs}
 use Rattle.boxed.proofs.BoxSolver.solve.Statement.{statement}
 use Rattle.boxed.proofs.BoxSolver.solve.Tie as tie
-
-refusal-requires : tie.Need-refusal-requires
-refusal-requires c κs = search needs
-
-same-length : tie.Need-same-length
-same-length c = search needs
-
-same-length-2 : tie.Need-same-length-2
-same-length-2 c = search needs
-
-same-length-3 : tie.Need-same-length-3
-same-length-3 c = search needs
-
-returns : tie.Need-returns
-returns c = is-refused _ _ _ _ _ _ _ (c .before .refusal .ensures) (c .if1 .taken) _
 
 slice-relend-prefix-solve-rows : tie.Need-slice-relend-prefix-solve-rows
 slice-relend-prefix-solve-rows c =
@@ -72,11 +57,11 @@ pub solve-spec : {M : Type 1} → statement M
 solve-spec =
     tie.close
     (tie.spec
-    refusal-requires
-    same-length
-    same-length-2
-    same-length-3
-    returns
+    (λ c κs. search needs)
+    (λ c. search needs)
+    (λ c. search needs)
+    (λ c. search needs)
+    (λ c. is-refused _ _ _ _ _ _ _ (c .before .refusal .ensures) (c .if1 .taken) _)
     slice-relend-prefix-solve-rows
     slice-aggregate-solve-rows
     solve-rows-requires

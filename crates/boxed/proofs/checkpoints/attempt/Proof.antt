@@ -6,35 +6,11 @@ use borrow.Author.Needs.{needs}
 use Rattle.boxed.proofs.checkpoints.attempt.Statement.{statement}
 use Rattle.boxed.proofs.checkpoints.attempt.Tie as tie
 
-add-e : tie.Need-add-e
-add-e c = omega arith
-
-sub-copy : tie.Need-sub-copy
-sub-copy c = omega arith
-
-part-copy-start : tie.Need-part-copy-start
-part-copy-start c = omega arith
-
-part-copy-end : tie.Need-part-copy-end
-part-copy-end c = omega arith
-
 copy-requires : tie.Need-copy-requires
 copy-requires c κs =
     let at-args = c .before .before .before .before .before .before .before .before .before .before .before in
     let at-pre = at-args in
     mid-length 1120 (length (at-args .args .u-free .now)) (at-args .args .work .now) (omega (arith, at-pre .pre .0 .0, at-pre .pre .4)) ∙ sym (at-pre .pre .2)
-
-exact-pass-requires : tie.Need-exact-pass-requires
-exact-pass-requires c κs = tt
-
-sub-settle : tie.Need-sub-settle
-sub-settle c = omega arith
-
-part-settle-start : tie.Need-part-settle-start
-part-settle-start c = omega arith
-
-part-settle-end : tie.Need-part-settle-end
-part-settle-end c = omega arith
 
 settle-requires : tie.Need-settle-requires
 settle-requires c κs =
@@ -51,17 +27,8 @@ settle-requires c κs =
 abbrev to-exact-pass : tie.After-slice-known10 → tie.After-exact-pass
 to-exact-pass c = c .before .before .before .before .before .before .before .before .before .before .before .before .before .before
 
-same-length : tie.Need-same-length
-same-length c = to-exact-pass c .exact-pass .kept .1 .1 .1 .1 .1 .0
-
 same-length-2 : tie.Need-same-length-2
 same-length-2 c = c .before .before .settle .kept .1 .1 .0 ∙ to-exact-pass c .exact-pass .kept .1 .1 .1 .1 .1 .1 .0
-
-same-length-3 : tie.Need-same-length-3
-same-length-3 c = to-exact-pass c .exact-pass .kept .1 .1 .1 .1 .1 .1 .1 .0
-
-same-length-4 : tie.Need-same-length-4
-same-length-4 c = search needs
 
 returns : tie.Need-returns
 returns c =
@@ -77,18 +44,18 @@ pub attempt-spec : {M : Type 1} → statement M
 attempt-spec =
     tie.close
     (tie.spec
-    add-e
-    sub-copy
-    part-copy-start
-    part-copy-end
+    (λ c. omega arith)
+    (λ c. omega arith)
+    (λ c. omega arith)
+    (λ c. omega arith)
     copy-requires
-    exact-pass-requires
-    sub-settle
-    part-settle-start
-    part-settle-end
+    (λ c κs. tt)
+    (λ c. omega arith)
+    (λ c. omega arith)
+    (λ c. omega arith)
     settle-requires
-    same-length
+    (λ c. to-exact-pass c .exact-pass .kept .1 .1 .1 .1 .1 .0)
     same-length-2
-    same-length-3
-    same-length-4
+    (λ c. to-exact-pass c .exact-pass .kept .1 .1 .1 .1 .1 .1 .1 .0)
+    (λ c. search needs)
     returns)

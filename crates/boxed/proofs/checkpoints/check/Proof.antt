@@ -4,29 +4,8 @@ use native.Mathlib.Omega.{arith}
 use Rattle.boxed.proofs.checkpoints.check.Statement.{statement}
 use Rattle.boxed.proofs.checkpoints.check.Tie as tie
 
-checkpoint-requires : tie.Need-checkpoint-requires
-checkpoint-requires c κs = tt
-
-attempt-requires : tie.Need-attempt-requires
-attempt-requires c κs = omega arith
-
-add-t22 : tie.Need-add-t22
-add-t22 c = omega arith
-
 abbrev to-attempt : tie.After-struct-known → tie.After-attempt
 to-attempt c = c .before .before .before .before .before .before .before .before .before
-
-same-length : tie.Need-same-length
-same-length c = to-attempt c .attempt .kept .1 .1 .1 .1 .1 .0
-
-same-length-2 : tie.Need-same-length-2
-same-length-2 c = to-attempt c .attempt .kept .1 .1 .1 .1 .1 .1 .0
-
-same-length-3 : tie.Need-same-length-3
-same-length-3 c = to-attempt c .attempt .kept .1 .1 .1 .1 .1 .1 .1 .0
-
-same-length-4 : tie.Need-same-length-4
-same-length-4 c = to-attempt c .attempt .kept .1 .1 .1 .1 .1 .1 .1 .1 .0
 
 returns : tie.Need-returns
 returns c =
@@ -47,12 +26,12 @@ pub check-spec : {M : Type 1} → statement M
 check-spec =
     tie.close
     (tie.spec
-    checkpoint-requires
-    attempt-requires
-    add-t22
-    same-length
-    same-length-2
-    same-length-3
-    same-length-4
+    (λ c κs. tt)
+    (λ c κs. omega arith)
+    (λ c. omega arith)
+    (λ c. to-attempt c .attempt .kept .1 .1 .1 .1 .1 .0)
+    (λ c. to-attempt c .attempt .kept .1 .1 .1 .1 .1 .1 .0)
+    (λ c. to-attempt c .attempt .kept .1 .1 .1 .1 .1 .1 .1 .0)
+    (λ c. to-attempt c .attempt .kept .1 .1 .1 .1 .1 .1 .1 .1 .0)
     returns
     returns-2)

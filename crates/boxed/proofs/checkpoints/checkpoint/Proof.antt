@@ -16,23 +16,8 @@ Inv-loop cap k i₀ i = (i ≤ 8) × (def.member k (drop i private.table ++ (cap
 abbrev μ-loop : tie.MeasureT-loop
 μ-loop cap k i₀ i = 8 - i
 
-loop-holds : tie.Need-loop-holds Inv-loop μ-loop
-loop-holds c = (search needs, refl)
-
-mul-if1 : tie.Need-mul-if1 Inv-loop μ-loop
-mul-if1 c = omega arith
-
-array-read-if1 : tie.Need-array-read-if1 Inv-loop μ-loop
-array-read-if1 c = omega arith
-
 returns : tie.Need-returns Inv-loop μ-loop
 returns c = member-hit _ private.table _ _ (c .before .before .loop .i) (c .before .loop-test .taken) (c .if1 .taken) (c .before .before .loop .inv .1)
-
-add-i : tie.Need-add-i Inv-loop μ-loop
-add-i c = omega arith
-
-loop-less : tie.Need-loop-less Inv-loop μ-loop
-loop-less c = omega arith
 
 loop-again : tie.Need-loop-again Inv-loop μ-loop
 loop-again c = (search needs, member-skip _ private.table _ _ (c .before .before .loop .i) (c .before .loop-test .taken) (c .if1 .left) (c .before .before .loop .inv .1))
@@ -46,11 +31,11 @@ checkpoint-spec =
     (tie.spec
     Inv-loop
     μ-loop
-    loop-holds
-    mul-if1
-    array-read-if1
+    (λ c. (search needs, refl))
+    (λ c. omega arith)
+    (λ c. omega arith)
     returns
-    add-i
-    loop-less
+    (λ c. omega arith)
+    (λ c. omega arith)
     loop-again
     returns-2)

@@ -5,50 +5,14 @@ use Rattle.boxed.proofs.Ends.{end-exact, end-going, end-converged, end-
 use Rattle.boxed.proofs.ending.answer.Statement.{statement}
 use Rattle.boxed.proofs.ending.answer.Tie as tie
 
-residual-requires : tie.Need-residual-requires
-residual-requires c κs = omega arith
-
 enum-told : tie.Need-enum-told
 enum-told c = search needs
-
-report-requires : tie.Need-report-requires
-report-requires c κs = tt
-
-enum-told-2 : tie.Need-enum-told-2
-enum-told-2 c = search needs
-
-classify-requires : tie.Need-classify-requires
-classify-requires c κs = omega arith
-
-report-requires-2 : tie.Need-report-requires-2
-report-requires-2 c κs = tt
-
-enum-told-3 : tie.Need-enum-told-3
-enum-told-3 c = search needs
-
-classify-requires-2 : tie.Need-classify-requires-2
-classify-requires-2 c κs = omega arith
-
-report-requires-3 : tie.Need-report-requires-3
-report-requires-3 c κs = tt
-
-enum-known-s : tie.Need-enum-known-s
-enum-known-s c = search needs
-
-report-requires-4 : tie.Need-report-requires-4
-report-requires-4 c κs = tt
-
-same-length : tie.Need-same-length
-same-length c = refl
 
 returns : tie.Need-returns
 returns c =
     let at-enum-told = c .before in
     let at-residual = at-enum-told .before .before .before in
     end-exact _ _ _ _ _ _ _ (at-residual .residual .ensures) _ (at-enum-told .enum-told .given .1) (c .report .ensures)
-
-same-length-2 : tie.Need-same-length-2
-same-length-2 c = c .before .before .before .classify .kept .1 .1 .1 .1 .0
 
 returns-2 : tie.Need-returns-2
 returns-2 c =
@@ -58,9 +22,6 @@ returns-2 c =
     let at-pre = at-residual .before .before .before .before .before .before .before .before .before in
     end-going _ _ _ _ _ _ _ (at-residual .residual .ensures) _ _ _ (at-enum-told2 .enum-told2 .given .1) (c .report2 .ensures) (at-classify .classify .ensures) (at-pre .pre .1)
 
-same-length-3 : tie.Need-same-length-3
-same-length-3 c = c .before .before .before .classify2 .kept .1 .1 .1 .1 .0
-
 returns-3 : tie.Need-returns-3
 returns-3 c =
     let at-show2 = c .before .before .before in
@@ -68,9 +29,6 @@ returns-3 c =
     let at-residual = at-enum-told3 .before .before .before in
     let at-pre = at-residual .before .before .before .before .before .before .before .before .before in
     end-converged _ _ _ _ _ _ _ (at-residual .residual .ensures) _ _ _ (at-enum-told3 .enum-told3 .given .1) (c .report3 .ensures) (at-show2 .classify2 .ensures) (at-pre .pre .1)
-
-same-length-4 : tie.Need-same-length-4
-same-length-4 c = refl
 
 returns-4 : tie.Need-returns-4
 returns-4 c =
@@ -82,22 +40,22 @@ pub answer-spec : {M : Type 1} → statement M
 answer-spec =
     tie.close
     (tie.spec
-    residual-requires
+    (λ c κs. omega arith)
     enum-told
-    report-requires
-    enum-told-2
-    classify-requires
-    report-requires-2
-    enum-told-3
-    classify-requires-2
-    report-requires-3
-    enum-known-s
-    report-requires-4
-    same-length
+    (λ c κs. tt)
+    (λ c. search needs)
+    (λ c κs. omega arith)
+    (λ c κs. tt)
+    (λ c. search needs)
+    (λ c κs. omega arith)
+    (λ c κs. tt)
+    (λ c. search needs)
+    (λ c κs. tt)
+    (λ c. refl)
     returns
-    same-length-2
+    (λ c. c .before .before .before .classify .kept .1 .1 .1 .1 .0)
     returns-2
-    same-length-3
+    (λ c. c .before .before .before .classify2 .kept .1 .1 .1 .1 .0)
     returns-3
-    same-length-4
+    (λ c. refl)
     returns-4)

@@ -19,24 +19,12 @@ loop-holds : tie.Need-loop-holds Inv-loop μ-loop
 unfolding def.classified private.classifyRow
 loop-holds c = (search needs, search needs, search needs, turns-from _ _)
 
-classify-row-requires : tie.Need-classify-row-requires Inv-loop μ-loop
-classify-row-requires c κs = omega arith
-
-add-i : tie.Need-add-i Inv-loop μ-loop
-add-i c = omega arith
-
-loop-less : tie.Need-loop-less Inv-loop μ-loop
-loop-less c = omega arith
-
 loop-again : tie.Need-loop-again Inv-loop μ-loop
 unfolding def.classified private.classifyRow
 loop-again c =
     let at-classify-row = c .before .before in
     let at-loop = at-classify-row .before .before .before in
     (search needs, search needs, search needs, turns-again _ _ _ _ _ (at-loop .loop .inv .3) (at-classify-row .classify-row .ensures))
-
-same-length : tie.Need-same-length Inv-loop μ-loop
-same-length c = c .before .loop .inv .2
 
 returns : tie.Need-returns Inv-loop μ-loop
 unfolding def.classified private.classifyRow
@@ -49,9 +37,9 @@ classify-spec =
     Inv-loop
     μ-loop
     loop-holds
-    classify-row-requires
-    add-i
-    loop-less
+    (λ c κs. omega arith)
+    (λ c. omega arith)
+    (λ c. omega arith)
     loop-again
-    same-length
+    (λ c. c .before .loop .inv .2)
     returns)

@@ -1,44 +1,16 @@
 use native.Mathlib.Omega.{arith}
 use mathlib.Core.Path.{_≡_, sym, _∙_, refl}
 use borrow.Author.Tests.{eq-eqb, ne-eqb}
-use Rattle.boxed.specs.Sweep as def
 use Rattle.boxed.specs.Private as private
 use Rattle.box_rows.specs.Rows as box
 use Rattle.boxed.proofs.ending.classify_row.Statement.{statement}
 use Rattle.boxed.proofs.ending.classify_row.Tie as tie
-
-state-requires : tie.Need-state-requires
-state-requires c κs = omega arith
-
-same-length : tie.Need-same-length
-same-length c = refl
 
 returns : tie.Need-returns
 unfolding private.classifyRow
 returns c =
     let at-state = c .before in
     rw (eq-eqb _ _ (sym (at-state .state .ensures) ∙ c .if1 .taken))
-
-at-requires : tie.Need-at-requires
-at-requires c κs = omega arith
-
-at-requires-2 : tie.Need-at-requires-2
-at-requires-2 c κs = omega arith
-
-at-requires-3 : tie.Need-at-requires-3
-at-requires-3 c κs = omega arith
-
-at-requires-4 : tie.Need-at-requires-4
-at-requires-4 c κs = omega arith
-
-state-of-requires : tie.Need-state-of-requires
-state-of-requires c κs = tt
-
-put-state-requires : tie.Need-put-state-requires
-put-state-requires c κs = omega arith
-
-same-length-2 : tie.Need-same-length-2
-same-length-2 c = c .before .before .put-state .kept .0
 
 returns-2 : tie.Need-returns-2
 unfolding private.classifyRow
@@ -58,14 +30,14 @@ pub classify-row-spec : {M : Type 1} → statement M
 classify-row-spec =
     tie.close
     (tie.spec
-    state-requires
-    same-length
+    (λ c κs. omega arith)
+    (λ c. refl)
     returns
-    at-requires
-    at-requires-2
-    at-requires-3
-    at-requires-4
-    state-of-requires
-    put-state-requires
-    same-length-2
+    (λ c κs. omega arith)
+    (λ c κs. omega arith)
+    (λ c κs. omega arith)
+    (λ c κs. omega arith)
+    (λ c κs. tt)
+    (λ c κs. omega arith)
+    (λ c. c .before .before .put-state .kept .0)
     returns-2)

@@ -3,7 +3,6 @@ use mathlib.Core.Path.{_≡_}
 use native.Mathlib.Omega.{arith}
 use lib.ListN.{length}
 use borrow.Author.Needs.{needs}
-use Rattle.boxed.specs.Sweep as def
 use Rattle.boxed.specs.Private as private
 use Rattle.loops.proofs.Gather.{gather-start, gather-again, gather-done, gather-le}
 use Rattle.loops.specs.Gathering.{Gathering}
@@ -16,24 +15,6 @@ Inv-loop nu scale rows₀ n k₀ i₀ rows k i = (i ≤ n) × (n ≡ length nu) 
 abbrev μ-loop : tie.MeasureT-loop
 μ-loop nu scale rows₀ n k₀ i₀ rows k i = n - i
 
-loop-holds : tie.Need-loop-holds Inv-loop μ-loop
-loop-holds c = (search needs, search needs, search needs, gather-start _ _)
-
-at-requires : tie.Need-at-requires Inv-loop μ-loop
-at-requires c κs = omega arith
-
-at-requires-2 : tie.Need-at-requires-2 Inv-loop μ-loop
-at-requires-2 c κs = omega arith
-
-grown-row-requires : tie.Need-grown-row-requires Inv-loop μ-loop
-grown-row-requires c κs = omega (arith, gather-le _ _ _ _ _ (c .before .before .before .before .loop .inv .3))
-
-add-i : tie.Need-add-i Inv-loop μ-loop
-add-i c = omega arith
-
-loop-less : tie.Need-loop-less Inv-loop μ-loop
-loop-less c = omega arith
-
 loop-again : tie.Need-loop-again Inv-loop μ-loop
 loop-again c =
     let at-grown-row = c .before .before in
@@ -41,9 +22,6 @@ loop-again c =
     let at-at = at-at2 .before in
     let at-loop = at-at .before .before in
     (search needs, search needs, search needs, gather-again _ _ _ _ _ _ _ (at-loop .loop .inv .3) (rw (← at-at .at .ensures, ← at-at2 .at2 .ensures) (at-grown-row .grown-row .ensures .0)) (rw (← at-at .at .ensures, ← at-at2 .at2 .ensures) (at-grown-row .grown-row .ensures .1)))
-
-same-length : tie.Need-same-length Inv-loop μ-loop
-same-length c = c .before .loop .inv .2
 
 returns : tie.Need-returns Inv-loop μ-loop
 returns c =
@@ -56,12 +34,12 @@ grown-spec =
     (tie.spec
     Inv-loop
     μ-loop
-    loop-holds
-    at-requires
-    at-requires-2
-    grown-row-requires
-    add-i
-    loop-less
+    (λ c. (search needs, search needs, search needs, gather-start _ _))
+    (λ c κs. omega arith)
+    (λ c κs. omega arith)
+    (λ c κs. omega (arith, gather-le _ _ _ _ _ (c .before .before .before .before .loop .inv .3)))
+    (λ c. omega arith)
+    (λ c. omega arith)
     loop-again
-    same-length
+    (λ c. c .before .loop .inv .2)
     returns)

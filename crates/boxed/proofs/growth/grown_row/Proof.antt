@@ -1,23 +1,10 @@
 use native.Mathlib.Omega.{arith}
 use mathlib.Core.Path.{refl}
 use native.Mathlib.Numerals.{add-one}
-use Rattle.boxed.specs.Sweep as def
 use Rattle.boxed.specs.Private as private
 use Rattle.loops.specs.Loops.{counted, noted}
 use Rattle.boxed.proofs.growth.grown_row.Statement.{statement}
 use Rattle.boxed.proofs.growth.grown_row.Tie as tie
-
-abs-requires : tie.Need-abs-requires
-abs-requires c κs = tt
-
-put-number-requires : tie.Need-put-number-requires
-put-number-requires c κs = omega arith
-
-add-result : tie.Need-add-result
-add-result c = omega arith
-
-same-length : tie.Need-same-length
-same-length c = c .before .before .put-number .kept .0
 
 returns : tie.Need-returns
 unfolding counted noted private.isGrown
@@ -35,4 +22,10 @@ returns-2 c =
 
 pub grown-row-spec : {M : Type 1} → statement M
 grown-row-spec =
-    tie.close (tie.spec abs-requires put-number-requires add-result same-length returns returns-2)
+    tie.close (tie.spec
+    (λ c κs. tt)
+    (λ c κs. omega arith)
+    (λ c. omega arith)
+    (λ c. c .before .before .put-number .kept .0)
+    returns
+    returns-2)

@@ -20,18 +20,6 @@ loop-holds c =
     let at-args = c .before .before in
     (search needs, search needs, search needs, front-start (at-args .args .from .now) (at-args .args .to .now))
 
-at-requires : tie.Need-at-requires Inv-loop μ-loop
-at-requires c κs = omega arith
-
-put-requires : tie.Need-put-requires Inv-loop μ-loop
-put-requires c κs = omega arith
-
-add-i : tie.Need-add-i Inv-loop μ-loop
-add-i c = omega arith
-
-loop-less : tie.Need-loop-less Inv-loop μ-loop
-loop-less c = omega arith
-
 loop-again : tie.Need-loop-again Inv-loop μ-loop
 loop-again c =
     let at-put = c .before .before in
@@ -39,9 +27,6 @@ loop-again c =
     let at-loop = at-at .before .before .before in
     let at-args = at-loop .before .before .before in
     (search needs, search needs, search needs, front-again (at-args .args .from .now) (at-args .args .to .now) (at-loop .loop .i) nan (at-loop .loop .to) _ (at-loop .loop .inv .3) (omega arith) (rw (at-put .put .ensures, at-at .at .ensures)))
-
-same-length : tie.Need-same-length Inv-loop μ-loop
-same-length c = c .before .loop .inv .2
 
 returns : tie.Need-returns Inv-loop μ-loop
 returns c =
@@ -56,10 +41,10 @@ copy-spec =
     Inv-loop
     μ-loop
     loop-holds
-    at-requires
-    put-requires
-    add-i
-    loop-less
+    (λ c κs. omega arith)
+    (λ c κs. omega arith)
+    (λ c. omega arith)
+    (λ c. omega arith)
     loop-again
-    same-length
+    (λ c. c .before .loop .inv .2)
     returns)

@@ -5,24 +5,6 @@ use Rattle.box_rows.proofs.Matrix.{row-part}
 use Rattle.boxed.proofs.read.row.Statement.{statement}
 use Rattle.boxed.proofs.read.row.Tie as tie
 
-mul-a : tie.Need-mul-a
-mul-a c = omega arith
-
-add-e : tie.Need-add-e
-add-e c = omega arith
-
-mul-result : tie.Need-mul-result
-mul-result c = omega arith
-
-sub-result : tie.Need-sub-result
-sub-result c = omega arith
-
-part-result-start : tie.Need-part-result-start
-part-result-start c = omega arith
-
-part-result-end : tie.Need-part-result-end
-part-result-end c = omega arith
-
 returns : tie.Need-returns
 returns c =
     let at-args = c .before in
@@ -31,4 +13,11 @@ returns c =
 pub row-spec : {M : Type 1} → statement M
 row-spec =
     tie.close
-    (tie.spec mul-a add-e mul-result sub-result part-result-start part-result-end returns)
+    (tie.spec
+    (λ c. omega arith)
+    (λ c. omega arith)
+    (λ c. omega arith)
+    (λ c. omega arith)
+    (λ c. omega arith)
+    (λ c. omega arith)
+    returns)

@@ -1,10 +1,6 @@
-use Rattle.boxed.specs.Solve as def
 use Rattle.boxed.specs.Private as private
 use Rattle.boxed.proofs.refusal.good_scale.Statement.{statement}
 use Rattle.boxed.proofs.refusal.good_scale.Tie as tie
-
-is-finite-requires : tie.Need-is-finite-requires
-is-finite-requires c κs = tt
 
 returns : tie.Need-returns
 unfolding private.goodScale
@@ -15,4 +11,7 @@ unfolding private.goodScale
 returns-2 c = rw (← c .before .is-finite .ensures, c .if1 .left)
 
 pub good-scale-spec : {M : Type 1} → statement M
-good-scale-spec = tie.close (tie.spec is-finite-requires returns returns-2)
+good-scale-spec = tie.close (tie.spec
+    (λ c κs. tt)
+    returns
+    returns-2)

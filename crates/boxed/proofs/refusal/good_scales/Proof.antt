@@ -3,7 +3,6 @@ use mathlib.Core.Path.{_≡_, refl}
 use native.Mathlib.Numerals.{add-one}
 use native.Mathlib.Omega.{arith}
 use borrow.Author.Needs.{needs}
-use Rattle.boxed.specs.Solve as def
 use Rattle.boxed.specs.Private as private
 use Rattle.loops.specs.Loops.{every}
 use Rattle.boxed.proofs.refusal.good_scales.Statement.{statement}
@@ -18,18 +17,6 @@ abbrev μ-loop : tie.MeasureT-loop
 loop-holds : tie.Need-loop-holds Inv-loop μ-loop
 unfolding every
 loop-holds c = (search needs, refl)
-
-at-requires : tie.Need-at-requires Inv-loop μ-loop
-at-requires c κs = omega arith
-
-good-scale-requires : tie.Need-good-scale-requires Inv-loop μ-loop
-good-scale-requires c κs = tt
-
-add-i : tie.Need-add-i Inv-loop μ-loop
-add-i c = omega arith
-
-loop-less : tie.Need-loop-less Inv-loop μ-loop
-loop-less c = omega arith
 
 loop-again : tie.Need-loop-again Inv-loop μ-loop
 unfolding every
@@ -51,9 +38,9 @@ good-scales-spec =
     Inv-loop
     μ-loop
     loop-holds
-    at-requires
-    good-scale-requires
-    add-i
-    loop-less
+    (λ c κs. omega arith)
+    (λ c κs. tt)
+    (λ c. omega arith)
+    (λ c. omega arith)
     loop-again
     returns)

@@ -4,11 +4,7 @@ use Rattle.loops.proofs.Index.{product}
 use Rattle.boxed.proofs.refusal.not_square.Statement.{statement}
 use Rattle.boxed.proofs.refusal.not_square.Tie as tie
 
-mul-result : tie.Need-mul-result
-mul-result c = omega (arith, product (c .args .n) (c .args .n) (c .pre) (c .pre))
-
-returns : tie.Need-returns
-returns c = search needs
-
 pub not-square-spec : {M : Type 1} → statement M
-not-square-spec = tie.close (tie.spec mul-result returns)
+not-square-spec = tie.close (tie.spec
+    (λ c. omega (arith, product (c .args .n) (c .args .n) (c .pre) (c .pre)))
+    (λ c. search needs))

@@ -9,9 +9,6 @@ use Rattle.loops.proofs.Every.{both-true}
 use Rattle.boxed.proofs.refusal.refusal.Statement.{statement}
 use Rattle.boxed.proofs.refusal.refusal.Tie as tie
 
-too-large-requires : tie.Need-too-large-requires
-too-large-requires c κs = tt
-
 returns : tie.Need-returns
 unfolding def.refusal private.goodScale
 returns c =
@@ -34,9 +31,6 @@ returns-2 c =
     let at-if1 = at-not-square .before in
     let at-too-large = at-if1 .before in
     rw (← at-too-large .too-large .ensures, at-if1 .if1 .left, ← at-not-square .not-square .ensures, c .if2 .taken)
-
-unequal-requires : tie.Need-unequal-requires
-unequal-requires c κs = tt
 
 returns-3 : tie.Need-returns-3
 unfolding def.refusal private.goodScale
@@ -71,9 +65,6 @@ returns-4 c =
     let at-too-large = at-if1 .before in
     rw (← at-too-large .too-large .ensures, at-if1 .if1 .left, ← at-not-square .not-square .ensures, at-if2 .if2 .left, ← at-unequal .unequal .ensures, at-if3 .if3 .left, ← at-good-scales .good-scales .ensures, c .if4 .taken)
 
-uneven-requires : tie.Need-uneven-requires
-uneven-requires c κs = tt
-
 returns-5 : tie.Need-returns-5
 unfolding def.refusal private.goodScale
 returns-5 c =
@@ -87,9 +78,6 @@ returns-5 c =
     let at-if1 = at-not-square .before in
     let at-too-large = at-if1 .before in
     rw (← at-too-large .too-large .ensures, at-if1 .if1 .left, ← at-not-square .not-square .ensures, at-if2 .if2 .left, ← at-unequal .unequal .ensures, at-if3 .if3 .left, ← at-good-scales .good-scales .ensures, at-if4 .if4 .left, ← at-uneven .uneven .ensures, c .if5 .taken)
-
-too-short-requires : tie.Need-too-short-requires
-too-short-requires c κs = tt
 
 returns-6 : tie.Need-returns-6
 unfolding def.refusal private.goodScale
@@ -127,16 +115,16 @@ pub refusal-spec : {M : Type 1} → statement M
 refusal-spec =
     tie.close
     (tie.spec
-    too-large-requires
+    (λ c κs. tt)
     returns
     not-square-requires
     returns-2
-    unequal-requires
+    (λ c κs. tt)
     returns-3
     good-scales-requires
     returns-4
-    uneven-requires
+    (λ c κs. tt)
     returns-5
-    too-short-requires
+    (λ c κs. tt)
     returns-6
     returns-7)

@@ -3,14 +3,8 @@ use borrow.Author.Needs.{needs}
 use Rattle.boxed.proofs.refusal.uneven.Statement.{statement}
 use Rattle.boxed.proofs.refusal.uneven.Tie as tie
 
-rem-result : tie.Need-rem-result
-rem-result c = search needs
-
-returns : tie.Need-returns
-returns c = rw (lt-ltb _ _ (c .if1 .taken))
-
-returns-2 : tie.Need-returns-2
-returns-2 c = rw (le-ltb _ _ (c .if1 .left))
-
 pub uneven-spec : {M : Type 1} → statement M
-uneven-spec = tie.close (tie.spec rem-result returns returns-2)
+uneven-spec = tie.close (tie.spec
+    (λ c. search needs)
+    (λ c. rw (lt-ltb _ _ (c .if1 .taken)))
+    (λ c. rw (le-ltb _ _ (c .if1 .left))))

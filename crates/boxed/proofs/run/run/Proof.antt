@@ -39,9 +39,6 @@ turn-requires c κs =
       omega (arith, at-if1 .if1 .taken, at-struct-known2 .struct-known2 .given, at-loop .loop .inv .1),
     )
 
-going-requires : tie.Need-going-requires Inv-loop μ-loop
-going-requires c κs = tt
-
 same-length : tie.Need-same-length Inv-loop μ-loop
 same-length c =
     let at-turn = c .before .before .before .before .before .before .before .before .before .before in
@@ -106,18 +103,6 @@ loop-again c =
       at-turn .turn .ensures .3 ∙ at-loop .loop .inv .5,
     )
 
-same-length-5 : tie.Need-same-length-5 Inv-loop μ-loop
-same-length-5 c = c .before .before .before .loop .inv .2 .of-states
-
-same-length-6 : tie.Need-same-length-6 Inv-loop μ-loop
-same-length-6 c = c .before .before .before .loop .inv .2 .of-nu
-
-same-length-7 : tie.Need-same-length-7 Inv-loop μ-loop
-same-length-7 c = c .before .before .before .loop .inv .2 .of-rows
-
-same-length-8 : tie.Need-same-length-8 Inv-loop μ-loop
-same-length-8 c = c .before .before .before .loop .inv .2 .of-work
-
 returns-2 : tie.Need-returns-2 Inv-loop μ-loop
 returns-2 c =
     let at-if1 = c in
@@ -132,7 +117,7 @@ run-spec =
     μ-loop
     loop-holds
     turn-requires
-    going-requires
+    (λ c κs. tt)
     same-length
     same-length-2
     same-length-3
@@ -140,8 +125,8 @@ run-spec =
     returns
     loop-less
     loop-again
-    same-length-5
-    same-length-6
-    same-length-7
-    same-length-8
+    (λ c. c .before .before .before .loop .inv .2 .of-states)
+    (λ c. c .before .before .before .loop .inv .2 .of-nu)
+    (λ c. c .before .before .before .loop .inv .2 .of-rows)
+    (λ c. c .before .before .before .loop .inv .2 .of-work)
     returns-2)

@@ -12,9 +12,6 @@ use native.Mathlib.Omega.{arith}
 use Rattle.boxed.proofs.run.turn.Statement.{statement}
 use Rattle.boxed.proofs.run.turn.Tie as tie
 
-array-borrow-prefix-before : tie.Need-array-borrow-prefix-before
-array-borrow-prefix-before c = omega arith
-
 slice-aggregate-sweep : tie.Need-slice-aggregate-sweep
 slice-aggregate-sweep c =
     let at-pre = c .before .before .before .before .before .before .before .before .before .before .before .before .before in
@@ -25,20 +22,8 @@ sweep-requires c κs =
     let at-pre = c .before .before .before .before .before .before .before .before .before .before .before .before .before in
     ((at-pre .pre .0 .0, at-pre .pre .0 .1), at-pre .pre .0 .2, at-pre .pre .0 .3, at-pre .pre .1, at-pre .pre .2, length-take-le _ _ (omega (arith, at-pre .pre .0 .0)))
 
-add-t28 : tie.Need-add-t28
-add-t28 c = omega arith
-
-grown-requires : tie.Need-grown-requires
-grown-requires c κs = omega arith
-
-same-length : tie.Need-same-length
-same-length c = refl
-
 same-length-2 : tie.Need-same-length-2
 same-length-2 c = c .before .before .before .before .before .before .before .before .before .before .sweep .kept .1 .1 .1 .1 .1 .0
-
-same-length-3 : tie.Need-same-length-3
-same-length-3 c = c .before .before .before .grown .kept .1 .1 .0
 
 returns : tie.Need-returns
 returns c =
@@ -68,23 +53,14 @@ check-requires c κs =
     let at-pre = at-sweep .before .before .before .before .before .before .before .before .before .before .before .before .before .before in
     (at-pre .pre .0, at-pre .pre .1, at-sweep .sweep .kept .1 .1 .1 .1 .1 .0 ∙ at-pre .pre .2, omega (arith, at-pre .pre .3, at-grown .grown .kept), at-pre .pre .4, at-pre .pre .7)
 
-going-requires : tie.Need-going-requires
-going-requires c κs = tt
-
 abbrev to-check : tie.Then2 → tie.After-check
 to-check c = c .before .before .before .before .before .before .before .before .before .before .before
-
-same-length-4 : tie.Need-same-length-4
-same-length-4 c = to-check c .check .kept .1 .1 .1 .1 .1 .1 .0
 
 same-length-5 : tie.Need-same-length-5
 same-length-5 c = to-check c .check .kept .1 .1 .1 .1 .1 .1 .1 .0 ∙ c .before .before .before .before .before .before .before .before .before .before .before .before .before .before .before .before .before .before .before .before .before .before .before .before .before .before .sweep .kept .1 .1 .1 .1 .1 .0
 
 same-length-6 : tie.Need-same-length-6
 same-length-6 c = to-check c .check .kept .1 .1 .1 .1 .1 .1 .1 .1 .0 ∙ c .before .before .before .before .before .before .before .before .before .before .before .before .before .before .before .before .before .before .before .grown .kept .1 .1 .0
-
-same-length-7 : tie.Need-same-length-7
-same-length-7 c = to-check c .check .kept .1 .1 .1 .1 .1 .1 .1 .1 .1 .0
 
 returns-2 : tie.Need-returns-2
 returns-2 c =
@@ -140,9 +116,6 @@ tests-requires c κs =
 abbrev to-check-2 : tie.After-slice-known11 → tie.After-check
 to-check-2 c = c .before .before .before .before .before .before .before .before .before .before .before .before .before .before .before .before .before .before
 
-same-length-8 : tie.Need-same-length-8
-same-length-8 c = to-check-2 c .check .kept .1 .1 .1 .1 .1 .1 .0
-
 same-length-9 : tie.Need-same-length-9
 same-length-9 c =
     let at-check = c .before .before .before .before .before .before .before .before .before .before .before .before .before .before .before .before .before .before in
@@ -151,9 +124,6 @@ same-length-9 c =
 
 same-length-10 : tie.Need-same-length-10
 same-length-10 c = c .before .before .tests .kept .1 .1 .1 .1 .1 .1 .1 .1 .1 .1 .0 ∙ to-check-2 c .check .kept .1 .1 .1 .1 .1 .1 .1 .1 .0 ∙ c .before .before .before .before .before .before .before .before .before .before .before .before .before .before .before .before .before .before .before .before .before .before .before .before .before .before .grown .kept .1 .1 .0
-
-same-length-11 : tie.Need-same-length-11
-same-length-11 c = to-check-2 c .check .kept .1 .1 .1 .1 .1 .1 .1 .1 .1 .0
 
 returns-3 : tie.Need-returns-3
 returns-3 c =
@@ -186,27 +156,27 @@ pub turn-spec : {M : Type 1} → statement M
 turn-spec =
     tie.close
     (tie.spec
-    array-borrow-prefix-before
+    (λ c. omega arith)
     slice-aggregate-sweep
     sweep-requires
-    add-t28
-    grown-requires
-    same-length
+    (λ c. omega arith)
+    (λ c κs. omega arith)
+    (λ c. refl)
     same-length-2
-    same-length-3
+    (λ c. c .before .before .before .grown .kept .1 .1 .0)
     returns
     check-requires
-    going-requires
-    same-length-4
+    (λ c κs. tt)
+    (λ c. to-check c .check .kept .1 .1 .1 .1 .1 .1 .0)
     same-length-5
     same-length-6
-    same-length-7
+    (λ c. to-check c .check .kept .1 .1 .1 .1 .1 .1 .1 .1 .1 .0)
     returns-2
     array-share-prefix-before
     slice-aggregate-tests
     tests-requires
-    same-length-8
+    (λ c. to-check-2 c .check .kept .1 .1 .1 .1 .1 .1 .0)
     same-length-9
     same-length-10
-    same-length-11
+    (λ c. to-check-2 c .check .kept .1 .1 .1 .1 .1 .1 .1 .1 .1 .0)
     returns-3)

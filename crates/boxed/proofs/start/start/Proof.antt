@@ -26,24 +26,6 @@ row-requires c κs =
     let at-args = at-loop .before .before .before .before .before .before in
     row-fits (at-args .args .w .now) (length (at-args .args .nu .now)) (at-loop .loop .i) (at-args .pre .0 .1) (omega arith)
 
-at-requires : tie.Need-at-requires Inv-loop μ-loop
-at-requires c κs = omega (arith, ap length (c .row .ensures) ∙ row-length _ _ _)
-
-at-requires-2 : tie.Need-at-requires-2 Inv-loop μ-loop
-at-requires-2 c κs = omega arith
-
-at-requires-3 : tie.Need-at-requires-3 Inv-loop μ-loop
-at-requires-3 c κs = omega arith
-
-start-row-requires : tie.Need-start-row-requires Inv-loop μ-loop
-start-row-requires c κs = omega arith
-
-add-i : tie.Need-add-i Inv-loop μ-loop
-add-i c = omega arith
-
-loop-less : tie.Need-loop-less Inv-loop μ-loop
-loop-less c = omega arith
-
 loop-again : tie.Need-loop-again Inv-loop μ-loop
 unfolding def.start private.startRow
 loop-again c =
@@ -54,12 +36,6 @@ loop-again c =
     let at-row = at-at .before in
     let at-loop = at-row .before .before in
     (search needs, at-start-row .start-row .ensures .1, search needs, search needs, search needs, turns-again _ _ _ _ _ (at-loop .loop .inv .5) (rw (at-at .at .ensures, at-at2 .at2 .ensures, at-at3 .at3 .ensures, at-row .row .ensures) at (at-start-row .start-row .ensures .0)))
-
-same-length : tie.Need-same-length Inv-loop μ-loop
-same-length c = c .before .loop .inv .3
-
-same-length-2 : tie.Need-same-length-2 Inv-loop μ-loop
-same-length-2 c = c .before .loop .inv .2
 
 returns : tie.Need-returns Inv-loop μ-loop
 unfolding def.start private.startRow
@@ -73,13 +49,13 @@ start-spec =
     μ-loop
     loop-holds
     row-requires
-    at-requires
-    at-requires-2
-    at-requires-3
-    start-row-requires
-    add-i
-    loop-less
+    (λ c κs. omega (arith, ap length (c .row .ensures) ∙ row-length _ _ _))
+    (λ c κs. omega arith)
+    (λ c κs. omega arith)
+    (λ c κs. omega arith)
+    (λ c. omega arith)
+    (λ c. omega arith)
     loop-again
-    same-length
-    same-length-2
+    (λ c. c .before .loop .inv .3)
+    (λ c. c .before .loop .inv .2)
     returns)

@@ -2,31 +2,9 @@ use native.Mathlib.Omega.{arith}
 use mathlib.Core.Path.{sym, _∙_}
 use native.Mathlib.Numerals.{add-one}
 use borrow.Author.Needs.{needs}
-use Rattle.boxed.specs.Sweep as def
 use Rattle.boxed.specs.Private as private
 use Rattle.boxed.proofs.start.start_row.Statement.{statement}
 use Rattle.boxed.proofs.start.start_row.Tie as tie
-
-is-idle-requires : tie.Need-is-idle-requires
-is-idle-requires c κs = tt
-
-put-state-requires : tie.Need-put-state-requires
-put-state-requires c κs = omega arith
-
-clamp-requires : tie.Need-clamp-requires
-clamp-requires c κs = tt
-
-put-requires : tie.Need-put-requires
-put-requires c κs = omega arith
-
-add-result : tie.Need-add-result
-add-result c = omega arith
-
-same-length : tie.Need-same-length
-same-length c = c .before .before .before .before .before .before .before .put-state .kept .0
-
-same-length-2 : tie.Need-same-length-2
-same-length-2 c = c .before .before .put .kept .0
 
 returns : tie.Need-returns
 unfolding private.startRow
@@ -38,23 +16,8 @@ returns c =
     let at-is-idle = at-if1 .before in
     (rw (sym (at-is-idle .is-idle .ensures) ∙ at-if1 .if1 .taken, add-one, at-put .put .ensures, at-put-state .put-state .ensures, at-clamp .clamp .ensures .0), search needs)
 
-put-state-requires-2 : tie.Need-put-state-requires-2
-put-state-requires-2 c κs = omega arith
-
-at-requires : tie.Need-at-requires
-at-requires c κs = omega arith
-
-clamp-requires-2 : tie.Need-clamp-requires-2
-clamp-requires-2 c κs = tt
-
-put-requires-2 : tie.Need-put-requires-2
-put-requires-2 c κs = omega arith
-
 same-length-3 : tie.Need-same-length-3
 same-length-3 c = c .before .before .before .before .before .before .before .before .before .put-state2 .kept .0
-
-same-length-4 : tie.Need-same-length-4
-same-length-4 c = c .before .before .put2 .kept .0
 
 returns-2 : tie.Need-returns-2
 unfolding private.startRow
@@ -71,18 +34,18 @@ pub start-row-spec : {M : Type 1} → statement M
 start-row-spec =
     tie.close
     (tie.spec
-    is-idle-requires
-    put-state-requires
-    clamp-requires
-    put-requires
-    add-result
-    same-length
-    same-length-2
+    (λ c κs. tt)
+    (λ c κs. omega arith)
+    (λ c κs. tt)
+    (λ c κs. omega arith)
+    (λ c. omega arith)
+    (λ c. c .before .before .before .before .before .before .before .put-state .kept .0)
+    (λ c. c .before .before .put .kept .0)
     returns
-    put-state-requires-2
-    at-requires
-    clamp-requires-2
-    put-requires-2
+    (λ c κs. omega arith)
+    (λ c κs. omega arith)
+    (λ c κs. tt)
+    (λ c κs. omega arith)
     same-length-3
-    same-length-4
+    (λ c. c .before .before .put2 .kept .0)
     returns-2)

@@ -9,12 +9,12 @@ returns : tie.Need-returns
 unfolding counted
 returns c = rw (eq-eqb _ _ (c .if1 .taken))
 
-add-result : tie.Need-add-result
-add-result c = omega arith
-
 returns-2 : tie.Need-returns-2
 unfolding counted
 returns-2 c = rw (ne-eqb _ _ (c .if1 .left), add-one)
 
 pub count-spec : {M : Type 1} → statement M
-count-spec = tie.close (tie.spec returns add-result returns-2)
+count-spec = tie.close (tie.spec
+    returns
+    (λ c. omega arith)
+    returns-2)

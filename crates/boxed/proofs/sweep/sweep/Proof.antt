@@ -1,8 +1,8 @@
 use Rattle.boxed.specs.Sweep as def
 use Rattle.boxed.specs.Private as private
 use Rattle.loops.proofs.Turns.{turns-from, turns-again, turns-done}
-use Prim.Native.Nat.{_+_, _*_, _≤_, _<_, _-_}
-use mathlib.Core.Path.{_≡_, refl, sym, ap, _∙_}
+use Prim.Native.Nat.{_≤_, _-_}
+use mathlib.Core.Path.{_≡_, _∙_}
 use lib.ListN.{length, take}
 use lib.Ieee.{nan}
 use Rattle.loops.specs.Loops.{pasted}
@@ -13,11 +13,6 @@ use borrow.Author.Needs.{needs}
 use native.Mathlib.Omega.{arith}
 use Rattle.boxed.proofs.sweep.sweep.Statement.{statement}
 use Rattle.boxed.proofs.sweep.sweep.Tie as tie
-use Rattle.boxed.proofs.sweep.sweep.Reads as reads
-use Rattle.boxed.proofs.sweep.sweep.Lts as lts
-use Rattle.boxed.proofs.read.at.Reads as at-reads
-use Rattle.boxed.proofs.read.put.Reads as put-reads
-use Rattle.boxed.proofs.sweep.sweep_row.Reads as sweep-row-reads
 
 abbrev Inv-loop : tie.InvT-loop
 Inv-loop w u-free lo hi states nu₀ before₀ n k₀ i₀ nu before k i =
@@ -41,15 +36,6 @@ at-requires c κs = omega arith
 put-requires : tie.Need-put-requires Inv-loop μ-loop
 put-requires c κs = omega arith
 
-sweep-row-requires : tie.Need-sweep-row-requires Inv-loop μ-loop
-sweep-row-requires c κs = omega arith
-
-add-i : tie.Need-add-i Inv-loop μ-loop
-add-i c = omega arith
-
-loop-less : tie.Need-loop-less Inv-loop μ-loop
-loop-less c = omega arith
-
 loop-again : tie.Need-loop-again Inv-loop μ-loop
 unfolding def.sweep private.sweepRow
 loop-again c =
@@ -68,9 +54,6 @@ loop-again c =
       at-sweep-row .sweep-row .ensures .2,
       stopped-again _ _ _ _ _ _ _ _ _ _ (at-loop .loop .inv .7) (at-loop .loop .inv .3) (at-sweep-row .sweep-row .ensures .1),
     )
-
-same-length : tie.Need-same-length Inv-loop μ-loop
-same-length c = c .before .loop .inv .2
 
 -- src/sweep.rt:40:1
 same-length-2 : tie.Need-same-length-2 Inv-loop μ-loop
@@ -96,10 +79,10 @@ sweep-spec =
     loop-holds
     at-requires
     put-requires
-    sweep-row-requires
-    add-i
-    loop-less
+    (λ c κs. omega arith)
+    (λ c. omega arith)
+    (λ c. omega arith)
     loop-again
-    same-length
+    (λ c. c .before .loop .inv .2)
     same-length-2
     returns)

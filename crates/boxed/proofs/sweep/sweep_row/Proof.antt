@@ -4,16 +4,12 @@ use lib.ListN.{length}
 use borrow.Author.Tests.{eq-eqb, ne-eqb}
 use borrow.Author.Needs.{needs}
 use Rattle.loops.specs.Loops.{counted}
-use Rattle.boxed.specs.Sweep as def
 use Rattle.boxed.specs.Private as private
 use Rattle.box_rows.specs.Rows as box
 use Rattle.box_rows.proofs.Matrix.{row-fits, row-length}
 use Rattle.boxed.proofs.Stopping.{counted-within}
 use Rattle.boxed.proofs.sweep.sweep_row.Statement.{statement}
 use Rattle.boxed.proofs.sweep.sweep_row.Tie as tie
-
-state-requires : tie.Need-state-requires
-state-requires c κs = omega arith
 
 returns : tie.Need-returns
 unfolding private.sweepRow private.stops counted
@@ -27,40 +23,16 @@ row-requires c κs =
     let at-args = c .before .before .before .before .before .before .before .before in
     row-fits (at-args .args .w .now) (length (at-args .args .u-free .now)) (at-args .args .i) (at-args .pre .0 .1) (at-args .pre .5)
 
-at-requires : tie.Need-at-requires
-at-requires c κs = omega arith
-
-row-sum-requires : tie.Need-row-sum-requires
-row-sum-requires c κs = tt
-
-at-requires-2 : tie.Need-at-requires-2
-at-requires-2 c κs = omega arith
-
 at-requires-3 : tie.Need-at-requires-3
 at-requires-3 c κs =
     let at-row = c .before .before .before .before .before in
     let at-pre = at-row .before .before .before .before .before .before .before .before .before in
     omega (arith, ap length (at-row .row .ensures) ∙ row-length _ _ _, at-pre .pre .5)
 
-at-requires-4 : tie.Need-at-requires-4
-at-requires-4 c κs = omega arith
-
-at-requires-5 : tie.Need-at-requires-5
-at-requires-5 c κs = omega arith
-
-update-requires : tie.Need-update-requires
-update-requires c κs = tt
-
-put-requires : tie.Need-put-requires
-put-requires c κs = omega arith
-
 count-requires : tie.Need-count-requires
 count-requires c κs =
     let at-pre = c .before .before .before .before .before .before .before .before .before .before .before .before .before .before .before .before .before .before .before .before .before .before in
     omega (arith, at-pre .pre .0 .0, at-pre .pre .5, at-pre .pre .6)
-
-same-length : tie.Need-same-length
-same-length c = c .before .before .before .put .kept .0
 
 returns-2 : tie.Need-returns-2
 unfolding private.sweepRow private.stops
@@ -88,17 +60,17 @@ pub sweep-row-spec : {M : Type 1} → statement M
 sweep-row-spec =
     tie.close
     (tie.spec
-    state-requires
+    (λ c κs. omega arith)
     returns
     row-requires
-    at-requires
-    row-sum-requires
-    at-requires-2
+    (λ c κs. omega arith)
+    (λ c κs. tt)
+    (λ c κs. omega arith)
     at-requires-3
-    at-requires-4
-    at-requires-5
-    update-requires
-    put-requires
+    (λ c κs. omega arith)
+    (λ c κs. omega arith)
+    (λ c κs. tt)
+    (λ c κs. omega arith)
     count-requires
-    same-length
+    (λ c. c .before .before .before .put .kept .0)
     returns-2)

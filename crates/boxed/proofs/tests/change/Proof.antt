@@ -18,24 +18,6 @@ Inv-loop nu before y₀ n i₀ y i = (i ≤ n) × (n ≡ length nu) × (length y
 abbrev μ-loop : tie.MeasureT-loop
 μ-loop nu before y₀ n i₀ y i = n - i
 
-loop-holds : tie.Need-loop-holds Inv-loop μ-loop
-loop-holds c = (search needs, search needs, search needs, tab-start _ _)
-
-at-requires : tie.Need-at-requires Inv-loop μ-loop
-at-requires c κs = omega arith
-
-at-requires-2 : tie.Need-at-requires-2 Inv-loop μ-loop
-at-requires-2 c κs = omega arith
-
-put-requires : tie.Need-put-requires Inv-loop μ-loop
-put-requires c κs = omega arith
-
-add-i : tie.Need-add-i Inv-loop μ-loop
-add-i c = omega arith
-
-loop-less : tie.Need-loop-less Inv-loop μ-loop
-loop-less c = omega arith
-
 loop-again : tie.Need-loop-again Inv-loop μ-loop
 loop-again c =
     let at-put = c .before .before in
@@ -44,9 +26,6 @@ loop-again c =
     let at-loop = at-at .before .before .before in
     let at-pre = at-loop .before .before .before .before in
     (search needs, search needs, search needs, rw (at-put .put .ensures, at-at .at .ensures, at-at2 .at2 .ensures) (tab-again _ _ _ _ (at-loop .loop .inv .3) (at-loop .loop .inv .2) (omega (arith, at-pre .pre .1, at-loop .loop .inv .2))))
-
-same-length : tie.Need-same-length Inv-loop μ-loop
-same-length c = c .before .loop .inv .2
 
 returns : tie.Need-returns Inv-loop μ-loop
 unfolding def.change
@@ -61,12 +40,12 @@ change-spec =
     (tie.spec
     Inv-loop
     μ-loop
-    loop-holds
-    at-requires
-    at-requires-2
-    put-requires
-    add-i
-    loop-less
+    (λ c. (search needs, search needs, search needs, tab-start _ _))
+    (λ c κs. omega arith)
+    (λ c κs. omega arith)
+    (λ c κs. omega arith)
+    (λ c. omega arith)
+    (λ c. omega arith)
     loop-again
-    same-length
+    (λ c. c .before .loop .inv .2)
     returns)

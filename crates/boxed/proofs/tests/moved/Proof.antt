@@ -18,9 +18,6 @@ Inv-loop motion nu before n coords worst₀ c₀ worst c = (c ≤ coords) × (co
 abbrev μ-loop : tie.MeasureT-loop
 μ-loop motion nu before n coords worst₀ c₀ worst c = coords - c
 
-div-coords : tie.Need-div-coords Inv-loop μ-loop
-div-coords c = search needs
-
 loop-holds : tie.Need-loop-holds Inv-loop μ-loop
 unfolding def.moved private.coordinate
 loop-holds c = (search needs, search needs, search needs, turns-from _ _)
@@ -36,20 +33,11 @@ coordinate-requires c κs =
     let at-pre = c .before .before .before .before .before .before in
     (ap length (c .row .ensures) ∙ row-length _ _ _, at-pre .pre .0)
 
-abs-requires : tie.Need-abs-requires Inv-loop μ-loop
-abs-requires c κs = tt
-
-larger-requires : tie.Need-larger-requires Inv-loop μ-loop
-larger-requires c κs = tt
-
 add-c : tie.Need-add-c Inv-loop μ-loop
 add-c c =
     let at-loop-test = c .before .before .before .before in
     let at-args = at-loop-test .before .before .before .before .before in
     omega (arith, at-loop-test .loop-test .taken, div-le-self (length (at-args .args .motion .now)) (length (at-args .args .nu .now)))
-
-loop-less : tie.Need-loop-less Inv-loop μ-loop
-loop-less c = omega arith
 
 loop-again : tie.Need-loop-again Inv-loop μ-loop
 unfolding def.moved private.coordinate
@@ -72,13 +60,13 @@ moved-spec =
     (tie.spec
     Inv-loop
     μ-loop
-    div-coords
+    (λ c. search needs)
     loop-holds
     row-requires
     coordinate-requires
-    abs-requires
-    larger-requires
+    (λ c κs. tt)
+    (λ c κs. tt)
     add-c
-    loop-less
+    (λ c. omega arith)
     loop-again
     returns)

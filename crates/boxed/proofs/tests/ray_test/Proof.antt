@@ -6,9 +6,6 @@ use Rattle.boxed.proofs.Testing.{none-fight, some-fight, changed-le, ch
 use Rattle.boxed.proofs.tests.ray_test.Statement.{statement}
 use Rattle.boxed.proofs.tests.ray_test.Tie as tie
 
-array-borrow-prefix-y : tie.Need-array-borrow-prefix-y
-array-borrow-prefix-y c = omega arith
-
 slice-aggregate-change : tie.Need-slice-aggregate-change
 slice-aggregate-change c = sym (length-take-le _ _ (omega (arith, c .before .before .before .before .before .before .before .before .before .before .pre .0 .0)))
 
@@ -29,21 +26,12 @@ slice-aggregate-ray c =
     let at-pre = at-change .before .before .before .before .before .before .before .before .before .before .before in
     sym (length-take-le _ _ (changed-le _ _ _ _ _ (at-change .change .ensures) (at-pre .pre .2)))
 
-ray-requires : tie.Need-ray-requires
-ray-requires c κs = search needs
-
-same-length : tie.Need-same-length
-same-length c = c .before .before .before .ray .kept .1 .1 .1 .1 .1 .1 .1 .0
-
 returns : tie.Need-returns
 returns c =
     let at-ray = c .before .before .before in
     let at-change = at-ray .before .before .before .before in
     let at-pre = at-change .before .before .before .before .before .before .before .before .before .before .before in
     none-fight _ _ _ _ _ _ _ (ray-front _ _ _ _ _ _ _ _ (at-pre .pre .0) (at-pre .pre .1) (at-pre .pre .4) (changed-front _ _ _ _ _ (at-change .change .ensures) (at-pre .pre .2)) (at-ray .ray .ensures)) (c .if1 .taken)
-
-same-length-2 : tie.Need-same-length-2
-same-length-2 c = c .before .before .before .ray .kept .1 .1 .1 .1 .1 .1 .1 .0
 
 returns-2 : tie.Need-returns-2
 returns-2 c =
@@ -56,13 +44,13 @@ pub ray-test-spec : {M : Type 1} → statement M
 ray-test-spec =
     tie.close
     (tie.spec
-    array-borrow-prefix-y
+    (λ c. omega arith)
     slice-aggregate-change
     change-requires
     array-share-prefix-y
     slice-aggregate-ray
-    ray-requires
-    same-length
+    (λ c κs. search needs)
+    (λ c. c .before .before .before .ray .kept .1 .1 .1 .1 .1 .1 .1 .0)
     returns
-    same-length-2
+    (λ c. c .before .before .before .ray .kept .1 .1 .1 .1 .1 .1 .1 .0)
     returns-2)

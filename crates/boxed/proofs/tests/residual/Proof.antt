@@ -20,15 +20,6 @@ loop-holds : tie.Need-loop-holds Inv-loop μ-loop
 unfolding def.residual private.residualRow
 loop-holds c = search (turns-from, needs)
 
-residual-row-requires : tie.Need-residual-row-requires Inv-loop μ-loop
-residual-row-requires c κs = omega arith
-
-add-i : tie.Need-add-i Inv-loop μ-loop
-add-i c = omega arith
-
-loop-less : tie.Need-loop-less Inv-loop μ-loop
-loop-less c = omega arith
-
 loop-again : tie.Need-loop-again Inv-loop μ-loop
 unfolding def.residual private.residualRow
 loop-again c =
@@ -42,4 +33,12 @@ returns c = turns-done _ _ _ _ _ (omega arith) (omega arith) (c .before .loop .i
 pub residual-spec : {M : Type 1} → statement M
 residual-spec =
     tie.close
-    (tie.spec Inv-loop μ-loop loop-holds residual-row-requires add-i loop-less loop-again returns)
+    (tie.spec
+    Inv-loop
+    μ-loop
+    loop-holds
+    (λ c κs. omega arith)
+    (λ c. omega arith)
+    (λ c. omega arith)
+    loop-again
+    returns)

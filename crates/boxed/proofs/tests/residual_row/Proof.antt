@@ -2,15 +2,11 @@ use mathlib.Core.Path.{_≡_, sym, ap, _∙_}
 use native.Mathlib.Omega.{arith}
 use lib.ListN.{length}
 use borrow.Author.Tests.{eq-eqb, ne-eqb}
-use Rattle.boxed.specs.Sweep as def
 use Rattle.boxed.specs.Private as private
 use Rattle.box_rows.specs.Rows as box
 use Rattle.box_rows.proofs.Matrix.{row-fits, row-length}
 use Rattle.boxed.proofs.tests.residual_row.Statement.{statement}
 use Rattle.boxed.proofs.tests.residual_row.Tie as tie
-
-state-requires : tie.Need-state-requires
-state-requires c κs = omega arith
 
 returns : tie.Need-returns
 unfolding private.residualRow
@@ -23,35 +19,11 @@ row-requires c κs =
     let at-args = c .before .before .before .before .before .before .before .before .before in
     row-fits (at-args .args .w .now) (length (at-args .args .u-free .now)) (at-args .args .i) (at-args .pre .0 .1) (at-args .pre .3)
 
-at-requires : tie.Need-at-requires
-at-requires c κs = omega arith
-
-row-sum-requires : tie.Need-row-sum-requires
-row-sum-requires c κs = tt
-
-at-requires-2 : tie.Need-at-requires-2
-at-requires-2 c κs = omega arith
-
 at-requires-3 : tie.Need-at-requires-3
 at-requires-3 c κs =
     let at-row = c .before .before .before in
     let at-pre = at-row .before .before .before .before .before .before .before .before .before .before in
     omega (arith, ap length (at-row .row .ensures) ∙ row-length _ _ _, at-pre .pre .3)
-
-at-requires-4 : tie.Need-at-requires-4
-at-requires-4 c κs = omega arith
-
-at-requires-5 : tie.Need-at-requires-5
-at-requires-5 c κs = omega arith
-
-at-requires-6 : tie.Need-at-requires-6
-at-requires-6 c κs = omega arith
-
-natural-residual-requires : tie.Need-natural-residual-requires
-natural-residual-requires c κs = tt
-
-larger-requires : tie.Need-larger-requires
-larger-requires c κs = tt
 
 returns-2 : tie.Need-returns-2
 unfolding private.residualRow box.residualAt
@@ -74,16 +46,16 @@ pub residual-row-spec : {M : Type 1} → statement M
 residual-row-spec =
     tie.close
     (tie.spec
-    state-requires
+    (λ c κs. omega arith)
     returns
     row-requires
-    at-requires
-    row-sum-requires
-    at-requires-2
+    (λ c κs. omega arith)
+    (λ c κs. tt)
+    (λ c κs. omega arith)
     at-requires-3
-    at-requires-4
-    at-requires-5
-    at-requires-6
-    natural-residual-requires
-    larger-requires
+    (λ c κs. omega arith)
+    (λ c κs. omega arith)
+    (λ c κs. omega arith)
+    (λ c κs. tt)
+    (λ c κs. tt)
     returns-2)

@@ -3,24 +3,12 @@ use Rattle.boxed.proofs.Testing.{still-moves, has-converged, along-ray}
 use Rattle.boxed.proofs.tests.tests.Statement.{statement}
 use Rattle.boxed.proofs.tests.tests.Tie as tie
 
-moved-requires : tie.Need-moved-requires
-moved-requires c κs = omega arith
-
-residual-requires : tie.Need-residual-requires
-residual-requires c κs = omega arith
-
 returns : tie.Need-returns
 returns c =
     let at-residual = c .before in
     let at-if1 = at-residual .before in
     let at-moved = at-if1 .before in
     has-converged _ _ _ _ _ _ _ _ (at-moved .moved .ensures) (at-if1 .if1 .taken) _ (at-residual .residual .ensures) (c .if2 .taken)
-
-ray-test-requires : tie.Need-ray-test-requires
-ray-test-requires c κs = omega arith
-
-same-length : tie.Need-same-length
-same-length c = c .before .before .ray-test .kept .1 .1 .1 .1 .1 .1 .1 .1 .0
 
 returns-2 : tie.Need-returns-2
 returns-2 c =
@@ -40,10 +28,10 @@ pub tests-spec : {M : Type 1} → statement M
 tests-spec =
     tie.close
     (tie.spec
-    moved-requires
-    residual-requires
+    (λ c κs. omega arith)
+    (λ c κs. omega arith)
     returns
-    ray-test-requires
-    same-length
+    (λ c κs. omega arith)
+    (λ c. c .before .before .ray-test .kept .1 .1 .1 .1 .1 .1 .1 .1 .0)
     returns-2
     returns-3)
