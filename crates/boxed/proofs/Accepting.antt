@@ -5,7 +5,8 @@ use mathlib.Core.Bool.{Bool, true, false, not, cond, _&&_, _||_, true≢false}
 use mathlib.Core.List.{List, [], _∷_}
 use native.Mathlib.Omega.{arith}
 use lib.Dec.{ltb, eqb}
-use lib.ListN.{length}
+use lib.ListN.{length, take}
+use lib.Seq.{length-take-le}
 use lib.Ieee.{Float}
 use borrow.Author.Tests.{eqb-true, ltb-false, not-false}
 use Rattle.loops.specs.Loops.{every}
@@ -13,7 +14,7 @@ use Rattle.loops.proofs.Every.{both-true}
 use Rattle.box_rows.specs.Rows.{Problem, size}
 use Rattle.box_rows.specs.Private.{Sized}
 use Rattle.boxed.specs.Solve.{refusal}
-use Rattle.boxed.specs.Private.{goodScale, goodScaleAt}
+use Rattle.boxed.specs.Private.{goodScale, goodScaleAt, Lent}
 
 -- the number of the first test that holds
 abbrev first : List (Bool × ℕ) → ℕ
@@ -73,5 +74,30 @@ accepted p motion nu st l room h =
       listed = ltb-false (length l) n (ten .1);
     }
 
-pub accepted-by : (p : Problem) (motion nu : List Float) (st l : List ℕ) (room number : ℕ) → number ≡ refusal p motion nu st l room → number ≡ 0 → Accepted p nu st l room
-accepted-by p motion nu st l room number e h = accepted p motion nu st l room (sym e ∙ h)
+-- the solve of the rows is lent enough
+module _ (p : Problem) (motion nu : List Float) (st l : List ℕ) (work : List Float) (number : ℕ)
+    (e : number ≡ refusal p motion nu st l (length work)) (h : number ≡ 0) where
+  taken : Accepted p nu st l (length work)
+  taken = accepted p motion nu st l (length work) (sym e ∙ h)
+
+  pub enough-states : size p ≤ length st
+  enough-states = taken .states
+
+  pub lent : Lent p (take (size p) st) nu l work
+  lent =
+      let s = taken .sized in
+      record {
+        lists = record {
+          matrix = record {
+            few = s .0;
+            square = s .1;
+            lower = s .2;
+            upper = s .3;
+            states = length-take-le (size p) st (taken .states);
+            multipliers = taken .values;
+          };
+          scales = s .4;
+        };
+        listed = taken .listed;
+        workspace = omega (arith, taken .work);
+      }

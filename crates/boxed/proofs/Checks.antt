@@ -13,9 +13,8 @@ use borrow.Author.Tests.{eq-eqb, ne-eqb, le-leb}
 use borrow.Rule.Slice.PartMut.{putMid, postOf, same-len-mid, drop-put}
 use Rattle.box_rows.specs.Rows as box
 use Rattle.box_rows.proofs.Matrix.{later}
-use Rattle.box_rows.specs.Private.{Sized}
 use Rattle.exact_pass.specs.Pass.{Trial, trial, moved, found, failed, infeasible, exactPass}
-use Rattle.exact_pass.specs.Promise.{fits, reply, Passed, Left}
+use Rattle.exact_pass.specs.Promise.{WORKSPACE, fits, reply, Passed, Left}
 use Rattle.exact_pass.specs.declared.Exact.{Exact}
 use Rattle.exact_pass.specs.declared.Exact.the-variants as exact
 use Rattle.boxed.specs.declared.Cause.the-variants as cause
@@ -23,7 +22,7 @@ use Rattle.boxed.specs.declared.Counts.{Counts}
 use Rattle.boxed.specs.declared.Sweeping.{Sweeping}
 use Rattle.boxed.specs.declared.Sweeping.the-variants as sweeping
 use Rattle.boxed.specs.Solve as def
-use Rattle.boxed.specs.Private.{Ran, Settled}
+use Rattle.boxed.specs.Private.{USED, Lent, Ran, Worked, Settled}
 use Rattle.boxed.proofs.Testing.{all-fit}
 
 -- ---- the table of checkpoints as a loop goes through it: l is the table, r what is behind it
@@ -90,7 +89,7 @@ put-length a n w t h l = same-len-mid a (a + n - a) w t (l ∙ sym (mid-length a
 
 -- ---- multipliers t kept in a workspace w from place a on, of which w′ is what a pass over the places before leaves
 
-module _ (a n : ℕ) (w t w′ : List Float) (room : a + n ≤ length w) (long : length t ≡ n) (kept : drop a w′ ≡ drop a (putMid a (a + n - a) w t)) where
+module _ (a n : ℕ) (w t w′ : List Float) (within : a + n ≤ length w) (long : length t ≡ n) (kept : drop a w′ ≡ drop a (putMid a (a + n - a) w t)) where
   kept-part : take (a + n - a) (drop a w′) ≡ t
   kept-part =
       let k : a + n - a ≡ n = omega arith in
@@ -99,27 +98,38 @@ module _ (a n : ℕ) (w t w′ : List Float) (room : a + n ≤ length w) (long :
   kept-beyond : (b : ℕ) → a + n ≤ b → drop b w′ ≡ drop b w
   kept-beyond b h =
       later a b w′ (putMid a (a + n - a) w t) (omega arith) kept
-      ∙ later (a + n) b (putMid a (a + n - a) w t) w h (drop-put a (a + n) w t (omega arith) room (omega (arith, long)))
+      ∙ later (a + n) b (putMid a (a + n - a) w t) w h (drop-put a (a + n) w t (omega arith) within (omega (arith, long)))
 
-module _ (p : box.Problem) (st : List ℕ) (nu : List Float) (rows : List ℕ) (work : List Float) (z : Sized (box.size p) (p .w) (p .lo) (p .hi) (p .scale)) (a : length st ≡ box.size p)
-    (b : length nu ≡ box.size p) (c : box.size p ≤ length rows) (room : 1152 ≤ length work) (e : Exact) (st′ : List ℕ) (v : List Float) (rows′ : List ℕ) (work′ : List Float) where
-  accepted : (w : List Float) → 1120 ≤ length w → Left p st nu rows w e st′ v rows′ work′ → Passed (exactPass p st nu) rows e v st′ rows′ × (drop 1120 work′ ≡ drop 1120 w)
+-- where the multipliers are kept in a workspace of a problem p
+abbrev kept-to : box.Problem → ℕ
+kept-to p = WORKSPACE + box.size p
+
+abbrev keeping : box.Problem → List Float → List Float → List Float
+keeping p work t = putMid WORKSPACE (kept-to p - WORKSPACE) work t
+
+module _ (p : box.Problem) (st : List ℕ) (nu : List Float) (rows : List ℕ) (work : List Float) (z : Lent p st nu rows work)
+    (e : Exact) (st′ : List ℕ) (v : List Float) (rows′ : List ℕ) (work′ : List Float) where
+  accepted : (w : List Float) → WORKSPACE ≤ length w → Left p st nu rows w e st′ v rows′ work′
+      → Passed (exactPass p st nu) rows e v st′ rows′ × (drop WORKSPACE work′ ≡ drop WORKSPACE w)
   unfolding reply
   accepted w q h =
-      let f : fits p st nu rows ≡ true = all-fit p st nu rows z a b c in
+      let f : fits p st nu rows ≡ true = all-fit (z .lists) nu rows (z .lists .matrix .multipliers) (z .listed) in
       (rw (le-leb _ _ q, f) at (h .passed), rw (le-leb _ _ q, f) at (h .workspace))
 
   -- t is the copy of the multipliers that is kept
-  pub attempted : (t : List Float) (g : Sweeping) (nu′ : List Float) → t ≡ nu → Left p st nu rows (putMid 1120 (1120 + box.size p - 1120) work t) e st′ v rows′ work′ → Settled e v (take (1120 + box.size p - 1120) (drop 1120 work′)) g nu′
-      → ((c : Counts) → Ran (def.passed (def.iterate nu st c) (exactPass p st nu)) rows g nu′ st′ (def.tried c) rows′) × (drop 1152 work′ ≡ drop 1152 work)
-  attempted t g nu′ s h k =
-      let few : box.size p ≤ 32 = z .0 in
-      let l : length t ≡ box.size p = ap length s ∙ b in
-      let q : length (putMid 1120 (1120 + box.size p - 1120) work t) ≡ length work = put-length 1120 (box.size p) work t (omega (arith, few, room)) l in
-      let x = accepted (putMid 1120 (1120 + box.size p - 1120) work t) (omega (arith, q, room)) h in (
-        λ c. (rw (kept-part 1120 (box.size p) work t work′ (omega (arith, few, room)) l (x .1), s) at k) st c (exactPass p st nu) rows st′ rows′ (x .0),
-        kept-beyond 1120 (box.size p) work t work′ (omega (arith, few, room)) l (x .1) 1152 (omega (arith, few)),
-      )
+  pub attempted : (t : List Float) (g : Sweeping) (nu′ : List Float) → t ≡ nu → Left p st nu rows (keeping p work t) e st′ v rows′ work′
+      → Settled e v (take (kept-to p - WORKSPACE) (drop WORKSPACE work′)) g nu′
+      → (c : Counts) → Worked (def.passed (def.iterate nu st c) (exactPass p st nu)) rows work g nu′ st′ (def.tried c) rows′ work′
+  attempted t g nu′ s h k c =
+      let few : box.size p ≤ 32 = z .lists .matrix .few in
+      let long : USED ≤ length work = z .workspace in
+      let l : length t ≡ box.size p = ap length s ∙ z .lists .matrix .multipliers in
+      let q : length (keeping p work t) ≡ length work = put-length WORKSPACE (box.size p) work t (omega arith) l in
+      let x = accepted (keeping p work t) (omega arith) h in
+      record {
+        ran = (rw (kept-part WORKSPACE (box.size p) work t work′ (omega arith) l (x .1), s) at k) st c (exactPass p st nu) rows st′ rows′ (x .0);
+        workspace = kept-beyond WORKSPACE (box.size p) work t work′ (omega arith) l (x .1) USED (omega arith);
+      }
 
 -- ---- a check
 
@@ -127,9 +137,11 @@ pub one-tried : (n : Counts) → def.counts (n .sweeps) (n .passes + 1) (n .stop
 one-tried n = ap (λ (k : ℕ). def.counts (n .sweeps) k (n .stopped)) (add-one (n .passes))
 
 module _ (cap : ℕ) (p : box.Problem) (nu : List Float) (st : List ℕ) (n : Counts) (rows : List ℕ) (b : Bool) (due : b ≡ def.checkpoint cap (n .sweeps)) where
-  pub check-tried : (g : Sweeping) (nu′ : List Float) (st′ : List ℕ) (n′ : Counts) (rows′ : List ℕ) → b ≡ true → n′ ≡ def.tried n → ((c : Counts) → Ran (def.passed (def.iterate nu st c) (exactPass p st nu)) rows g nu′ st′ (def.tried c) rows′) → Ran (def.checked cap p (def.going (def.iterate nu st n))) rows g nu′ st′ n′ rows′
+  pub check-tried : (work : List Float) (g : Sweeping) (nu′ : List Float) (st′ : List ℕ) (n′ : Counts) (rows′ : List ℕ) (work′ : List Float) → b ≡ true → n′ ≡ def.tried n
+      → ((c : Counts) → Worked (def.passed (def.iterate nu st c) (exactPass p st nu)) rows work g nu′ st′ (def.tried c) rows′ work′)
+      → Ran (def.checked cap p (def.going (def.iterate nu st n))) rows g nu′ st′ n′ rows′
   unfolding def.checked
-  check-tried g nu′ st′ n′ rows′ t e h = rw (sym due ∙ t, e) (h n)
+  check-tried work g nu′ st′ n′ rows′ work′ t e h = rw (sym due ∙ t, e) (h n .ran)
 
   pub check-not : b ≡ false → Ran (def.checked cap p (def.going (def.iterate nu st n))) rows sweeping.Going nu st n rows
   unfolding def.checked

@@ -12,7 +12,7 @@ use Rattle.boxed.specs.Sweep as sweeps
 use Rattle.boxed.specs.Private as private
 use Rattle.boxed.specs.Solve as def
 use Rattle.boxed.specs.Solve.{iterate, Watch, Left}
-use Rattle.boxed.specs.Private.{Finished}
+use Rattle.boxed.specs.Private.{USED, Finished}
 use Rattle.boxed.proofs.Finishing.{solve-uses}
 use Rattle.boxed.specs.declared.BoxReport.{BoxReport}
 use Rattle.boxed.specs.declared.BoxAnswer.{BoxAnswer}
@@ -20,18 +20,31 @@ use Rattle.boxed.specs.declared.BoxAnswer.the-variants.{Solved, Refused}
 
 -- ---- from the start of a solve: every row Idle, or not
 
-module _ (cap : ℕ) (p : box.Problem) (m : Watch) (nu : List Float) (st l : List ℕ) (long : length nu ≡ box.size p) (idle : ℕ) (nu₁ : List Float) (st₁ : List ℕ)
-    (starts : private.started nu₁ st₁ idle ≡ sweeps.start (p .w) (length nu) (p .lo) (p .hi) nu st (length nu)) where
+module _ (cap : ℕ) (p : box.Problem) (m : Watch) (nu : List Float) (st l : List ℕ) (long : length (p .lo) ≡ box.size p) (idle : ℕ) (nu₁ : List Float) (st₁ : List ℕ)
+    (starts : private.started nu₁ st₁ idle ≡ sweeps.start (p .w) (length (p .lo)) (p .lo) (p .hi) nu st (length (p .lo))) where
   begun : sweeps.start (p .w) (box.size p) (p .lo) (p .hi) nu st (box.size p) ≡ private.started nu₁ st₁ idle
   begun = rw (← long) (sym starts)
 
-  pub all-idle : idle ≡ length nu → (r : BoxReport) → r ≡ private.nothing idle → Finished (def.solve cap p m nu st l) (Solved r) nu₁ st₁ l
+  solve-is : (idle ≡ box.size p → ⊥) → def.solve cap p m nu st l ≡ def.result p idle l (def.run cap p m (iterate nu₁ st₁ (def.counts 0 0 0)) cap)
   unfolding def.solve
-  all-idle h r e = rw (begun, eq-eqb idle (box.size p) (h ∙ long)) (record { answer = ap Solved e; multipliers = refl; states = refl; listed = refl })
+  solve-is h = rw (begun, ne-eqb idle (box.size p) h)
 
-  pub some-act : (idle ≡ length nu → ⊥) → (r : BoxAnswer) (nu′ : List Float) (st′ l′ : List ℕ) → Finished (def.result p idle l (def.run cap p m (iterate nu₁ st₁ (def.counts 0 0 0)) cap)) r nu′ st′ l′ → Finished (def.solve cap p m nu st l) r nu′ st′ l′
+  pub all-idle : idle ≡ box.size p → (r : BoxReport) → r ≡ private.nothing idle → (w : List Float) → Left (def.solve cap p m nu st l) (Solved r) nu₁ st₁ l w w
   unfolding def.solve
-  some-act h r nu′ st′ l′ f = rw (begun, ne-eqb idle (box.size p) (λ e. h (e ∙ sym long))) f
+  all-idle h r e w = rw (begun, eq-eqb idle (box.size p) h) (record { answer = ap Solved e; multipliers = refl; states = refl; listed = refl; workspace = refl })
+
+  pub some-act : (idle ≡ box.size p → ⊥) → (r : BoxAnswer) (nu′ : List Float) (st′ l′ : List ℕ) (w w′ : List Float)
+      → Finished (def.result p idle l (def.run cap p m (iterate nu₁ st₁ (def.counts 0 0 0)) cap)) r nu′ st′ l′ → private.beyond w′ ≡ private.beyond w
+      → Left (def.solve cap p m nu st l) r nu′ st′ l′ w w′
+  some-act h r nu′ st′ l′ w w′ f d =
+      let e : def.solve cap p m nu st l ≡ def.result p idle l (def.run cap p m (iterate nu₁ st₁ (def.counts 0 0 0)) cap) = solve-is h in
+      record {
+        answer = rw e (f .answer);
+        multipliers = rw e (f .multipliers);
+        states = rw e (f .states);
+        listed = rw e (f .listed);
+        workspace = rw (solve-uses cap p m nu st l) (later USED 2304 w′ w (omega arith) d);
+      }
 
 -- ---- a number refuses, and 0 does not
 
@@ -45,15 +58,15 @@ module _ (p : box.Problem) (m : Watch) (nu : List Float) (st l : List ℕ) (room
   unfolding def.solveReply
   is-refused h w = rw (← e) (refused number h w)
 
-  pub is-solved : number ≡ 0 → (r : BoxAnswer) (nu′ : List Float) (st′ l′ : List ℕ) (w w′ : List Float) → Finished (def.solve def.SWEEP_CAP p m nu (take (box.size p) st) l) r nu′ st′ l′ → drop 1152 w′ ≡ drop 1152 w
+  pub is-solved : number ≡ 0 → (r : BoxAnswer) (nu′ : List Float) (st′ l′ : List ℕ) (w w′ : List Float) → Left (def.solve def.SWEEP_CAP p m nu (take (box.size p) st) l) r nu′ st′ l′ w w′
       → Left (def.solveReply p m nu st l room) r nu′ (st′ ++ drop (box.size p) st) l′ w w′
   unfolding def.solveReply def.reply
-  is-solved h r nu′ st′ l′ w w′ f d =
+  is-solved h r nu′ st′ l′ w w′ f =
       rw (← e, h)
       (record {
         answer = f .answer;
         multipliers = f .multipliers;
         states = ap (λ (x : List ℕ). x ++ drop (box.size p) st) (f .states);
         listed = f .listed;
-        workspace = rw (solve-uses def.SWEEP_CAP p m nu (take (box.size p) st) l) (later 1152 2304 w′ w (omega arith) d);
+        workspace = f .workspace;
       })

@@ -11,14 +11,13 @@ use borrow.Author.Tests.{eq-eqb, le-leb}
 use Rattle.loops.proofs.Fill.{tab-length}
 use Rattle.floats.specs.Ops.{1e-9}
 use Rattle.box_rows.specs.Rows as box
-use Rattle.box_rows.specs.Private.{Sized}
 use Rattle.exact_pass.specs.Ray.{ray}
 use Rattle.exact_pass.specs.Promise.{fits, rayReply, Front}
 use Rattle.boxed.specs.Sweep as sweep
 use Rattle.boxed.specs.Private as private
 use Rattle.boxed.specs.Solve as def
 use Rattle.boxed.specs.Solve.{iterate, watch, going}
-use Rattle.boxed.specs.Private.{Ran}
+use Rattle.boxed.specs.Private.{Ran, Lists}
 use Rattle.boxed.specs.declared.Cause.{Cause}
 use Rattle.boxed.specs.declared.Cause.the-variants as cause
 use Rattle.boxed.specs.declared.Counts.{Counts}
@@ -40,8 +39,20 @@ module _ (a : Cause) (nu : List Float) (st rows : List ℕ) (k : ℕ) (rows′ :
 
 -- ---- lists of the problem's lengths are none that the ray refuses
 
-pub all-fit : (p : box.Problem) (st : List ℕ) (v : List Float) (rows : List ℕ) → Sized (box.size p) (p .w) (p .lo) (p .hi) (p .scale) → length st ≡ box.size p → length v ≡ box.size p → box.size p ≤ length rows → fits p st v rows ≡ true
-all-fit p st v rows z s e h = rw (le-leb _ _ (z .0), eq-eqb _ _ (z .1), eq-eqb _ _ (z .2), eq-eqb _ _ (z .3), eq-eqb _ _ (z .4), eq-eqb _ _ s, eq-eqb _ _ e, le-leb _ _ h)
+pub all-fit : {p : box.Problem} {st : List ℕ} {nu : List Float} → Lists p st nu → (v : List Float) (rows : List ℕ)
+    → length v ≡ box.size p → box.size p ≤ length rows → fits p st v rows ≡ true
+all-fit z v rows e h =
+    let m = z .matrix in
+    rw (
+      le-leb _ _ (m .few),
+      eq-eqb _ _ (m .square),
+      eq-eqb _ _ (m .lower),
+      eq-eqb _ _ (m .upper),
+      eq-eqb _ _ (z .scales),
+      eq-eqb _ _ (m .states),
+      eq-eqb _ _ e,
+      le-leb _ _ h,
+    )
 
 -- ---- the change of the multipliers is the direction of the ray: it stands at the front of an array that z ends
 
@@ -62,12 +73,13 @@ module _ (nu before y z : List Float) (n : ℕ) (e : y ≡ sweep.change nu befor
   pub changed-front : take n (y ++ z) ≡ sweep.change nu before n
   changed-front = take-at y z n long ∙ changed
 
-pub ray-front : (p : box.Problem) (st : List ℕ) (nu before y : List Float) (rows : List ℕ) (k : ℕ) (rows′ : List ℕ) → Sized (box.size p) (p .w) (p .lo) (p .hi) (p .scale) → length st ≡ box.size p → box.size p ≤ length rows → y ≡ sweep.change nu before (box.size p) → Front (rayReply p st y rows) rows k rows′
-    → Front (ray p st (sweep.change nu before (box.size p))) rows k rows′
+pub ray-front : (p : box.Problem) (st : List ℕ) (nu before y : List Float) (rows : List ℕ) (k : ℕ) (rows′ : List ℕ)
+    → Lists p st nu → box.size p ≤ length rows → y ≡ sweep.change nu before (box.size p)
+    → Front (rayReply p st y rows) rows k rows′ → Front (ray p st (sweep.change nu before (box.size p))) rows k rows′
 unfolding rayReply
-ray-front p st nu before y rows k rows′ z s h e f =
+ray-front p st nu before y rows k rows′ z h e f =
     let g : length y ≡ box.size p = ap length e ∙ change-length nu before (box.size p) in
-    rw (← e) (rw (all-fit p st y rows z s g h) at f)
+    rw (← e) (rw (all-fit z y rows g h) at f)
 
 -- ---- the tests: v is the motion, and r the residual
 

@@ -1,12 +1,12 @@
 -- Words of private contracts: what the code tells of a run between two sweeps, and what it leaves. No promise of a public call stands on them; those are in Solve.antt.
 -- Definitions only.
-use Prim.Native.Nat.{ℕ, suc, _≤_, _<_}
+use Prim.Native.Nat.{ℕ, suc, _*_, _≤_, _<_}
 use mathlib.Core.Path.{_≡_}
 use mathlib.Core.Bool.{Bool, true, false, cond, _&&_}
 use mathlib.Core.List.{List, [], _∷_}
 use lib.ListN.{length, drop, set}
 use lib.Ieee.{Float, lt}
-use Rattle.loops.specs.Loops.{turns, fronted}
+use Rattle.loops.specs.Loops.{turns, counted, noted, fronted}
 use Rattle.floats.specs.Ops.{_⊕_, _⊖_, _⊗_, at, 0ᶠ, 1e6}
 use Rattle.floats.specs.Helpers.{clamp, larger, abs, isFinite}
 use Rattle.box_rows.specs.Rows as box
@@ -15,6 +15,7 @@ use Rattle.exact_pass.specs.Pass.{Pass}
 use Rattle.exact_pass.specs.Promise.{Passed}
 use Rattle.exact_pass.specs.declared.Exact.{Exact}
 use Rattle.boxed.specs.declared.Counts.{Counts}
+use Rattle.boxed.specs.declared.Progress.{Progress}
 use Rattle.boxed.specs.declared.Sweeping.{Sweeping}
 use Rattle.boxed.specs.declared.Sweeping.the-variants as sweeping
 use Rattle.boxed.specs.declared.BoxReport.{BoxReport}
@@ -46,21 +47,145 @@ listedOf (ended exact s) l = l
 listedOf (ended converged s) l = l
 listedOf (ended (conflict c r) s) l = fronted r l
 
+-- ---- what private functions are lent
+
+-- n rows, each with its bounds, scale, state and multiplier
+pub record Scaled (n : ℕ) (lo hi scale : List Float) (st : List ℕ) (nu : List Float) : Type 0 where
+  pub lower : length lo ≡ n
+  pub upper : length hi ≡ n
+  pub scales : length scale ≡ n
+  pub states : length st ≡ n
+  pub multipliers : length nu ≡ n
+
+-- without scales, and with their square matrix, few enough
+pub record Matrix (n : ℕ) (w lo hi : List Float) (st : List ℕ) (nu : List Float) : Type 0 where
+  pub few : n ≤ 32
+  pub square : length w ≡ n * n
+  pub lower : length lo ≡ n
+  pub upper : length hi ≡ n
+  pub states : length st ≡ n
+  pub multipliers : length nu ≡ n
+
+-- a problem, with its states and multipliers
+pub record Lists (p : box.Problem) (st : List ℕ) (nu : List Float) : Type 0 where
+  pub matrix : Matrix (box.size p) (p .w) (p .lo) (p .hi) st nu
+  pub scales : length (p .scale) ≡ box.size p
+
+-- row i of the n that such lists have
+pub record Row (A : Type 0) (n i : ℕ) : Type 0 where
+  pub lists : A
+  pub row : i < n
+
+-- and a count of rows before it
+pub record CountedRow (A : Type 0) (n i k : ℕ) : Type 0 where
+  pub lists : A
+  pub row : i < n
+  pub count : k ≤ i
+
+-- two lists of n values
+pub record Pair (n : ℕ) (a b : List Float) : Type 0 where
+  pub first : length a ≡ n
+  pub second : length b ≡ n
+
+-- n rows, of whose motion there is something to measure
+pub record Measured (n : ℕ) (old : List Float) : Type 0 where
+  pub before : length old ≡ n
+  pub some : 0 < n
+
+-- n scales, and a row list for as many rows
+pub record Listing (n : ℕ) (scale : List Float) (l : List ℕ) : Type 0 where
+  pub scales : length scale ≡ n
+  pub listed : n ≤ length l
+
+-- a sweep's lists: `old` gets the multipliers as they were
+pub record SweepLists (n : ℕ) (w lo hi : List Float) (st : List ℕ) (nu old : List Float) : Type 0 where
+  pub matrix : Matrix n w lo hi st nu
+  pub before : length old ≡ n
+
+-- those of the tests after it
+pub record TestLists (p : box.Problem) (st : List ℕ) (nu old : List Float) (l : List ℕ) : Type 0 where
+  pub lists : Lists p st nu
+  pub before : length old ≡ box.size p
+  pub listed : box.size p ≤ length l
+  pub some : 0 < box.size p
+
+-- the values of a workspace that a solve uses: an exact pass's, and the multipliers kept
+abbrev pub USED : ℕ
+USED = 1152
+
+-- the most that a count can be
+abbrev pub MOST : ℕ
+MOST = 0xffff_ffff
+
+-- a whole solve's
+pub record Lent (p : box.Problem) (st : List ℕ) (nu : List Float) (l : List ℕ) (work : List Float) : Type 0 where
+  pub lists : Lists p st nu
+  pub listed : box.size p ≤ length l
+  pub workspace : USED ≤ length work
+
+-- at a checkpoint: one more pass can be counted
+pub record CheckLent (p : box.Problem) (st : List ℕ) (nu : List Float) (l : List ℕ) (work : List Float) (c : Counts) : Type 0 where
+  pub lent : Lent p st nu l work
+  pub passes : c .passes < MOST
+
+-- before a sweep, of some rows: so can it
+pub record TurnLent (p : box.Problem) (st : List ℕ) (nu : List Float) (l : List ℕ) (work : List Float) (c : Counts) : Type 0 where
+  pub lent : Lent p st nu l work
+  pub some : 0 < box.size p
+  pub sweeps : c .sweeps < MOST
+  pub passes : c .passes < MOST
+
+-- ---- what they answer and leave
+
+-- k and the row list l after row i, where b tells whether it is noted
+pub record Noted (b : Bool) (i k : ℕ) (l : List ℕ) (k′ : ℕ) (l′ : List ℕ) : Type 0 where
+  pub count : k′ ≡ counted b k
+  pub listed : l′ ≡ noted b l k i
+
+-- the start x, with at most m rows Idle
+pub record Started (x : sweep.Start) (m : ℕ) (nu : List Float) (st : List ℕ) (k : ℕ) : Type 0 where
+  pub start : record { nu = nu; states = st; idle = k } ≡ x
+  pub within : k ≤ m
+
+-- one row swept: it leaves the multipliers v and a count c of the rows stopped, at most m
+pub record SweptRow (v : List Float) (c m : ℕ) (nu : List Float) (k : ℕ) : Type 0 where
+  pub multipliers : nu ≡ v
+  pub stopped : k ≡ c
+  pub within : k ≤ m
+
+-- a sweep from the multipliers nu₀
+pub record Swept (w uFree lo hi : List Float) (st : List ℕ) (nu₀ nu old : List Float) (k : ℕ) : Type 0 where
+  pub multipliers : nu ≡ sweep.sweep w uFree lo hi st nu₀ (length uFree)
+  pub before : old ≡ nu₀
+  pub stopped : k ≡ sweep.stopped w uFree lo hi st nu₀ (length uFree)
+
 -- how the code tells a run r, the row list having been l₀
 pub record Ran (r : Run) (l₀ : List ℕ) (g : Sweeping) (nu : List Float) (st : List ℕ) (c : Counts) (l : List ℕ) : Type 0 where
   pub answer : g ≡ sweepingOf r
   pub reached : iterate nu st c ≡ iterateOf r
   pub listed : l ≡ listedOf r l₀
 
+-- the values of a workspace past those that a solve uses
+abbrev pub beyond : List Float → List Float
+beyond work = drop USED work
+
+-- and leaves the workspace, which was work₀, past what a solve uses
+pub record Worked (r : Run) (l₀ : List ℕ) (work₀ : List Float) (g : Sweeping) (nu : List Float) (st : List ℕ) (c : Counts) (l : List ℕ) (work : List Float) : Type 0 where
+  pub ran : Ran r l₀ g nu st c l
+  pub workspace : beyond work ≡ beyond work₀
+
+-- and has counted k sweeps and at most m passes
+pub record Counted (r : Run) (l₀ : List ℕ) (work₀ : List Float) (k m : ℕ) (q : Progress) (nu : List Float) (st l : List ℕ) (work : List Float) : Type 0 where
+  pub ran : Ran r l₀ (q .sweeping) nu st (q .counts) l
+  pub workspace : beyond work ≡ beyond work₀
+  pub sweeps : q .counts .sweeps ≡ k
+  pub passes : q .counts .passes ≤ m
+
 -- how the solve goes on after a pass that ended as e with the multipliers v, and the multipliers then; they were nu
 abbrev pub Settled : Exact → List Float → List Float → Sweeping → List Float → Type 0
 Settled e v nu g nu′ =
     (st₀ : List ℕ) (c : Counts) (x : Pass) (l₀ st l : List ℕ) → Passed x l₀ e v st l
     → Ran (passed (iterate nu st₀ c) x) l₀ g nu′ st (tried c) l
-
--- the values of a workspace past those that a solve uses: an exact pass's 1,120, and the multipliers kept
-abbrev pub beyond : List Float → List Float
-beyond work = drop 1152 work
 
 -- a solve that is not refused ends with this result: its answer, and what it leaves in the multipliers, the states and the row list
 pub record Finished (x : Result) (r : BoxAnswer) (nu : List Float) (st l : List ℕ) : Type 0 where

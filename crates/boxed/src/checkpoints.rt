@@ -1,9 +1,8 @@
 // The checkpoints, and the exact pass that is tried at each.
 ghost use mathlib.Core.Path.{_≡_};
-ghost use Prim.Native.Nat.{_+_, _≤_, _<_};
+ghost use Prim.Native.Nat.{_+_};
 ghost use lib.ListN.{length};
 ghost use Rattle.box_rows.specs.Rows as box;
-ghost use Rattle.box_rows.specs.Private as lists;
 ghost use Rattle.exact_pass.specs.Pass.{exactPass};
 ghost use Rattle.boxed.specs.Solve as def;
 ghost use Rattle.boxed.specs.Private as private;
@@ -66,17 +65,15 @@ fn attempt(
     rows: &mut [usize],
     work: &mut [f64],
 ) -> Sweeping
-    requires { ⌜ lists.Sized (length (now «u_free»)) (now w) (now lo) (now hi) (now scale)
-        × (length (now states) ≡ length (now «u_free»)) × (length (now nu) ≡ length (now «u_free»))
-        × (length (now «u_free») ≤ length (now rows)) × (1152 ≤ length (now work)) ⌝ }
-    ensures { λ q. ⌜
-        ((c : Counts) → private.Ran
+    requires { ⌜ private.Lent (box.problem (now w) (now «u_free») (now lo) (now hi) (now scale)) (now states) (now nu)
+        (now rows) (now work) ⌝ }
+    ensures { λ q. ⌜ ((c : Counts) → private.Worked
         (def.passed (def.iterate (now (nu .entry)) (now (states .entry)) c)
         (exactPass
         (box.problem (now (w .entry)) (now («u_free» .entry)) (now (lo .entry)) (now (hi .entry)) (now (scale .entry)))
         (now (states .entry)) (now (nu .entry))))
-        (now (rows .entry)) q (now (nu .exit)) (now (states .exit)) (def.tried c) (now (rows .exit)))
-        × (private.beyond (now (work .exit)) ≡ private.beyond (now (work .entry))) ⌝ }
+        (now (rows .entry)) (now (work .entry))
+        q (now (nu .exit)) (now (states .exit)) (def.tried c) (now (rows .exit)) (now (work .exit))) ⌝ }
 {
     let e = exact_pass::WORKSPACE + u_free.len();
     read::copy(nu, &mut work[exact_pass::WORKSPACE..e]);
@@ -98,17 +95,14 @@ pub fn check(
     work: &mut [f64],
     counts: Counts,
 ) -> Progress
-    requires { ⌜ lists.Sized (length (now «u_free»)) (now w) (now lo) (now hi) (now scale)
-        × (length (now states) ≡ length (now «u_free»)) × (length (now nu) ≡ length (now «u_free»))
-        × (length (now «u_free») ≤ length (now rows)) × (1152 ≤ length (now work)) × (counts .passes < 0xffff_ffff) ⌝ }
-    ensures { λ q. ⌜
-        private.Ran
+    requires { ⌜ private.CheckLent (box.problem (now w) (now «u_free») (now lo) (now hi) (now scale)) (now states)
+        (now nu) (now rows) (now work) counts ⌝ }
+    ensures { λ q. ⌜ private.Counted
         (def.checked cap
         (box.problem (now (w .entry)) (now («u_free» .entry)) (now (lo .entry)) (now (hi .entry)) (now (scale .entry)))
         (def.going (def.iterate (now (nu .entry)) (now (states .entry)) counts)))
-        (now (rows .entry)) (q .sweeping) (now (nu .exit)) (now (states .exit)) (q .counts) (now (rows .exit))
-        × (q .counts .sweeps ≡ counts .sweeps) × (q .counts .passes ≤ counts .passes + 1)
-        × (private.beyond (now (work .exit)) ≡ private.beyond (now (work .entry))) ⌝ }
+        (now (rows .entry)) (now (work .entry)) (counts .sweeps) (counts .passes + 1)
+        q (now (nu .exit)) (now (states .exit)) (now (rows .exit)) (now (work .exit)) ⌝ }
 {
     if checkpoint(cap, counts.sweeps) {
         let sweeping = attempt(w, u_free, lo, hi, scale, states, nu, rows, work);

@@ -1,10 +1,9 @@
 // What a solve reports and leaves.
 ghost use mathlib.Core.Path.{_≡_};
 ghost use mathlib.Core.List.{List};
-ghost use Prim.Native.Nat.{ℕ, _<_};
+ghost use Prim.Native.Nat.{ℕ};
 ghost use lib.ListN.{length};
 ghost use Rattle.box_rows.specs.Rows as box;
-ghost use Rattle.box_rows.specs.Private as lists;
 ghost use Rattle.boxed.specs.Sweep as sweeps;
 ghost use Rattle.boxed.specs.Solve as def;
 ghost use Rattle.boxed.specs.Private as private;
@@ -32,9 +31,9 @@ pub fn nothing(idle: u32) -> BoxReport
 }
 
 fn classify_row(lo: &[f64], hi: &[f64], scale: &[f64], nu: &[f64], states: &mut [u8], i: usize)
-    requires { ⌜
-        (i < length (now states)) × (length (now lo) ≡ length (now states)) × (length (now hi) ≡ length (now states))
-        × (length (now scale) ≡ length (now states)) × (length (now nu) ≡ length (now states)) ⌝ }
+    requires { ⌜ private.Row
+        (private.Scaled (length (now nu)) (now lo) (now hi) (now scale) (now states) (now nu))
+        (length (now nu)) i ⌝ }
     ensures { λ q. ⌜ now (states .exit)
         ≡ private.classifyRow (now (lo .entry)) (now (hi .entry)) (now (scale .entry)) (now (nu .entry)) i
         (now (states .entry)) ⌝ }
@@ -53,12 +52,10 @@ fn classify_row(lo: &[f64], hi: &[f64], scale: &[f64], nu: &[f64], states: &mut 
 
 // The states that the multipliers show.
 fn classify(lo: &[f64], hi: &[f64], scale: &[f64], nu: &[f64], states: &mut [u8])
-    requires { ⌜ (length (now lo) ≡ length (now states)) × (length (now hi) ≡ length (now states))
-        × (length (now scale) ≡ length (now states)) × (length (now nu) ≡ length (now states)) ⌝ }
+    requires { ⌜ private.Scaled (length (now nu)) (now lo) (now hi) (now scale) (now states) (now nu) ⌝ }
     ensures { λ q. ⌜ now (states .exit)
         ≡ sweeps.classified (now (lo .entry)) (now (hi .entry)) (now (scale .entry)) (now (nu .entry))
-        (now (states .entry))
-        (length (now (states .entry))) ⌝ }
+        (now (states .entry)) (length (now (nu .entry))) ⌝ }
 {
     let n = states.len();
     let mut i = 0;
@@ -102,8 +99,8 @@ pub fn answer(
     progress: Progress,
     idle: u32,
 ) -> BoxAnswer
-    requires { ⌜ lists.Sized (length (now «u_free»)) (now w) (now lo) (now hi) (now scale)
-        × (length (now states) ≡ length (now «u_free»)) × (length (now nu) ≡ length (now «u_free»)) ⌝ }
+    requires { ⌜
+        private.Lists (box.problem (now w) (now «u_free») (now lo) (now hi) (now scale)) (now states) (now nu) ⌝ }
     ensures { λ q. ⌜ ((r : def.Run) (l₀ l : List ℕ)
         → private.Ran r l₀ (progress .sweeping) (now (nu .entry)) (now (states .entry)) (progress .counts) l
         → private.Finished

@@ -1,17 +1,13 @@
 // Growth: the rows whose multiplier is past a million scales, Idle rows included.
-ghost use mathlib.Core.Path.{_≡_};
-ghost use Prim.Native.Nat.{_≤_, _<_};
+ghost use Prim.Native.Nat.{_<_};
 ghost use lib.ListN.{length};
-ghost use Rattle.loops.specs.Loops.{counted, noted};
 ghost use Rattle.loops.specs.Gathering.{Gathering};
-ghost use Rattle.boxed.specs.Sweep as def;
 ghost use Rattle.boxed.specs.Private as private;
 use crate::read;
 
 fn grown_row(v: f64, s: f64, i: usize, k: usize, rows: &mut [usize]) -> usize
     requires { ⌜ k < length (now rows) ⌝ }
-    ensures { λ q. ⌜ (q ≡ counted (private.isGrown v s) k)
-        × (now (rows .exit) ≡ noted (private.isGrown v s) (now (rows .entry)) k i) ⌝ }
+    ensures { λ q. ⌜ private.Noted (private.isGrown v s) i k (now (rows .entry)) q (now (rows .exit)) ⌝ }
 {
     if floats::abs(v) > exact_pass::DIVERGENCE * s {
         read::put_number(rows, k, i);
@@ -22,7 +18,7 @@ fn grown_row(v: f64, s: f64, i: usize, k: usize, rows: &mut [usize]) -> usize
 
 // They stand at the front of `rows`, rising; how many there are.
 pub fn grown(nu: &[f64], scale: &[f64], rows: &mut [usize]) -> usize
-    requires { ⌜ (length (now scale) ≡ length (now nu)) × (length (now nu) ≤ length (now rows)) ⌝ }
+    requires { ⌜ private.Listing (length (now nu)) (now scale) (now rows) ⌝ }
     ensures { λ q. ⌜ Gathering (private.grownAt (now (nu .entry)) (now (scale .entry))) (now (rows .entry))
         (length (now (nu .entry))) q (now (rows .exit)) ⌝ }
 {

@@ -1,10 +1,8 @@
 // The box solver of boxed.rs: sweeps with their tests, exact passes at the checkpoints, and what a solve reports and
 // leaves.
 ghost use mathlib.Core.Path.{_≡_};
-ghost use Prim.Native.Nat.{_≤_};
 ghost use lib.ListN.{length, take};
 ghost use Rattle.box_rows.specs.Rows as box;
-ghost use Rattle.box_rows.specs.Private as lists;
 ghost use Rattle.boxed.specs.Solve as def;
 ghost use Rattle.boxed.specs.Private as private;
 
@@ -106,17 +104,14 @@ fn solve_rows(
     rows: &mut [usize],
     work: &mut [f64],
 ) -> BoxAnswer
-    requires { ⌜ lists.Sized (length (now «u_free»)) (now w) (now lo) (now hi) (now scale)
-        × (length (now states) ≡ length (now «u_free»)) × (length (now nu) ≡ length (now «u_free»))
-        × (length (now «u_free») ≤ length (now rows)) × (1152 ≤ length (now work)) ⌝ }
-    ensures { λ q. ⌜
-        private.Finished
+    requires { ⌜ private.Lent (box.problem (now w) (now «u_free») (now lo) (now hi) (now scale)) (now states) (now nu)
+        (now rows) (now work) ⌝ }
+    ensures { λ q. ⌜ def.Left
         (def.solve def.SWEEP_CAP
         (box.problem (now (w .entry)) (now («u_free» .entry)) (now (lo .entry)) (now (hi .entry)) (now (scale .entry)))
         (def.watch (now (motion .entry)) tolerance)
         (now (nu .entry)) (now (states .entry)) (now (rows .entry)))
-        q (now (nu .exit)) (now (states .exit)) (now (rows .exit))
-        × (private.beyond (now (work .exit)) ≡ private.beyond (now (work .entry))) ⌝ }
+        q (now (nu .exit)) (now (states .exit)) (now (rows .exit)) (now (work .entry)) (now (work .exit)) ⌝ }
 {
     let n = nu.len();
     let idle = start::start(w, lo, hi, states, nu);

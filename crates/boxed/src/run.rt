@@ -1,9 +1,7 @@
 // The sweeps of a solve, each with its tests.
 ghost use mathlib.Core.Path.{_≡_};
-ghost use Prim.Native.Nat.{_+_, _≤_, _<_};
-ghost use lib.ListN.{length};
+ghost use Prim.Native.Nat.{_+_};
 ghost use Rattle.box_rows.specs.Rows as box;
-ghost use Rattle.box_rows.specs.Private as lists;
 ghost use Rattle.boxed.specs.Solve as def;
 ghost use Rattle.boxed.specs.Private as private;
 use crate::Cause;
@@ -42,19 +40,15 @@ fn turn(
     work: &mut [f64],
     counts: Counts,
 ) -> Progress
-    requires { ⌜ lists.Sized (length (now «u_free»)) (now w) (now lo) (now hi) (now scale)
-        × (length (now states) ≡ length (now «u_free»)) × (length (now nu) ≡ length (now «u_free»))
-        × (length (now «u_free») ≤ length (now rows)) × (1152 ≤ length (now work)) × (0 < length (now «u_free»))
-        × (counts .sweeps < 0xffff_ffff) × (counts .passes < 0xffff_ffff) ⌝ }
-    ensures { λ q. ⌜
-        private.Ran
+    requires { ⌜ private.TurnLent (box.problem (now w) (now «u_free») (now lo) (now hi) (now scale)) (now states)
+        (now nu) (now rows) (now work) counts ⌝ }
+    ensures { λ q. ⌜ private.Counted
         (def.turn (limits .cap)
         (box.problem (now (w .entry)) (now («u_free» .entry)) (now (lo .entry)) (now (hi .entry)) (now (scale .entry)))
         (def.watch (now (motion .entry)) (limits .tolerance)) (counts .sweeps)
         (def.going (def.iterate (now (nu .entry)) (now (states .entry)) counts)))
-        (now (rows .entry)) (q .sweeping) (now (nu .exit)) (now (states .exit)) (q .counts) (now (rows .exit))
-        × (q .counts .sweeps ≡ counts .sweeps + 1) × (q .counts .passes ≤ counts .passes + 1)
-        × (private.beyond (now (work .exit)) ≡ private.beyond (now (work .entry))) ⌝ }
+        (now (rows .entry)) (now (work .entry)) (counts .sweeps + 1) (counts .passes + 1)
+        q (now (nu .exit)) (now (states .exit)) (now (rows .exit)) (now (work .exit)) ⌝ }
 {
     let n = u_free.len();
     let mut before = [0.0f64; 32];
@@ -110,17 +104,15 @@ pub fn run(
     rows: &mut [usize],
     work: &mut [f64],
 ) -> Progress
-    requires { ⌜ lists.Sized (length (now «u_free»)) (now w) (now lo) (now hi) (now scale)
-        × (length (now states) ≡ length (now «u_free»)) × (length (now nu) ≡ length (now «u_free»))
-        × (length (now «u_free») ≤ length (now rows)) × (1152 ≤ length (now work)) × (0 < length (now «u_free»)) ⌝ }
-    ensures { λ q. ⌜
-        private.Ran
+    requires { ⌜ private.TurnLent (box.problem (now w) (now «u_free») (now lo) (now hi) (now scale)) (now states)
+        (now nu) (now rows) (now work) (def.counts 0 0 0) ⌝ }
+    ensures { λ q. ⌜ private.Worked
         (def.run (limits .cap)
         (box.problem (now (w .entry)) (now («u_free» .entry)) (now (lo .entry)) (now (hi .entry)) (now (scale .entry)))
         (def.watch (now (motion .entry)) (limits .tolerance))
         (def.iterate (now (nu .entry)) (now (states .entry)) (def.counts 0 0 0)) (limits .cap))
-        (now (rows .entry)) (q .sweeping) (now (nu .exit)) (now (states .exit)) (q .counts) (now (rows .exit))
-        × (private.beyond (now (work .exit)) ≡ private.beyond (now (work .entry))) ⌝ }
+        (now (rows .entry)) (now (work .entry))
+        (q .sweeping) (now (nu .exit)) (now (states .exit)) (q .counts) (now (rows .exit)) (now (work .exit)) ⌝ }
 {
     let mut counts = Counts {
         sweeps: 0,

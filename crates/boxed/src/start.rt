@@ -1,9 +1,8 @@
 // Where a solve starts: a row that cannot act is Idle, and every multiplier is clamped to its box, that of an Idle row
 // from 0.
 ghost use mathlib.Core.Path.{_≡_};
-ghost use Prim.Native.Nat.{_+_, _≤_, _<_};
+ghost use Prim.Native.Nat.{_+_};
 ghost use lib.ListN.{length};
-ghost use Rattle.box_rows.specs.Private as lists;
 ghost use Rattle.boxed.specs.Sweep as def;
 ghost use Rattle.boxed.specs.Private as private;
 use crate::read;
@@ -18,11 +17,10 @@ fn start_row(
     i: usize,
     idle: usize,
 ) -> usize
-    requires { ⌜ (i < length (now nu)) × (length (now states) ≡ length (now nu)) × (idle ≤ i) ⌝ }
-    ensures { λ q. ⌜
-        (private.started (now (nu .exit)) (now (states .exit)) q
-        ≡ private.startRow d lo hi i (private.started (now (nu .entry)) (now (states .entry)) idle))
-        × (q ≤ i + 1) ⌝ }
+    requires { ⌜ private.CountedRow (length (now states) ≡ length (now nu)) (length (now nu)) i idle ⌝ }
+    ensures { λ q. ⌜ private.Started
+        (private.startRow d lo hi i (private.started (now (nu .entry)) (now (states .entry)) idle)) (i + 1)
+        (now (nu .exit)) (now (states .exit)) q ⌝ }
 {
     if box_rows::is_idle(d) {
         read::put_state(states, i, box_rows::IDLE);
@@ -38,15 +36,13 @@ fn start_row(
 
 // How many rows are Idle.
 pub fn start(w: &[f64], lo: &[f64], hi: &[f64], states: &mut [u8], nu: &mut [f64]) -> usize
-    requires { ⌜ lists.Square (now w) (length (now nu)) × (length (now lo) ≡ length (now nu))
-        × (length (now hi) ≡ length (now nu)) × (length (now states) ≡ length (now nu)) ⌝ }
-    ensures { λ q. ⌜
-        (private.started (now (nu .exit)) (now (states .exit)) q
-        ≡ def.start (now (w .entry)) (length (now (nu .entry))) (now (lo .entry)) (now (hi .entry))
-        (now (nu .entry)) (now (states .entry)) (length (now (nu .entry))))
-        × (q ≤ length (now (nu .entry))) ⌝ }
+    requires { ⌜ private.Matrix (length (now lo)) (now w) (now lo) (now hi) (now states) (now nu) ⌝ }
+    ensures { λ q. ⌜ private.Started
+        (def.start (now (w .entry)) (length (now (lo .entry))) (now (lo .entry)) (now (hi .entry))
+        (now (nu .entry)) (now (states .entry)) (length (now (lo .entry))))
+        (length (now (lo .entry))) (now (nu .exit)) (now (states .exit)) q ⌝ }
 {
-    let n = nu.len();
+    let n = lo.len();
     let mut idle = 0;
     let mut i = 0;
     while i < n {

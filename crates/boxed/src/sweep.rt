@@ -1,16 +1,15 @@
 // One sweep: each row that acts updates its multiplier, in order, and the rows that are stopped at a bound are counted.
 ghost use mathlib.Core.Path.{_≡_};
-ghost use Prim.Native.Nat.{_+_, _≤_, _<_};
+ghost use Prim.Native.Nat.{_+_, _<_};
 ghost use lib.ListN.{length};
 ghost use Rattle.loops.specs.Loops.{counted};
 ghost use Rattle.box_rows.specs.Private as lists;
-ghost use Rattle.boxed.specs.Sweep as def;
 ghost use Rattle.boxed.specs.Private as private;
 use crate::read;
 
 // k, and one more where an update is stopped at this side.
 fn count(side: u8, k: u32) -> u32
-    requires { ⌜ k < 0xffff_ffff ⌝ }
+    requires { ⌜ k < private.MOST ⌝ }
     ensures { λ q. ⌜ q ≡ counted (lists.isStopped side) k ⌝ }
 {
     if side == floats::NONE {
@@ -30,15 +29,15 @@ fn sweep_row(
     i: usize,
     k: u32,
 ) -> u32
-    requires { ⌜ lists.Square (now w) (length (now «u_free»)) × (length (now lo) ≡ length (now «u_free»))
-        × (length (now hi) ≡ length (now «u_free»)) × (length (now states) ≡ length (now «u_free»))
-        × (length (now nu) ≡ length (now «u_free»)) × (i < length (now «u_free»)) × (k ≤ i) ⌝ }
-    ensures { λ q. ⌜
-        (now (nu .exit) ≡ private.sweepRow (now (w .entry)) (now («u_free» .entry)) (now (lo .entry)) (now (hi .entry))
+    requires { ⌜ private.CountedRow
+        (private.Matrix (length (now «u_free»)) (now w) (now lo) (now hi) (now states) (now nu))
+        (length (now «u_free»)) i k ⌝ }
+    ensures { λ q. ⌜ private.SweptRow
+        (private.sweepRow (now (w .entry)) (now («u_free» .entry)) (now (lo .entry)) (now (hi .entry))
         (now (states .entry)) i (now (nu .entry)))
-        × (q ≡ counted (private.stops (now (w .entry)) (now («u_free» .entry)) (now (lo .entry)) (now (hi .entry))
+        (counted (private.stops (now (w .entry)) (now («u_free» .entry)) (now (lo .entry)) (now (hi .entry))
         (now (states .entry)) i (now (nu .entry))) k)
-        × (q ≤ i + 1) ⌝ }
+        (i + 1) (now (nu .exit)) q ⌝ }
 {
     if read::state(states, i) == box_rows::IDLE {
         return k;
@@ -67,15 +66,10 @@ pub fn sweep(
     nu: &mut [f64],
     before: &mut [f64],
 ) -> u32
-    requires { ⌜ lists.Square (now w) (length (now «u_free»)) × (length (now lo) ≡ length (now «u_free»))
-        × (length (now hi) ≡ length (now «u_free»)) × (length (now states) ≡ length (now «u_free»))
-        × (length (now nu) ≡ length (now «u_free»)) × (length (now before) ≡ length (now «u_free»)) ⌝ }
-    ensures { λ q. ⌜
-        (now (nu .exit) ≡ def.sweep (now (w .entry)) (now («u_free» .entry)) (now (lo .entry)) (now (hi .entry))
-        (now (states .entry)) (now (nu .entry)) (length (now («u_free» .entry))))
-        × (now (before .exit) ≡ now (nu .entry))
-        × (q ≡ def.stopped (now (w .entry)) (now («u_free» .entry)) (now (lo .entry)) (now (hi .entry))
-        (now (states .entry)) (now (nu .entry)) (length (now («u_free» .entry)))) ⌝ }
+    requires { ⌜ private.SweepLists (length (now «u_free»)) (now w) (now lo) (now hi) (now states) (now nu)
+        (now before) ⌝ }
+    ensures { λ q. ⌜ private.Swept (now (w .entry)) (now («u_free» .entry)) (now (lo .entry)) (now (hi .entry))
+        (now (states .entry)) (now (nu .entry)) (now (nu .exit)) (now (before .exit)) q ⌝ }
 {
     let n = u_free.len();
     let mut k = 0;

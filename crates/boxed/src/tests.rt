@@ -1,10 +1,9 @@
 // The tests after a sweep: whether the motion has stopped, whether a residual is left, and whether the multipliers
 // still move along a ray.
 ghost use mathlib.Core.Path.{_≡_};
-ghost use Prim.Native.Nat.{_/_, _≤_, _<_};
+ghost use Prim.Native.Nat.{_/_};
 ghost use lib.ListN.{length};
 ghost use Rattle.box_rows.specs.Rows as box;
-ghost use Rattle.box_rows.specs.Private as lists;
 ghost use Rattle.exact_pass.specs.Ray.{ray};
 ghost use Rattle.boxed.specs.Sweep as def;
 ghost use Rattle.boxed.specs.Solve as solve;
@@ -26,9 +25,9 @@ fn residual_row(
     i: usize,
     worst: f64,
 ) -> f64
-    requires { ⌜ lists.Sized (length (now «u_free»)) (now w) (now lo) (now hi) (now scale)
-        × (length (now states) ≡ length (now «u_free»)) × (length (now nu) ≡ length (now «u_free»))
-        × (i < length (now «u_free»)) ⌝ }
+    requires { ⌜ private.Row
+        (private.Lists (box.problem (now w) (now «u_free») (now lo) (now hi) (now scale)) (now states) (now nu))
+        (length (now «u_free»)) i ⌝ }
     ensures { λ q. ⌜ q ≡ private.residualRow
         (box.problem (now (w .entry)) (now («u_free» .entry)) (now (lo .entry)) (now (hi .entry)) (now (scale .entry)))
         (now (states .entry)) (now (nu .entry)) i worst ⌝ }
@@ -59,8 +58,8 @@ pub fn residual(
     states: &[u8],
     nu: &[f64],
 ) -> f64
-    requires { ⌜ lists.Sized (length (now «u_free»)) (now w) (now lo) (now hi) (now scale)
-        × (length (now states) ≡ length (now «u_free»)) × (length (now nu) ≡ length (now «u_free»)) ⌝ }
+    requires { ⌜
+        private.Lists (box.problem (now w) (now «u_free») (now lo) (now hi) (now scale)) (now states) (now nu) ⌝ }
     ensures { λ q. ⌜ q ≡ def.residual
         (box.problem (now (w .entry)) (now («u_free» .entry)) (now (lo .entry)) (now (hi .entry)) (now (scale .entry)))
         (now (states .entry)) (now (nu .entry)) (length (now («u_free» .entry))) ⌝ }
@@ -77,7 +76,7 @@ pub fn residual(
 
 // How far a coordinate moved, of which `row` has the motion for a unit multiplier of each row.
 fn coordinate(row: &[f64], nu: &[f64], before: &[f64]) -> f64
-    requires { ⌜ (length (now row) ≡ length (now nu)) × (length (now before) ≡ length (now nu)) ⌝ }
+    requires { ⌜ private.Pair (length (now nu)) (now row) (now before) ⌝ }
     ensures { λ q. ⌜
         q ≡ private.coordinate (now (row .entry)) (now (nu .entry)) (now (before .entry)) (length (now (nu .entry))) ⌝ }
 {
@@ -93,7 +92,7 @@ fn coordinate(row: &[f64], nu: &[f64], before: &[f64]) -> f64
 
 // The most that a coordinate moved.
 fn moved(motion: &[f64], nu: &[f64], before: &[f64]) -> f64
-    requires { ⌜ (length (now before) ≡ length (now nu)) × (0 < length (now nu)) ⌝ }
+    requires { ⌜ private.Measured (length (now nu)) (now before) ⌝ }
     ensures { λ q. ⌜ q ≡ def.moved (now (motion .entry)) (now (nu .entry)) (now (before .entry))
         (length (now (motion .entry)) / length (now (nu .entry))) ⌝ }
 {
@@ -111,7 +110,7 @@ fn moved(motion: &[f64], nu: &[f64], before: &[f64]) -> f64
 
 // In y the direction in which the multipliers moved.
 fn change(nu: &[f64], before: &[f64], y: &mut [f64])
-    requires { ⌜ (length (now before) ≡ length (now nu)) × (length (now y) ≡ length (now nu)) ⌝ }
+    requires { ⌜ private.Pair (length (now nu)) (now before) (now y) ⌝ }
     ensures { λ q. ⌜ now (y .exit) ≡ def.change (now (nu .entry)) (now (before .entry)) (length (now (nu .entry))) ⌝ }
 {
     let n = nu.len();
@@ -133,9 +132,8 @@ fn ray_test(
     before: &[f64],
     rows: &mut [usize],
 ) -> Sweeping
-    requires { ⌜ lists.Sized (length (now «u_free»)) (now w) (now lo) (now hi) (now scale)
-        × (length (now states) ≡ length (now «u_free»)) × (length (now nu) ≡ length (now «u_free»))
-        × (length (now before) ≡ length (now «u_free»)) × (length (now «u_free») ≤ length (now rows)) ⌝ }
+    requires { ⌜ private.TestLists (box.problem (now w) (now «u_free») (now lo) (now hi) (now scale)) (now states)
+        (now nu) (now before) (now rows) ⌝ }
     ensures { λ q. ⌜ ((c : Counts) → private.Ran
         (solve.unless cause.Sweep (solve.iterate (now (nu .entry)) (now (states .entry)) c)
         (ray
@@ -167,10 +165,8 @@ pub fn tests(
     before: &[f64],
     rows: &mut [usize],
 ) -> Sweeping
-    requires { ⌜ lists.Sized (length (now «u_free»)) (now w) (now lo) (now hi) (now scale)
-        × (length (now states) ≡ length (now «u_free»)) × (length (now nu) ≡ length (now «u_free»))
-        × (length (now before) ≡ length (now «u_free»)) × (length (now «u_free») ≤ length (now rows))
-        × (0 < length (now «u_free»)) ⌝ }
+    requires { ⌜ private.TestLists (box.problem (now w) (now «u_free») (now lo) (now hi) (now scale)) (now states)
+        (now nu) (now before) (now rows) ⌝ }
     ensures { λ q. ⌜ ((c : Counts) → private.Ran
         (solve.tested
         (box.problem (now (w .entry)) (now («u_free» .entry)) (now (lo .entry)) (now (hi .entry)) (now (scale .entry)))

@@ -1,5 +1,6 @@
+use borrow.Author.Needs.{needs}
 use Rattle.boxed.proofs.Solving.{all-idle, some-act}
-use mathlib.Core.Path.{refl, _∙_}
+use mathlib.Core.Path.{refl, sym, _∙_}
 use native.Mathlib.Omega.{arith}
 use Rattle.boxed.proofs.solve_rows.Statement.{statement}
 use Rattle.boxed.proofs.solve_rows.Tie as tie
@@ -7,7 +8,7 @@ use Rattle.boxed.proofs.solve_rows.Tie as tie
 start-requires : tie.Need-start-requires
 start-requires c κs =
     let at-pre = c .before .before .before .before .before .before .before .before .before .before .before .before in
-    rw (at-pre .pre .2) ((at-pre .pre .0 .0, at-pre .pre .0 .1), at-pre .pre .0 .2, at-pre .pre .0 .3, at-pre .pre .1)
+    rw (at-pre .pre .lists .matrix .lower) (at-pre .pre .lists .matrix)
 
 returns : tie.Need-returns
 returns c =
@@ -16,20 +17,18 @@ returns c =
     let at-start = at-if1 .before .before .before .before .before in
     let at-args = at-start .before .before .before .before .before .before .before .before .before .before .before .before .before in
     let at-pre = at-args in
-    (all-idle _ _ _ (at-args .args .nu .now) _ _ (at-pre .pre .2) _ _ _ (at-start .start .ensures .0) (at-if1 .if1 .taken) _ (at-nothing .nothing .ensures), refl)
+    all-idle _ _ _ (at-args .args .nu .now) _ _ (at-pre .pre .lists .matrix .lower) _ _ _ (at-start .start .ensures .start) (omega arith) _ (at-nothing .nothing .ensures) _
 
 cast-answer : tie.Need-cast-answer
 cast-answer c =
     let at-start = c .before .before .before .before .before .before .before .before .before .before .before .before .before .before .before .before .before .before .before .before in
     let at-pre = at-start .before .before .before .before .before .before .before .before .before .before .before .before .before in
-    omega (arith, at-start .start .ensures .1, at-pre .pre .0 .0, at-pre .pre .2)
+    omega (arith, at-start .start .ensures .within, at-pre .pre .lists .matrix)
 
 answer-requires : tie.Need-answer-requires
 answer-requires c κs =
-    let at-run = c .before .before .before .before .before .before .before .before .before .before in
-    let at-start = at-run .before .before .before .before .before .before .before .before .before .before in
-    let at-pre = at-start .before .before .before .before .before .before .before .before .before .before .before .before .before in
-    (at-pre .pre .0, at-run .run .kept .1 .1 .1 .1 .1 .1 .1 .0 ∙ at-start .start .kept .1 .1 .1 .0 ∙ at-pre .pre .1, at-run .run .kept .1 .1 .1 .1 .1 .1 .1 .1 .0 ∙ at-start .start .kept .1 .1 .1 .1 .0 ∙ at-pre .pre .2)
+    let at-start = c .before .before .before .before .before .before .before .before .before .before .before .before .before .before .before .before .before .before .before .before in
+    omega (arith, at-start .before .before .before .before .before .before .before .before .before .before .before .before .before .pre, at-start .start .kept)
 
 abbrev to-run : tie.After-slice-known11 → tie.After-run
 to-run c = c .before .before .before .before .before .before .before .before .before .before .before .before .before
@@ -48,7 +47,7 @@ returns-2 c =
     let at-start = at-if1 .before .before .before .before .before in
     let at-args = at-start .before .before .before .before .before .before .before .before .before .before .before .before .before in
     let at-pre = at-args in
-    (some-act _ _ _ (at-args .args .nu .now) _ _ (at-pre .pre .2) _ _ _ (at-start .start .ensures .0) (at-if1 .if1 .left) _ _ _ _ (at-answer .answer .ensures _ _ _ (at-run .run .ensures .0)), at-run .run .ensures .1)
+    some-act _ _ _ (at-args .args .nu .now) _ _ (at-pre .pre .lists .matrix .lower) _ _ _ (at-start .start .ensures .start) (λ e. at-if1 .if1 .left (e ∙ sym (at-pre .pre .lists .matrix .multipliers))) _ _ _ _ _ _ (at-answer .answer .ensures _ _ _ (at-run .run .ensures .ran)) (at-run .run .ensures .workspace)
 
 pub solve-rows-spec : {M : Type 1} → statement M
 solve-rows-spec =

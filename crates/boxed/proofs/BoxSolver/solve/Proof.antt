@@ -1,6 +1,6 @@
 use Rattle.box_rows.specs.Rows as box
 use lib.ListN.{length}
-use Rattle.boxed.proofs.Accepting.{accepted-by}
+use Rattle.boxed.proofs.Accepting.{enough-states, lent}
 use Rattle.boxed.proofs.Solving.{is-refused, is-solved}
 use lib.Seq.{length-take-le, length-front}
 use mathlib.Core.Path.{sym}
@@ -14,22 +14,21 @@ slice-relend-prefix-solve-rows c =
     let at-if1 = c .before in
     let at-refusal = at-if1 .before in
     let a = at-refusal .before .before .before .before .before .before .before .before .before .before .before .before .before .before .args in
-    accepted-by (box.problem (a .w .now) (a .u-free .now) (a .lo .now) (a .hi .now) (a .scale .now)) (a .motion .now) (a .nu .now) (a .states .now) (a .rows .now) (length (a .workspace .now)) (at-refusal .refusal .result) (at-refusal .refusal .ensures) (at-if1 .if1 .left) .states
+    enough-states (box.problem (a .w .now) (a .u-free .now) (a .lo .now) (a .hi .now) (a .scale .now)) (a .motion .now) (a .nu .now) (a .states .now) (a .rows .now) (a .workspace .now) (at-refusal .refusal .result) (at-refusal .refusal .ensures) (at-if1 .if1 .left)
 
 slice-aggregate-solve-rows : tie.Need-slice-aggregate-solve-rows
 slice-aggregate-solve-rows c =
     let at-if1 = c .before .before in
     let at-refusal = at-if1 .before in
     let a = at-refusal .before .before .before .before .before .before .before .before .before .before .before .before .before .before .args in
-    sym (length-take-le _ _ (accepted-by (box.problem (a .w .now) (a .u-free .now) (a .lo .now) (a .hi .now) (a .scale .now)) (a .motion .now) (a .nu .now) (a .states .now) (a .rows .now) (length (a .workspace .now)) (at-refusal .refusal .result) (at-refusal .refusal .ensures) (at-if1 .if1 .left) .states))
+    sym (length-take-le _ _ (enough-states (box.problem (a .w .now) (a .u-free .now) (a .lo .now) (a .hi .now) (a .scale .now)) (a .motion .now) (a .nu .now) (a .states .now) (a .rows .now) (a .workspace .now) (at-refusal .refusal .result) (at-refusal .refusal .ensures) (at-if1 .if1 .left)))
 
 solve-rows-requires : tie.Need-solve-rows-requires
 solve-rows-requires c κs =
     let at-if1 = c .before .before .before .before in
     let at-refusal = at-if1 .before in
     let a = at-refusal .before .before .before .before .before .before .before .before .before .before .before .before .before .before .args in
-    let b = accepted-by (box.problem (a .w .now) (a .u-free .now) (a .lo .now) (a .hi .now) (a .scale .now)) (a .motion .now) (a .nu .now) (a .states .now) (a .rows .now) (length (a .workspace .now)) (at-refusal .refusal .result) (at-refusal .refusal .ensures) (at-if1 .if1 .left) in
-    (b .sized, length-take-le _ _ (b .states), b .values, b .listed, omega (arith, b .work))
+    lent (box.problem (a .w .now) (a .u-free .now) (a .lo .now) (a .hi .now) (a .scale .now)) (a .motion .now) (a .nu .now) (a .states .now) (a .rows .now) (a .workspace .now) (at-refusal .refusal .result) (at-refusal .refusal .ensures) (at-if1 .if1 .left)
 
 same-length-4 : tie.Need-same-length-4
 same-length-4 c = c .before .before .before .before .before .before .before .before .solve-rows .kept .1 .1 .1 .1 .1 .1 .1 .0
@@ -51,7 +50,7 @@ returns-2 c =
     let at-solve-rows = c .before .before .before .before .before .before .before .before in
     let at-if1 = at-solve-rows .before .before .before .before .before in
     let at-refusal = at-if1 .before in
-    is-solved _ _ _ _ _ _ _ (at-refusal .refusal .ensures) (at-if1 .if1 .left) _ _ _ _ _ _ (at-solve-rows .solve-rows .ensures .0) (at-solve-rows .solve-rows .ensures .1)
+    is-solved _ _ _ _ _ _ _ (at-refusal .refusal .ensures) (at-if1 .if1 .left) _ _ _ _ _ _ (at-solve-rows .solve-rows .ensures)
 
 pub solve-spec : {M : Type 1} → statement M
 solve-spec =

@@ -10,7 +10,7 @@ copy-requires : tie.Need-copy-requires
 copy-requires c κs =
     let at-args = c .before .before .before .before .before .before .before .before .before .before .before in
     let at-pre = at-args in
-    mid-length 1120 (length (at-args .args .u-free .now)) (at-args .args .work .now) (omega (arith, at-pre .pre .0 .0, at-pre .pre .4)) ∙ sym (at-pre .pre .2)
+    mid-length 1120 (length (at-args .args .u-free .now)) (at-args .args .work .now) (omega (arith, at-pre .pre)) ∙ sym (at-pre .pre .lists .matrix .multipliers)
 
 settle-requires : tie.Need-settle-requires
 settle-requires c κs =
@@ -19,10 +19,10 @@ settle-requires c κs =
     let at-args = at-copy .before .before .before .before .before .before .before .before .before .before .before .before in
     let at-pre = at-args in
     let n = length (at-args .args .u-free .now) in
-    let room = put-length 1120 n (at-args .args .work .now) (at-copy .copy .last .1 .0) (omega (arith, at-pre .pre .0 .0, at-pre .pre .4)) (ap length (at-copy .copy .ensures) ∙ at-pre .pre .2) in
+    let room = put-length 1120 n (at-args .args .work .now) (at-copy .copy .last .1 .0) (omega (arith, at-pre .pre)) (ap length (at-copy .copy .ensures) ∙ at-pre .pre .lists .matrix .multipliers) in
     mid-length 1120 n (at-exact-pass .exact-pass .last .1 .1 .1 .1 .1 .1 .1 .1 .0)
-    (omega (arith, at-pre .pre .0 .0, at-pre .pre .4, at-exact-pass .exact-pass .kept .1 .1 .1 .1 .1 .1 .1 .1 .0, room))
-    ∙ sym (at-exact-pass .exact-pass .kept .1 .1 .1 .1 .1 .1 .0 ∙ at-pre .pre .2)
+    (omega (arith, at-pre .pre, at-exact-pass .exact-pass .kept .1 .1 .1 .1 .1 .1 .1 .1 .0, room))
+    ∙ sym (at-exact-pass .exact-pass .kept .1 .1 .1 .1 .1 .1 .0 ∙ at-pre .pre .lists .matrix .multipliers)
 
 abbrev to-exact-pass : tie.After-slice-known10 → tie.After-exact-pass
 to-exact-pass c = c .before .before .before .before .before .before .before .before .before .before .before .before .before .before
@@ -37,7 +37,7 @@ returns c =
     let at-copy = at-exact-pass .before .before .before .before .before .before .before in
     let at-args = at-copy .before .before .before .before .before .before .before .before .before .before .before .before in
     let at-pre = at-args in
-    attempted _ _ _ _ (at-args .args .work .now) (at-pre .pre .0) (at-pre .pre .1) (at-pre .pre .2) (at-pre .pre .3) (at-pre .pre .4) _ _ _ _ _ (at-copy .copy .last .1 .0) _ _
+    attempted _ _ _ _ (at-args .args .work .now) (at-pre .pre) _ _ _ _ _ (at-copy .copy .last .1 .0) _ _
     (at-copy .copy .ensures) (at-exact-pass .exact-pass .ensures) (at-settle .settle .ensures)
 
 pub attempt-spec : {M : Type 1} → statement M

@@ -20,7 +20,7 @@ returns-2 c =
     let at-enum-told2 = at-classify .before .before in
     let at-residual = at-enum-told2 .before .before .before in
     let at-pre = at-residual .before .before .before .before .before .before .before .before .before in
-    end-going _ _ _ _ _ _ _ (at-residual .residual .ensures) _ _ _ (at-enum-told2 .enum-told2 .given .1) (c .report2 .ensures) (at-classify .classify .ensures) (at-pre .pre .1)
+    end-going _ _ _ _ _ _ _ (at-residual .residual .ensures) _ _ _ (at-enum-told2 .enum-told2 .given .1) (c .report2 .ensures) (at-classify .classify .ensures) (at-pre .pre .matrix .multipliers)
 
 returns-3 : tie.Need-returns-3
 returns-3 c =
@@ -28,7 +28,7 @@ returns-3 c =
     let at-enum-told3 = at-show2 .before .before in
     let at-residual = at-enum-told3 .before .before .before in
     let at-pre = at-residual .before .before .before .before .before .before .before .before .before in
-    end-converged _ _ _ _ _ _ _ (at-residual .residual .ensures) _ _ _ (at-enum-told3 .enum-told3 .given .1) (c .report3 .ensures) (at-show2 .classify2 .ensures) (at-pre .pre .1)
+    end-converged _ _ _ _ _ _ _ (at-residual .residual .ensures) _ _ _ (at-enum-told3 .enum-told3 .given .1) (c .report3 .ensures) (at-show2 .classify2 .ensures) (at-pre .pre .matrix .multipliers)
 
 returns-4 : tie.Need-returns-4
 returns-4 c =

@@ -21,7 +21,7 @@ loop-again c =
     let at-at2 = at-grown-row .before .before in
     let at-at = at-at2 .before in
     let at-loop = at-at .before .before in
-    (search needs, search needs, search needs, gather-again _ _ _ _ _ _ _ (at-loop .loop .inv .3) (rw (← at-at .at .ensures, ← at-at2 .at2 .ensures) (at-grown-row .grown-row .ensures .0)) (rw (← at-at .at .ensures, ← at-at2 .at2 .ensures) (at-grown-row .grown-row .ensures .1)))
+    (search needs, search needs, search needs, gather-again _ _ _ _ _ _ _ (at-loop .loop .inv .3) (rw (← at-at .at .ensures, ← at-at2 .at2 .ensures) (at-grown-row .grown-row .ensures .count)) (rw (← at-at .at .ensures, ← at-at2 .at2 .ensures) (at-grown-row .grown-row .ensures .listed)))
 
 returns : tie.Need-returns Inv-loop μ-loop
 returns c =

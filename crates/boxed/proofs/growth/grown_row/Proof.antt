@@ -12,13 +12,13 @@ returns c =
     let at-put-number = c .before .before in
     let at-if1 = at-put-number .before .before in
     let at-abs = at-if1 .before in
-    rw (← at-abs .abs .ensures, at-if1 .if1 .taken) (add-one _, at-put-number .put-number .ensures)
+    rw (← at-abs .abs .ensures, at-if1 .if1 .taken) (record { count = add-one _; listed = at-put-number .put-number .ensures })
 
 returns-2 : tie.Need-returns-2
 unfolding counted noted private.isGrown
 returns-2 c =
     let at-abs = c .before in
-    rw (← at-abs .abs .ensures, c .if1 .left) (refl, refl)
+    rw (← at-abs .abs .ensures, c .if1 .left) (record { count = refl; listed = refl })
 
 pub grown-row-spec : {M : Type 1} → statement M
 grown-row-spec =

@@ -24,20 +24,7 @@ loop-holds : tie.Need-loop-holds Inv-loop μ-loop
 loop-holds c = (omega arith, omega arith, record { of-states = refl; of-nu = refl; of-rows = refl; of-work = refl }, run-start _ _ _ _, refl, refl)
 
 turn-requires : tie.Need-turn-requires Inv-loop μ-loop
-turn-requires c κs =
-    let at-if1 = c .before .before .before .before in
-    let at-struct-known2 = at-if1 .before in
-    let at-loop = at-struct-known2 .before .before in
-    let at-pre = at-loop .before .before .before .before .before .before .before .before .before .before .before in (
-      at-pre .pre .0,
-      at-loop .loop .inv .2 .of-states ∙ at-pre .pre .1,
-      at-loop .loop .inv .2 .of-nu ∙ at-pre .pre .2,
-      omega (arith, at-pre .pre .3, at-loop .loop .inv .2 .of-rows),
-      omega (arith, at-pre .pre .4, at-loop .loop .inv .2 .of-work),
-      at-pre .pre .5,
-      omega (arith, at-if1 .if1 .taken, at-struct-known2 .struct-known2 .given),
-      omega (arith, at-if1 .if1 .taken, at-struct-known2 .struct-known2 .given, at-loop .loop .inv .1),
-    )
+turn-requires c κs = omega arith
 
 same-length : tie.Need-same-length Inv-loop μ-loop
 same-length c =
@@ -69,17 +56,18 @@ returns c =
     let at-going = at-if2 .before in
     let at-turn = at-going .before .before .before .before .before .before .before .before .before in
     let at-if1 = at-turn .before .before .before .before .before in
-    let at-loop = at-if1 .before .before .before in (
-      run-ended _ _ _ _ (at-loop .loop .counts .sweeps) _ (at-turn .turn .result .sweeping) _ _ _ _ _ (at-loop .loop .inv .3) (at-turn .turn .ensures .0) _ _
-          (sym (at-going .going .ensures) ∙ not-true _ (at-if2 .if2 .taken)) (at-if1 .if1 .taken) (at-loop .loop .inv .4),
-      at-turn .turn .ensures .3 ∙ at-loop .loop .inv .5,
-    )
+    let at-loop = at-if1 .before .before .before in
+    record {
+      ran = run-ended _ _ _ _ (at-loop .loop .counts .sweeps) _ (at-turn .turn .result .sweeping) _ _ _ _ _ (at-loop .loop .inv .3) (at-turn .turn .ensures .ran) _ _
+          (sym (at-going .going .ensures) ∙ not-true _ (at-if2 .if2 .taken)) (at-if1 .if1 .taken) (at-loop .loop .inv .4);
+      workspace = at-turn .turn .ensures .workspace ∙ at-loop .loop .inv .5;
+    }
 
 loop-less : tie.Need-loop-less Inv-loop μ-loop
 loop-less c =
     let at-turn = c .before .before .before .before .before .before .before .before .before .before .before in
     let at-if1 = at-turn .before .before .before .before .before in
-    omega (arith, at-turn .turn .ensures .1, at-if1 .if1 .taken)
+    omega (arith, at-turn .turn .ensures .sweeps, at-if1 .if1 .taken)
 
 loop-again : tie.Need-loop-again Inv-loop μ-loop
 loop-again c =
@@ -88,10 +76,10 @@ loop-again c =
     let at-turn = at-going .before .before .before .before .before .before .before .before .before in
     let at-if1 = at-turn .before .before .before .before .before in
     let at-loop = at-if1 .before .before .before in
-    let x = run-again _ _ _ _ (at-loop .loop .counts .sweeps) _ (at-turn .turn .result .sweeping) _ _ (at-turn .turn .result .counts) _ _ (at-loop .loop .inv .3) (at-turn .turn .ensures .0)
-    (sym (at-going .going .ensures) ∙ not-false _ (at-if2 .if2 .left)) (at-turn .turn .ensures .1) in (
-      omega (arith, at-turn .turn .ensures .1, at-if1 .if1 .taken),
-      omega (arith, at-turn .turn .ensures .1, at-turn .turn .ensures .2, at-loop .loop .inv .1),
+    let x = run-again _ _ _ _ (at-loop .loop .counts .sweeps) _ (at-turn .turn .result .sweeping) _ _ (at-turn .turn .result .counts) _ _ (at-loop .loop .inv .3) (at-turn .turn .ensures .ran)
+    (sym (at-going .going .ensures) ∙ not-false _ (at-if2 .if2 .left)) (at-turn .turn .ensures .sweeps) in (
+      omega (arith, at-turn .turn .ensures .sweeps, at-if1 .if1 .taken),
+      omega (arith, at-turn .turn .ensures .sweeps, at-turn .turn .ensures .passes, at-loop .loop .inv .1),
       record {
         of-states = at-turn .turn .kept .1 .1 .1 .1 .1 .1 .1 .0 ∙ at-loop .loop .inv .2 .of-states;
         of-nu = at-turn .turn .kept .1 .1 .1 .1 .1 .1 .1 .1 .0 ∙ at-loop .loop .inv .2 .of-nu;
@@ -100,14 +88,14 @@ loop-again c =
       },
       x .0,
       x .1 ∙ at-loop .loop .inv .4,
-      at-turn .turn .ensures .3 ∙ at-loop .loop .inv .5,
+      at-turn .turn .ensures .workspace ∙ at-loop .loop .inv .5,
     )
 
 returns-2 : tie.Need-returns-2 Inv-loop μ-loop
 returns-2 c =
     let at-if1 = c in
     let at-loop = at-if1 .before .before .before in
-    (run-over _ _ _ _ (at-loop .loop .counts) _ _ _ _ _ (at-loop .loop .inv .3) (at-loop .loop .inv .4) (at-loop .loop .inv .0) (at-if1 .if1 .left), at-loop .loop .inv .5)
+    record { ran = run-over _ _ _ _ (at-loop .loop .counts) _ _ _ _ _ (at-loop .loop .inv .3) (at-loop .loop .inv .4) (at-loop .loop .inv .0) (at-if1 .if1 .left); workspace = at-loop .loop .inv .5 }
 
 pub run-spec : {M : Type 1} → statement M
 run-spec =

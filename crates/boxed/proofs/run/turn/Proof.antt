@@ -1,3 +1,4 @@
+use borrow.Author.Needs.{needs}
 use Prim.Native.Nat.{_+_}
 use Rattle.box_rows.specs.Rows as box
 use Rattle.boxed.specs.Sweep as sweeps
@@ -15,12 +16,12 @@ use Rattle.boxed.proofs.run.turn.Tie as tie
 slice-aggregate-sweep : tie.Need-slice-aggregate-sweep
 slice-aggregate-sweep c =
     let at-pre = c .before .before .before .before .before .before .before .before .before .before .before .before .before in
-    sym (length-take-le _ _ (omega (arith, at-pre .pre .0 .0)))
+    sym (length-take-le _ _ (omega arith))
 
 sweep-requires : tie.Need-sweep-requires
 sweep-requires c κs =
     let at-pre = c .before .before .before .before .before .before .before .before .before .before .before .before .before in
-    ((at-pre .pre .0 .0, at-pre .pre .0 .1), at-pre .pre .0 .2, at-pre .pre .0 .3, at-pre .pre .1, at-pre .pre .2, length-take-le _ _ (omega (arith, at-pre .pre .0 .0)))
+    record { matrix = at-pre .pre .lent .lists .matrix; before = length-take-le _ _ (omega arith) }
 
 same-length-2 : tie.Need-same-length-2
 same-length-2 c = c .before .before .before .before .before .before .before .before .before .before .sweep .kept .1 .1 .1 .1 .1 .0
@@ -38,20 +39,17 @@ returns c =
     let s = at-sweep .sweep in
     let n = def.counts (a .counts .sweeps + 1) (a .counts .passes) (s .result) in
     let g = at-grown .grown in
-    let counted = one-more (a .counts) (s .result) (sweeps.stopped (a .w .now) (a .u-free .now) (a .lo .now) (a .hi .now) (a .states .now) (a .nu .now) (box.size p)) (s .ensures .2) in (
-      turn-grown (a .limits .cap) p m (a .nu .now) (a .states .now) (a .counts) (a .counts .sweeps) (a .rows .now) (s .last .1 .1 .1 .1 .1 .0) n (g .result) (g .last .1 .1 .0)
-          (s .ensures .0) counted (at-sweep .sweep .kept .1 .1 .1 .1 .1 .0 ∙ at-pre .pre .2) (at-grown .grown .ensures) (at-if1 .if1 .taken),
-      refl,
-      omega arith,
-      refl,
-    )
+    let counted = one-more (a .counts) (s .result) (sweeps.stopped (a .w .now) (a .u-free .now) (a .lo .now) (a .hi .now) (a .states .now) (a .nu .now) (box.size p)) (s .ensures .stopped) in
+    record {
+      ran = turn-grown (a .limits .cap) p m (a .nu .now) (a .states .now) (a .counts) (a .counts .sweeps) (a .rows .now) (s .last .1 .1 .1 .1 .1 .0) n (g .result) (g .last .1 .1 .0)
+          (s .ensures .multipliers) counted (at-sweep .sweep .kept .1 .1 .1 .1 .1 .0 ∙ at-pre .pre .lent .lists .matrix .multipliers) (at-grown .grown .ensures) (at-if1 .if1 .taken);
+      workspace = refl;
+      sweeps = refl;
+      passes = omega arith;
+    }
 
 check-requires : tie.Need-check-requires
-check-requires c κs =
-    let at-grown = c .before .before .before .before .before .before .before in
-    let at-sweep = at-grown .before .before .before .before .before .before .before in
-    let at-pre = at-sweep .before .before .before .before .before .before .before .before .before .before .before .before .before .before in
-    (at-pre .pre .0, at-pre .pre .1, at-sweep .sweep .kept .1 .1 .1 .1 .1 .0 ∙ at-pre .pre .2, omega (arith, at-pre .pre .3, at-grown .grown .kept), at-pre .pre .4, at-pre .pre .7)
+check-requires c κs = omega (arith, c .before .before .before .before .before .before .before .before .before .before .before .before .before .before .before .before .before .before .before .before .before .before .before .before .before .before .before .before .pre)
 
 abbrev to-check : tie.Then2 → tie.After-check
 to-check c = c .before .before .before .before .before .before .before .before .before .before .before
@@ -78,40 +76,40 @@ returns-2 c =
     let s = at-sweep .sweep in
     let n = def.counts (a .counts .sweeps + 1) (a .counts .passes) (s .result) in
     let g = at-grown .grown in
-    let counted = one-more (a .counts) (s .result) (sweeps.stopped (a .w .now) (a .u-free .now) (a .lo .now) (a .hi .now) (a .states .now) (a .nu .now) (box.size p)) (s .ensures .2) in (
-      turn-ended (a .limits .cap) p m (a .nu .now) (a .states .now) (a .counts) (a .counts .sweeps) (a .rows .now) (s .last .1 .1 .1 .1 .1 .0) n (g .result) (g .last .1 .1 .0)
-          (s .ensures .0) counted (at-sweep .sweep .kept .1 .1 .1 .1 .1 .0 ∙ at-pre .pre .2) (at-grown .grown .ensures) (at-if1 .if1 .left)
-          _ _ _ _ _ (at-check .check .ensures .0) (sym (at-going .going .ensures) ∙ not-true _ (at-if2 .if2 .taken)),
-      at-check .check .ensures .1,
-      at-check .check .ensures .2,
-      at-check .check .ensures .3,
-    )
+    let counted = one-more (a .counts) (s .result) (sweeps.stopped (a .w .now) (a .u-free .now) (a .lo .now) (a .hi .now) (a .states .now) (a .nu .now) (box.size p)) (s .ensures .stopped) in
+    record {
+      ran = turn-ended (a .limits .cap) p m (a .nu .now) (a .states .now) (a .counts) (a .counts .sweeps) (a .rows .now) (s .last .1 .1 .1 .1 .1 .0) n (g .result) (g .last .1 .1 .0)
+          (s .ensures .multipliers) counted (at-sweep .sweep .kept .1 .1 .1 .1 .1 .0 ∙ at-pre .pre .lent .lists .matrix .multipliers) (at-grown .grown .ensures) (at-if1 .if1 .left)
+          _ _ _ _ _ (at-check .check .ensures .ran) (sym (at-going .going .ensures) ∙ not-true _ (at-if2 .if2 .taken));
+      workspace = at-check .check .ensures .workspace;
+      sweeps = at-check .check .ensures .sweeps;
+      passes = at-check .check .ensures .passes;
+    }
 
 array-share-prefix-before : tie.Need-array-share-prefix-before
 array-share-prefix-before c =
     let at-sweep = c .before .before .before .before .before .before .before .before .before .before .before .before .before .before .before .before .before .before .before .before .before .before .before .before .before .before .before .before in
     let at-pre = at-sweep .before .before .before .before .before .before .before .before .before .before .before .before .before .before in
-    front-within (at-sweep .sweep .last .1 .1 .1 .1 .1 .1 .0) _ _ (ap length (at-sweep .sweep .ensures .1) ∙ at-pre .pre .2)
+    front-within (at-sweep .sweep .last .1 .1 .1 .1 .1 .1 .0) _ _ (ap length (at-sweep .sweep .ensures .before) ∙ at-pre .pre .lent .lists .matrix .multipliers)
 
 slice-aggregate-tests : tie.Need-slice-aggregate-tests
 slice-aggregate-tests c =
     let at-sweep = c .before .before .before .before .before .before .before .before .before .before .before .before .before .before .before .before .before .before .before .before .before .before .before .before .before .before .before .before .before in
     let at-pre = at-sweep .before .before .before .before .before .before .before .before .before .before .before .before .before .before in
-    front-length (at-sweep .sweep .last .1 .1 .1 .1 .1 .1 .0) _ _ (ap length (at-sweep .sweep .ensures .1) ∙ at-pre .pre .2)
+    front-length (at-sweep .sweep .last .1 .1 .1 .1 .1 .1 .0) _ _ (ap length (at-sweep .sweep .ensures .before) ∙ at-pre .pre .lent .lists .matrix .multipliers)
 
 tests-requires : tie.Need-tests-requires
 tests-requires c κs =
     let at-check = c .before .before .before .before .before .before .before .before .before .before .before .before .before .before .before in
     let at-grown = at-check .before .before .before .before .before .before .before .before in
     let at-sweep = at-grown .before .before .before .before .before .before .before in
-    let at-pre = at-sweep .before .before .before .before .before .before .before .before .before .before .before .before .before .before in (
-      at-pre .pre .0,
-      at-check .check .kept .1 .1 .1 .1 .1 .1 .0 ∙ at-pre .pre .1,
-      at-check .check .kept .1 .1 .1 .1 .1 .1 .1 .0 ∙ at-sweep .sweep .kept .1 .1 .1 .1 .1 .0 ∙ at-pre .pre .2,
-      sym (front-length (at-sweep .sweep .last .1 .1 .1 .1 .1 .1 .0) _ _ (ap length (at-sweep .sweep .ensures .1) ∙ at-pre .pre .2)),
-      omega (arith, at-pre .pre .3, at-grown .grown .kept, at-check .check .kept),
-      at-pre .pre .5,
-    )
+    let at-pre = at-sweep .before .before .before .before .before .before .before .before .before .before .before .before .before .before in
+    record {
+      lists = omega (arith, at-pre .pre, at-check .check .kept, at-sweep .sweep .kept);
+      before = sym (front-length (at-sweep .sweep .last .1 .1 .1 .1 .1 .1 .0) _ _ (ap length (at-sweep .sweep .ensures .before) ∙ at-pre .pre .lent .lists .matrix .multipliers));
+      listed = omega (arith, at-pre .pre, at-check .check .kept, at-grown .grown .kept);
+      some = at-pre .pre .some;
+    }
 
 abbrev to-check-2 : tie.After-slice-known11 → tie.After-check
 to-check-2 c = c .before .before .before .before .before .before .before .before .before .before .before .before .before .before .before .before .before .before
@@ -142,15 +140,16 @@ returns-3 c =
     let s = at-sweep .sweep in
     let n = def.counts (a .counts .sweeps + 1) (a .counts .passes) (s .result) in
     let g = at-grown .grown in
-    let counted = one-more (a .counts) (s .result) (sweeps.stopped (a .w .now) (a .u-free .now) (a .lo .now) (a .hi .now) (a .states .now) (a .nu .now) (box.size p)) (s .ensures .2) in (
-      turn-tested (a .limits .cap) p m (a .nu .now) (a .states .now) (a .counts) (a .counts .sweeps) (a .rows .now) (s .last .1 .1 .1 .1 .1 .0) n (g .result) (g .last .1 .1 .0)
-          (s .ensures .0) counted (at-sweep .sweep .kept .1 .1 .1 .1 .1 .0 ∙ at-pre .pre .2) (at-grown .grown .ensures) (at-if1 .if1 .left)
-          (at-check .check .result .sweeping) _ _ _ _ (at-check .check .ensures .0) (sym (at-going .going .ensures) ∙ not-false _ (at-if2 .if2 .left))
-          (at-sweep .sweep .last .1 .1 .1 .1 .1 .1 .0) _ _ _ (at-sweep .sweep .ensures .1) (at-pre .pre .2) (at-tests .tests .ensures),
-      at-check .check .ensures .1,
-      at-check .check .ensures .2,
-      at-check .check .ensures .3,
-    )
+    let counted = one-more (a .counts) (s .result) (sweeps.stopped (a .w .now) (a .u-free .now) (a .lo .now) (a .hi .now) (a .states .now) (a .nu .now) (box.size p)) (s .ensures .stopped) in
+    record {
+      ran = turn-tested (a .limits .cap) p m (a .nu .now) (a .states .now) (a .counts) (a .counts .sweeps) (a .rows .now) (s .last .1 .1 .1 .1 .1 .0) n (g .result) (g .last .1 .1 .0)
+          (s .ensures .multipliers) counted (at-sweep .sweep .kept .1 .1 .1 .1 .1 .0 ∙ at-pre .pre .lent .lists .matrix .multipliers) (at-grown .grown .ensures) (at-if1 .if1 .left)
+          (at-check .check .result .sweeping) _ _ _ _ (at-check .check .ensures .ran) (sym (at-going .going .ensures) ∙ not-false _ (at-if2 .if2 .left))
+          (at-sweep .sweep .last .1 .1 .1 .1 .1 .1 .0) _ _ _ (at-sweep .sweep .ensures .before) (at-pre .pre .lent .lists .matrix .multipliers) (at-tests .tests .ensures);
+      workspace = at-check .check .ensures .workspace;
+      sweeps = at-check .check .ensures .sweeps;
+      passes = at-check .check .ensures .passes;
+    }
 
 pub turn-spec : {M : Type 1} → statement M
 turn-spec =

@@ -11,7 +11,7 @@ use Rattle.boxed.proofs.start.start.Statement.{statement}
 use Rattle.boxed.proofs.start.start.Tie as tie
 
 abbrev Inv-loop : tie.InvT-loop
-Inv-loop w lo hi states₀ nu₀ n idle₀ i₀ states nu idle i = (i ≤ n) × (idle ≤ i) × (length nu ≡ length nu₀) × (length states ≡ length states₀) × (n ≡ length nu₀) × (private.started nu states idle ≡ def.start w n lo hi nu₀ states₀ i)
+Inv-loop w lo hi states₀ nu₀ n idle₀ i₀ states nu idle i = (i ≤ n) × (idle ≤ i) × (length nu ≡ length nu₀) × (length states ≡ length states₀) × (n ≡ length lo) × (private.started nu states idle ≡ def.start w n lo hi nu₀ states₀ i)
 
 abbrev μ-loop : tie.MeasureT-loop
 μ-loop w lo hi states₀ nu₀ n idle₀ i₀ states nu idle i = n - i
@@ -24,7 +24,7 @@ row-requires : tie.Need-row-requires Inv-loop μ-loop
 row-requires c κs =
     let at-loop = c .before in
     let at-args = at-loop .before .before .before .before .before .before in
-    row-fits (at-args .args .w .now) (length (at-args .args .nu .now)) (at-loop .loop .i) (at-args .pre .0 .1) (omega arith)
+    row-fits (at-args .args .w .now) (length (at-args .args .lo .now)) (at-loop .loop .i) (at-args .pre .square) (omega arith)
 
 loop-again : tie.Need-loop-again Inv-loop μ-loop
 unfolding def.start private.startRow
@@ -35,11 +35,11 @@ loop-again c =
     let at-at = at-at2 .before in
     let at-row = at-at .before in
     let at-loop = at-row .before .before in
-    (search needs, at-start-row .start-row .ensures .1, search needs, search needs, search needs, turns-again _ _ _ _ _ (at-loop .loop .inv .5) (rw (at-at .at .ensures, at-at2 .at2 .ensures, at-at3 .at3 .ensures, at-row .row .ensures) at (at-start-row .start-row .ensures .0)))
+    (search needs, at-start-row .start-row .ensures .within, search needs, search needs, search needs, turns-again _ _ _ _ _ (at-loop .loop .inv .5) (rw (at-at .at .ensures, at-at2 .at2 .ensures, at-at3 .at3 .ensures, at-row .row .ensures) at (at-start-row .start-row .ensures .start)))
 
 returns : tie.Need-returns Inv-loop μ-loop
 unfolding def.start private.startRow
-returns c = (turns-done _ _ _ _ _ (omega arith) (omega arith) (c .before .loop .inv .5), search needs)
+returns c = record { start = turns-done _ _ _ _ _ (omega arith) (omega arith) (c .before .loop .inv .5); within = search needs }
 
 pub start-spec : {M : Type 1} → statement M
 start-spec =

@@ -14,7 +14,7 @@ returns c =
     let at-put-state = at-clamp .before .before .before in
     let at-if1 = at-put-state .before .before in
     let at-is-idle = at-if1 .before in
-    (rw (sym (at-is-idle .is-idle .ensures) ∙ at-if1 .if1 .taken, add-one, at-put .put .ensures, at-put-state .put-state .ensures, at-clamp .clamp .ensures .0), search needs)
+    record { start = rw (sym (at-is-idle .is-idle .ensures) ∙ at-if1 .if1 .taken, add-one, at-put .put .ensures, at-put-state .put-state .ensures, at-clamp .clamp .ensures .0); within = search needs }
 
 same-length-3 : tie.Need-same-length-3
 same-length-3 c = c .before .before .before .before .before .before .before .before .before .put-state2 .kept .0
@@ -28,7 +28,7 @@ returns-2 c =
     let at-put-state2 = at-at .before .before .before .before in
     let at-if1 = at-put-state2 .before .before in
     let at-is-idle = at-if1 .before in
-    (rw (sym (at-is-idle .is-idle .ensures) ∙ at-if1 .if1 .left, at-put2 .put2 .ensures, at-put-state2 .put-state2 .ensures, at-clamp2 .clamp2 .ensures .0, at-at .at .ensures), search needs)
+    record { start = rw (sym (at-is-idle .is-idle .ensures) ∙ at-if1 .if1 .left, at-put2 .put2 .ensures, at-put-state2 .put-state2 .ensures, at-clamp2 .clamp2 .ensures .0, at-at .at .ensures); within = search needs }
 
 pub start-row-spec : {M : Type 1} → statement M
 start-row-spec =

@@ -47,12 +47,12 @@ loop-again c =
       search needs,
       search needs,
       search needs,
-      turns-again _ _ _ _ _ (at-loop .loop .inv .3) (at-sweep-row .sweep-row .ensures .0),
+      turns-again _ _ _ _ _ (at-loop .loop .inv .3) (at-sweep-row .sweep-row .ensures .multipliers),
       search needs,
       front-again (at-args .args .nu .now) (at-args .args .before .now) (at-loop .loop .i) nan (at-loop .loop .before) _ (at-loop .loop .inv .5) (omega arith)
           (rw (at-put .put .ensures, at-at .at .ensures, at-loop .loop .inv .3, sweep-later _ _ _ _ _ (at-args .args .nu .now) (at-loop .loop .i) (at-loop .loop .i) (omega arith))),
-      at-sweep-row .sweep-row .ensures .2,
-      stopped-again _ _ _ _ _ _ _ _ _ _ (at-loop .loop .inv .7) (at-loop .loop .inv .3) (at-sweep-row .sweep-row .ensures .1),
+      at-sweep-row .sweep-row .ensures .within,
+      stopped-again _ _ _ _ _ _ _ _ _ _ (at-loop .loop .inv .7) (at-loop .loop .inv .3) (at-sweep-row .sweep-row .ensures .stopped),
     )
 
 -- src/sweep.rt:40:1
@@ -63,12 +63,13 @@ returns : tie.Need-returns Inv-loop μ-loop
 unfolding def.sweep private.sweepRow
 returns c =
     let at-loop = c .before in
-    let at-args = at-loop .before .before .before .before .before .before .before .before in (
-      turns-done _ _ _ _ _ (omega arith) (omega arith) (at-loop .loop .inv .3),
-      front-done (at-args .args .nu .now) (at-args .args .before .now) (at-loop .loop .i) (at-loop .loop .before) (at-loop .loop .inv .5) (omega arith)
-          ∙ front-whole (at-args .args .nu .now) (at-args .args .before .now) (omega arith),
-      stopped-done _ _ _ _ _ _ _ _ _ (omega arith) (omega arith) (at-loop .loop .inv .7),
-    )
+    let at-args = at-loop .before .before .before .before .before .before .before .before in
+    record {
+      multipliers = turns-done _ _ _ _ _ (omega arith) (omega arith) (at-loop .loop .inv .3);
+      before = front-done (at-args .args .nu .now) (at-args .args .before .now) (at-loop .loop .i) (at-loop .loop .before) (at-loop .loop .inv .5) (omega arith)
+          ∙ front-whole (at-args .args .nu .now) (at-args .args .before .now) (omega arith);
+      stopped = stopped-done _ _ _ _ _ _ _ _ _ (omega arith) (omega arith) (at-loop .loop .inv .7);
+    }
 
 pub sweep-spec : {M : Type 1} → statement M
 sweep-spec =

@@ -16,23 +16,23 @@ unfolding private.sweepRow private.stops counted
 returns c =
     let at-state = c .before in
     let idle = eq-eqb _ _ (sym (at-state .state .ensures) ∙ c .if1 .taken) in
-    (rw idle, rw idle, search needs)
+    record { multipliers = rw idle; stopped = rw idle; within = search needs }
 
 row-requires : tie.Need-row-requires
 row-requires c κs =
     let at-args = c .before .before .before .before .before .before .before .before in
-    row-fits (at-args .args .w .now) (length (at-args .args .u-free .now)) (at-args .args .i) (at-args .pre .0 .1) (at-args .pre .5)
+    row-fits (at-args .args .w .now) (length (at-args .args .u-free .now)) (at-args .args .i) (at-args .pre .lists .square) (at-args .pre .row)
 
 at-requires-3 : tie.Need-at-requires-3
 at-requires-3 c κs =
     let at-row = c .before .before .before .before .before in
     let at-pre = at-row .before .before .before .before .before .before .before .before .before in
-    omega (arith, ap length (at-row .row .ensures) ∙ row-length _ _ _, at-pre .pre .5)
+    omega (arith, ap length (at-row .row .ensures) ∙ row-length _ _ _, at-pre .pre .row)
 
 count-requires : tie.Need-count-requires
 count-requires c κs =
     let at-pre = c .before .before .before .before .before .before .before .before .before .before .before .before .before .before .before .before .before .before .before .before .before .before in
-    omega (arith, at-pre .pre .0 .0, at-pre .pre .5, at-pre .pre .6)
+    omega (arith, at-pre .pre)
 
 returns-2 : tie.Need-returns-2
 unfolding private.sweepRow private.stops
@@ -50,11 +50,12 @@ returns-2 c =
     let at-if1 = at-row .before in
     let at-state = at-if1 .before in
     let at-args = at-state .before .before .before .before .before .before .before in
-    let acts = ne-eqb _ _ (λ (e : box.state (at-args .args .states .now) (at-args .args .i) ≡ 3). at-if1 .if1 .left (at-state .state .ensures ∙ e)) in (
-      rw (acts, at-put .put .ensures, at-update .update .ensures .0, at-row-sum .row-sum .ensures, at-at .at .ensures, at-at2 .at2 .ensures, at-at3 .at3 .ensures, at-at4 .at4 .ensures, at-at5 .at5 .ensures, at-row .row .ensures),
-      rw (acts, at-count .count .ensures, at-update .update .ensures .1, at-row-sum .row-sum .ensures, at-at .at .ensures, at-at2 .at2 .ensures, at-at3 .at3 .ensures, at-at4 .at4 .ensures, at-at5 .at5 .ensures, at-row .row .ensures),
-      counted-within _ _ _ _ (at-count .count .ensures) (at-args .pre .6),
-    )
+    let acts = ne-eqb _ _ (λ (e : box.state (at-args .args .states .now) (at-args .args .i) ≡ 3). at-if1 .if1 .left (at-state .state .ensures ∙ e)) in
+    record {
+      multipliers = rw (acts, at-put .put .ensures, at-update .update .ensures .0, at-row-sum .row-sum .ensures, at-at .at .ensures, at-at2 .at2 .ensures, at-at3 .at3 .ensures, at-at4 .at4 .ensures, at-at5 .at5 .ensures, at-row .row .ensures);
+      stopped = rw (acts, at-count .count .ensures, at-update .update .ensures .1, at-row-sum .row-sum .ensures, at-at .at .ensures, at-at2 .at2 .ensures, at-at3 .at3 .ensures, at-at4 .at4 .ensures, at-at5 .at5 .ensures, at-row .row .ensures);
+      within = counted-within _ _ _ _ (at-count .count .ensures) (at-args .pre .count);
+    }
 
 pub sweep-row-spec : {M : Type 1} → statement M
 sweep-row-spec =

@@ -25,7 +25,7 @@ loop-again c =
     let at-at = at-at2 .before in
     let at-loop = at-at .before .before .before in
     let at-pre = at-loop .before .before .before .before in
-    (search needs, search needs, search needs, rw (at-put .put .ensures, at-at .at .ensures, at-at2 .at2 .ensures) (tab-again _ _ _ _ (at-loop .loop .inv .3) (at-loop .loop .inv .2) (omega (arith, at-pre .pre .1, at-loop .loop .inv .2))))
+    (search needs, search needs, search needs, rw (at-put .put .ensures, at-at .at .ensures, at-at2 .at2 .ensures) (tab-again _ _ _ _ (at-loop .loop .inv .3) (at-loop .loop .inv .2) (omega (arith, at-pre .pre .second, at-loop .loop .inv .2))))
 
 returns : tie.Need-returns Inv-loop μ-loop
 unfolding def.change

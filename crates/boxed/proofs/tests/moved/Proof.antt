@@ -31,7 +31,7 @@ row-requires c κs =
 coordinate-requires : tie.Need-coordinate-requires Inv-loop μ-loop
 coordinate-requires c κs =
     let at-pre = c .before .before .before .before .before .before in
-    (ap length (c .row .ensures) ∙ row-length _ _ _, at-pre .pre .0)
+    record { first = ap length (c .row .ensures) ∙ row-length _ _ _; second = at-pre .pre .before }
 
 add-c : tie.Need-add-c Inv-loop μ-loop
 add-c c =

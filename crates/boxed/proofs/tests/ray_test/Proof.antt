@@ -7,38 +7,37 @@ use Rattle.boxed.proofs.tests.ray_test.Statement.{statement}
 use Rattle.boxed.proofs.tests.ray_test.Tie as tie
 
 slice-aggregate-change : tie.Need-slice-aggregate-change
-slice-aggregate-change c = sym (length-take-le _ _ (omega (arith, c .before .before .before .before .before .before .before .before .before .before .pre .0 .0)))
+slice-aggregate-change c = sym (length-take-le _ _ (omega arith))
 
 change-requires : tie.Need-change-requires
 change-requires c κs =
-    let at-pre = c .before .before .before .before .before .before .before .before .before .before in
-    (omega (arith, at-pre .pre .2, at-pre .pre .3), length-take-le _ _ (omega (arith, at-pre .pre .0 .0)) ∙ sym (at-pre .pre .2))
+    record { first = omega arith; second = length-take-le _ _ (omega arith) ∙ sym (c .before .before .before .before .before .before .before .before .before .before .pre .lists .matrix .multipliers) }
 
 array-share-prefix-y : tie.Need-array-share-prefix-y
 array-share-prefix-y c =
     let at-change = c .before in
     let at-pre = at-change .before .before .before .before .before .before .before .before .before .before .before in
-    changed-le _ _ _ _ _ (at-change .change .ensures) (at-pre .pre .2)
+    changed-le _ _ _ _ _ (at-change .change .ensures) (at-pre .pre .lists .matrix .multipliers)
 
 slice-aggregate-ray : tie.Need-slice-aggregate-ray
 slice-aggregate-ray c =
     let at-change = c .before .before in
     let at-pre = at-change .before .before .before .before .before .before .before .before .before .before .before in
-    sym (length-take-le _ _ (changed-le _ _ _ _ _ (at-change .change .ensures) (at-pre .pre .2)))
+    sym (length-take-le _ _ (changed-le _ _ _ _ _ (at-change .change .ensures) (at-pre .pre .lists .matrix .multipliers)))
 
 returns : tie.Need-returns
 returns c =
     let at-ray = c .before .before .before in
     let at-change = at-ray .before .before .before .before in
     let at-pre = at-change .before .before .before .before .before .before .before .before .before .before .before in
-    none-fight _ _ _ _ _ _ _ (ray-front _ _ _ _ _ _ _ _ (at-pre .pre .0) (at-pre .pre .1) (at-pre .pre .4) (changed-front _ _ _ _ _ (at-change .change .ensures) (at-pre .pre .2)) (at-ray .ray .ensures)) (c .if1 .taken)
+    none-fight _ _ _ _ _ _ _ (ray-front _ _ _ _ _ _ _ _ (at-pre .pre .lists) (at-pre .pre .listed) (changed-front _ _ _ _ _ (at-change .change .ensures) (at-pre .pre .lists .matrix .multipliers)) (at-ray .ray .ensures)) (c .if1 .taken)
 
 returns-2 : tie.Need-returns-2
 returns-2 c =
     let at-ray = c .before .before .before in
     let at-change = at-ray .before .before .before .before in
     let at-pre = at-change .before .before .before .before .before .before .before .before .before .before .before in
-    some-fight _ _ _ _ _ _ _ (ray-front _ _ _ _ _ _ _ _ (at-pre .pre .0) (at-pre .pre .1) (at-pre .pre .4) (changed-front _ _ _ _ _ (at-change .change .ensures) (at-pre .pre .2)) (at-ray .ray .ensures)) (c .if1 .left)
+    some-fight _ _ _ _ _ _ _ (ray-front _ _ _ _ _ _ _ _ (at-pre .pre .lists) (at-pre .pre .listed) (changed-front _ _ _ _ _ (at-change .change .ensures) (at-pre .pre .lists .matrix .multipliers)) (at-ray .ray .ensures)) (c .if1 .left)
 
 pub ray-test-spec : {M : Type 1} → statement M
 ray-test-spec =

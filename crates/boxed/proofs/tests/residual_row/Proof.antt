@@ -17,13 +17,13 @@ returns c =
 row-requires : tie.Need-row-requires
 row-requires c κs =
     let at-args = c .before .before .before .before .before .before .before .before .before in
-    row-fits (at-args .args .w .now) (length (at-args .args .u-free .now)) (at-args .args .i) (at-args .pre .0 .1) (at-args .pre .3)
+    row-fits (at-args .args .w .now) (length (at-args .args .u-free .now)) (at-args .args .i) (at-args .pre .lists .matrix .square) (at-args .pre .row)
 
 at-requires-3 : tie.Need-at-requires-3
 at-requires-3 c κs =
     let at-row = c .before .before .before in
     let at-pre = at-row .before .before .before .before .before .before .before .before .before .before in
-    omega (arith, ap length (at-row .row .ensures) ∙ row-length _ _ _, at-pre .pre .3)
+    omega (arith, ap length (at-row .row .ensures) ∙ row-length _ _ _, at-pre .pre .row)
 
 returns-2 : tie.Need-returns-2
 unfolding private.residualRow box.residualAt
