@@ -37,7 +37,7 @@ abbrev to-start-2 : tie.After-slice-known11 → tie.After-start
 to-start-2 c = c .before .before .before .before .before .before .before .before .before .before .before .before .before .before .before .before .before .before .before .before .before .before .before
 
 same-length-4 : tie.Need-same-length-4
-same-length-4 c = c .before .before .answer .kept .1 .1 .1 .1 .1 .0 ∙ to-run c .run .kept .1 .1 .1 .1 .1 .1 .1 .0 ∙ to-start-2 c .start .kept .1 .1 .1 .0
+same-length-4 c = omega arith
 
 returns-2 : tie.Need-returns-2
 returns-2 c =
@@ -56,14 +56,14 @@ solve-rows-spec =
     start-requires
     (λ c. omega arith)
     (λ c κs. tt)
-    (λ c. c .before .before .before .before .before .before .start .kept .1 .1 .1 .1 .0)
-    (λ c. c .before .before .before .before .before .before .start .kept .1 .1 .1 .0)
+    (λ c. omega arith)
+    (λ c. omega arith)
     returns
     (λ c κs. omega arith)
     cast-answer
     answer-requires
-    (λ c. to-run c .run .kept .1 .1 .1 .1 .1 .1 .1 .1 .0 ∙ to-start-2 c .start .kept .1 .1 .1 .1 .0)
+    (λ c. omega arith)
     same-length-4
-    (λ c. to-run c .run .kept .1 .1 .1 .1 .1 .1 .1 .1 .1 .0)
-    (λ c. to-run c .run .kept .1 .1 .1 .1 .1 .1 .1 .1 .1 .1 .0)
+    (λ c. omega arith)
+    (λ c. omega arith)
     returns-2)

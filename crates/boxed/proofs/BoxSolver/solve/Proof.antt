@@ -31,19 +31,16 @@ solve-rows-requires c κs =
     lent (box.problem (a .w .now) (a .u-free .now) (a .lo .now) (a .hi .now) (a .scale .now)) (a .motion .now) (a .nu .now) (a .states .now) (a .rows .now) (a .workspace .now) (at-refusal .refusal .result) (at-refusal .refusal .ensures) (at-if1 .if1 .left)
 
 same-length-4 : tie.Need-same-length-4
-same-length-4 c = c .before .before .before .before .before .before .before .before .solve-rows .kept .1 .1 .1 .1 .1 .1 .1 .0
+same-length-4 c = omega arith
 
 same-length-5 : tie.Need-same-length-5
-same-length-5 c =
-    let at-solve-rows = c .before .before .before .before .before .before .before .before in
-    let a = c .before .before .before .before .before .before .before .before .before .before .before .before .before .before .before .before .before .before .before .before .before .before .before .before .before .before .before .before .args in
-    length-front (a .states .now) (at-solve-rows .solve-rows .last .1 .1 .1 .1 .1 .1 .1 .1 .0) (length (a .u-free .now)) (at-solve-rows .solve-rows .kept .1 .1 .1 .1 .1 .1 .1 .1 .0)
+same-length-5 c = omega arith
 
 same-length-6 : tie.Need-same-length-6
-same-length-6 c = c .before .before .before .before .before .before .before .before .solve-rows .kept .1 .1 .1 .1 .1 .1 .1 .1 .1 .0
+same-length-6 c = omega arith
 
 same-length-7 : tie.Need-same-length-7
-same-length-7 c = c .before .before .before .before .before .before .before .before .solve-rows .kept .1 .1 .1 .1 .1 .1 .1 .1 .1 .1 .0
+same-length-7 c = omega arith
 
 returns-2 : tie.Need-returns-2
 returns-2 c =

@@ -7,10 +7,7 @@ use Rattle.boxed.proofs.checkpoints.attempt.Statement.{statement}
 use Rattle.boxed.proofs.checkpoints.attempt.Tie as tie
 
 copy-requires : tie.Need-copy-requires
-copy-requires c κs =
-    let at-args = c .before .before .before .before .before .before .before .before .before .before .before in
-    let at-pre = at-args in
-    mid-length 1120 (length (at-args .args .u-free .now)) (at-args .args .work .now) (omega (arith, at-pre .pre)) ∙ sym (at-pre .pre .lists .matrix .multipliers)
+copy-requires c κs = omega arith
 
 settle-requires : tie.Need-settle-requires
 settle-requires c κs =
@@ -28,7 +25,7 @@ abbrev to-exact-pass : tie.After-slice-known10 → tie.After-exact-pass
 to-exact-pass c = c .before .before .before .before .before .before .before .before .before .before .before .before .before .before
 
 same-length-2 : tie.Need-same-length-2
-same-length-2 c = c .before .before .settle .kept .1 .1 .0 ∙ to-exact-pass c .exact-pass .kept .1 .1 .1 .1 .1 .1 .0
+same-length-2 c = omega arith
 
 returns : tie.Need-returns
 returns c =
@@ -54,8 +51,8 @@ attempt-spec =
     (λ c. omega arith)
     (λ c. omega arith)
     settle-requires
-    (λ c. to-exact-pass c .exact-pass .kept .1 .1 .1 .1 .1 .0)
+    (λ c. omega arith)
     same-length-2
-    (λ c. to-exact-pass c .exact-pass .kept .1 .1 .1 .1 .1 .1 .1 .0)
+    (λ c. omega arith)
     (λ c. search needs)
     returns)

@@ -30,9 +30,9 @@ check-spec =
     (λ c κs. tt)
     (λ c κs. omega arith)
     (λ c. omega arith)
-    (λ c. to-attempt c .attempt .kept .1 .1 .1 .1 .1 .0)
-    (λ c. to-attempt c .attempt .kept .1 .1 .1 .1 .1 .1 .0)
-    (λ c. to-attempt c .attempt .kept .1 .1 .1 .1 .1 .1 .1 .0)
-    (λ c. to-attempt c .attempt .kept .1 .1 .1 .1 .1 .1 .1 .1 .0)
+    (λ c. omega arith)
+    (λ c. omega arith)
+    (λ c. omega arith)
+    (λ c. omega arith)
     returns
     returns-2)

@@ -5,7 +5,7 @@ use Rattle.boxed.proofs.checkpoints.settle.Statement.{statement}
 use Rattle.boxed.proofs.checkpoints.settle.Tie as tie
 
 enum-told : tie.Need-enum-told
-enum-told c = search needs
+enum-told c = omega arith
 
 returns : tie.Need-returns
 returns c =
@@ -42,10 +42,10 @@ settle-spec =
     (λ c κs. omega arith)
     (λ c. search needs)
     (λ c κs. omega arith)
-    (λ c. c .before .before .copy .kept .1 .0)
+    (λ c. omega arith)
     returns
     returns-2
-    (λ c. c .before .before .copy2 .kept .1 .0)
+    (λ c. omega arith)
     returns-3
-    (λ c. c .before .before .copy3 .kept .1 .0)
+    (λ c. omega arith)
     returns-4)

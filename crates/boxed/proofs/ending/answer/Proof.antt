@@ -6,7 +6,7 @@ use Rattle.boxed.proofs.ending.answer.Statement.{statement}
 use Rattle.boxed.proofs.ending.answer.Tie as tie
 
 enum-told : tie.Need-enum-told
-enum-told c = search needs
+enum-told c = omega arith
 
 returns : tie.Need-returns
 returns c =
@@ -53,9 +53,9 @@ answer-spec =
     (λ c κs. tt)
     (λ c. refl)
     returns
-    (λ c. c .before .before .before .classify .kept .1 .1 .1 .1 .0)
+    (λ c. omega arith)
     returns-2
-    (λ c. c .before .before .before .classify2 .kept .1 .1 .1 .1 .0)
+    (λ c. omega arith)
     returns-3
     (λ c. refl)
     returns-4)

@@ -39,5 +39,5 @@ classify-row-spec =
     (λ c κs. omega arith)
     (λ c κs. tt)
     (λ c κs. omega arith)
-    (λ c. c .before .before .put-state .kept .0)
+    (λ c. omega arith)
     returns-2)

@@ -26,6 +26,6 @@ grown-row-spec =
     (λ c κs. tt)
     (λ c κs. omega arith)
     (λ c. omega arith)
-    (λ c. c .before .before .put-number .kept .0)
+    (λ c. omega arith)
     returns
     returns-2)

@@ -27,28 +27,16 @@ turn-requires : tie.Need-turn-requires Inv-loop μ-loop
 turn-requires c κs = omega arith
 
 same-length : tie.Need-same-length Inv-loop μ-loop
-same-length c =
-    let at-turn = c .before .before .before .before .before .before .before .before .before .before in
-    let at-loop = at-turn .before .before .before .before .before .before .before .before in
-    at-turn .turn .kept .1 .1 .1 .1 .1 .1 .1 .0 ∙ at-loop .loop .inv .2 .of-states
+same-length c = omega arith
 
 same-length-2 : tie.Need-same-length-2 Inv-loop μ-loop
-same-length-2 c =
-    let at-turn = c .before .before .before .before .before .before .before .before .before .before in
-    let at-loop = at-turn .before .before .before .before .before .before .before .before in
-    at-turn .turn .kept .1 .1 .1 .1 .1 .1 .1 .1 .0 ∙ at-loop .loop .inv .2 .of-nu
+same-length-2 c = omega arith
 
 same-length-3 : tie.Need-same-length-3 Inv-loop μ-loop
-same-length-3 c =
-    let at-turn = c .before .before .before .before .before .before .before .before .before .before in
-    let at-loop = at-turn .before .before .before .before .before .before .before .before in
-    at-turn .turn .kept .1 .1 .1 .1 .1 .1 .1 .1 .1 .0 ∙ at-loop .loop .inv .2 .of-rows
+same-length-3 c = omega arith
 
 same-length-4 : tie.Need-same-length-4 Inv-loop μ-loop
-same-length-4 c =
-    let at-turn = c .before .before .before .before .before .before .before .before .before .before in
-    let at-loop = at-turn .before .before .before .before .before .before .before .before in
-    at-turn .turn .kept .1 .1 .1 .1 .1 .1 .1 .1 .1 .1 .0 ∙ at-loop .loop .inv .2 .of-work
+same-length-4 c = omega arith
 
 returns : tie.Need-returns Inv-loop μ-loop
 returns c =

@@ -24,7 +24,7 @@ sweep-requires c κs =
     record { matrix = at-pre .pre .lent .lists .matrix; before = length-take-le _ _ (omega arith) }
 
 same-length-2 : tie.Need-same-length-2
-same-length-2 c = c .before .before .before .before .before .before .before .before .before .before .sweep .kept .1 .1 .1 .1 .1 .0
+same-length-2 c = omega arith
 
 returns : tie.Need-returns
 returns c =
@@ -55,10 +55,10 @@ abbrev to-check : tie.Then2 → tie.After-check
 to-check c = c .before .before .before .before .before .before .before .before .before .before .before
 
 same-length-5 : tie.Need-same-length-5
-same-length-5 c = to-check c .check .kept .1 .1 .1 .1 .1 .1 .1 .0 ∙ c .before .before .before .before .before .before .before .before .before .before .before .before .before .before .before .before .before .before .before .before .before .before .before .before .before .before .sweep .kept .1 .1 .1 .1 .1 .0
+same-length-5 c = omega arith
 
 same-length-6 : tie.Need-same-length-6
-same-length-6 c = to-check c .check .kept .1 .1 .1 .1 .1 .1 .1 .1 .0 ∙ c .before .before .before .before .before .before .before .before .before .before .before .before .before .before .before .before .before .before .before .grown .kept .1 .1 .0
+same-length-6 c = omega arith
 
 returns-2 : tie.Need-returns-2
 returns-2 c =
@@ -121,7 +121,7 @@ same-length-9 c =
     at-check .check .kept .1 .1 .1 .1 .1 .1 .1 .0 ∙ at-sweep .sweep .kept .1 .1 .1 .1 .1 .0
 
 same-length-10 : tie.Need-same-length-10
-same-length-10 c = c .before .before .tests .kept .1 .1 .1 .1 .1 .1 .1 .1 .1 .1 .0 ∙ to-check-2 c .check .kept .1 .1 .1 .1 .1 .1 .1 .1 .0 ∙ c .before .before .before .before .before .before .before .before .before .before .before .before .before .before .before .before .before .before .before .before .before .before .before .before .before .before .grown .kept .1 .1 .0
+same-length-10 c = omega arith
 
 returns-3 : tie.Need-returns-3
 returns-3 c =
@@ -162,20 +162,20 @@ turn-spec =
     (λ c κs. omega arith)
     (λ c. refl)
     same-length-2
-    (λ c. c .before .before .before .grown .kept .1 .1 .0)
+    (λ c. omega arith)
     returns
     check-requires
     (λ c κs. tt)
-    (λ c. to-check c .check .kept .1 .1 .1 .1 .1 .1 .0)
+    (λ c. omega arith)
     same-length-5
     same-length-6
-    (λ c. to-check c .check .kept .1 .1 .1 .1 .1 .1 .1 .1 .1 .0)
+    (λ c. omega arith)
     returns-2
     array-share-prefix-before
     slice-aggregate-tests
     tests-requires
-    (λ c. to-check-2 c .check .kept .1 .1 .1 .1 .1 .1 .0)
+    (λ c. omega arith)
     same-length-9
     same-length-10
-    (λ c. to-check-2 c .check .kept .1 .1 .1 .1 .1 .1 .1 .1 .1 .0)
+    (λ c. omega arith)
     returns-3)

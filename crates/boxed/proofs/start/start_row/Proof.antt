@@ -17,7 +17,7 @@ returns c =
     record { start = rw (sym (at-is-idle .is-idle .ensures) ∙ at-if1 .if1 .taken, add-one, at-put .put .ensures, at-put-state .put-state .ensures, at-clamp .clamp .ensures .0); within = search needs }
 
 same-length-3 : tie.Need-same-length-3
-same-length-3 c = c .before .before .before .before .before .before .before .before .before .put-state2 .kept .0
+same-length-3 c = omega arith
 
 returns-2 : tie.Need-returns-2
 unfolding private.startRow
@@ -39,13 +39,13 @@ start-row-spec =
     (λ c κs. tt)
     (λ c κs. omega arith)
     (λ c. omega arith)
-    (λ c. c .before .before .before .before .before .before .before .put-state .kept .0)
-    (λ c. c .before .before .put .kept .0)
+    (λ c. omega arith)
+    (λ c. omega arith)
     returns
     (λ c κs. omega arith)
     (λ c κs. omega arith)
     (λ c κs. tt)
     (λ c κs. omega arith)
     same-length-3
-    (λ c. c .before .before .put2 .kept .0)
+    (λ c. omega arith)
     returns-2)

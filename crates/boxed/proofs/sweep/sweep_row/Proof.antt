@@ -73,5 +73,5 @@ sweep-row-spec =
     (λ c κs. tt)
     (λ c κs. omega arith)
     count-requires
-    (λ c. c .before .before .before .put .kept .0)
+    (λ c. omega arith)
     returns-2)

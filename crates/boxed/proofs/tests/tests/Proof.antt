@@ -32,6 +32,6 @@ tests-spec =
     (λ c κs. omega arith)
     returns
     (λ c κs. omega arith)
-    (λ c. c .before .before .ray-test .kept .1 .1 .1 .1 .1 .1 .1 .1 .0)
+    (λ c. omega arith)
     returns-2
     returns-3)
