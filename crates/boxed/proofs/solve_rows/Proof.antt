@@ -1,6 +1,5 @@
-use borrow.Author.Needs.{needs}
 use Rattle.boxed.proofs.Solving.{all-idle, some-act}
-use mathlib.Core.Path.{refl, sym, _∙_}
+use mathlib.Core.Path.{sym, _∙_}
 use native.Mathlib.Omega.{arith}
 use Rattle.boxed.proofs.solve_rows.Statement.{statement}
 use Rattle.boxed.proofs.solve_rows.Tie as tie
@@ -36,9 +35,6 @@ to-run c = c .before .before .before .before .before .before .before .before .be
 abbrev to-start-2 : tie.After-slice-known11 → tie.After-start
 to-start-2 c = c .before .before .before .before .before .before .before .before .before .before .before .before .before .before .before .before .before .before .before .before .before .before .before
 
-same-length-4 : tie.Need-same-length-4
-same-length-4 c = omega arith
-
 returns-2 : tie.Need-returns-2
 returns-2 c =
     let at-answer = c .before .before in
@@ -63,7 +59,7 @@ solve-rows-spec =
     cast-answer
     answer-requires
     (λ c. omega arith)
-    same-length-4
+    (λ c. omega arith)
     (λ c. omega arith)
     (λ c. omega arith)
     returns-2)

@@ -1,8 +1,7 @@
 use Rattle.box_rows.specs.Rows as box
-use lib.ListN.{length}
 use Rattle.boxed.proofs.Accepting.{enough-states, lent}
 use Rattle.boxed.proofs.Solving.{is-refused, is-solved}
-use lib.Seq.{length-take-le, length-front}
+use lib.Seq.{length-take-le}
 use mathlib.Core.Path.{sym}
 use native.Mathlib.Omega.{arith}
 use borrow.Author.Needs.{needs}
@@ -30,25 +29,6 @@ solve-rows-requires c κs =
     let a = at-refusal .before .before .before .before .before .before .before .before .before .before .before .before .before .before .args in
     lent (box.problem (a .w .now) (a .u-free .now) (a .lo .now) (a .hi .now) (a .scale .now)) (a .motion .now) (a .nu .now) (a .states .now) (a .rows .now) (a .workspace .now) (at-refusal .refusal .result) (at-refusal .refusal .ensures) (at-if1 .if1 .left)
 
-same-length-4 : tie.Need-same-length-4
-same-length-4 c = omega arith
-
-same-length-5 : tie.Need-same-length-5
-same-length-5 c = omega arith
-
-same-length-6 : tie.Need-same-length-6
-same-length-6 c = omega arith
-
-same-length-7 : tie.Need-same-length-7
-same-length-7 c = omega arith
-
-returns-2 : tie.Need-returns-2
-returns-2 c =
-    let at-solve-rows = c .before .before .before .before .before .before .before .before in
-    let at-if1 = at-solve-rows .before .before .before .before .before in
-    let at-refusal = at-if1 .before in
-    is-solved _ _ _ _ _ _ _ (at-refusal .refusal .ensures) (at-if1 .if1 .left) _ _ _ _ _ _ (at-solve-rows .solve-rows .ensures)
-
 pub solve-spec : {M : Type 1} → statement M
 solve-spec =
     tie.close
@@ -57,12 +37,12 @@ solve-spec =
     (λ c. search needs)
     (λ c. search needs)
     (λ c. search needs)
-    (λ c. is-refused _ _ _ _ _ _ _ (c .before .refusal .ensures) (c .if1 .taken) _)
+    (λ c. search (is-refused, needs))
     slice-relend-prefix-solve-rows
     slice-aggregate-solve-rows
     solve-rows-requires
-    same-length-4
-    same-length-5
-    same-length-6
-    same-length-7
-    returns-2)
+    (λ c. omega arith)
+    (λ c. omega arith)
+    (λ c. omega arith)
+    (λ c. omega arith)
+    (λ c. search (is-solved, needs)))

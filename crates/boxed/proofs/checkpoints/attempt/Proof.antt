@@ -6,9 +6,6 @@ use borrow.Author.Needs.{needs}
 use Rattle.boxed.proofs.checkpoints.attempt.Statement.{statement}
 use Rattle.boxed.proofs.checkpoints.attempt.Tie as tie
 
-copy-requires : tie.Need-copy-requires
-copy-requires c κs = omega arith
-
 settle-requires : tie.Need-settle-requires
 settle-requires c κs =
     let at-exact-pass = c .before .before .before .before .before .before .before .before .before .before .before in
@@ -24,19 +21,6 @@ settle-requires c κs =
 abbrev to-exact-pass : tie.After-slice-known10 → tie.After-exact-pass
 to-exact-pass c = c .before .before .before .before .before .before .before .before .before .before .before .before .before .before
 
-same-length-2 : tie.Need-same-length-2
-same-length-2 c = omega arith
-
-returns : tie.Need-returns
-returns c =
-    let at-settle = c .before .before in
-    let at-exact-pass = at-settle .before .before .before .before .before .before .before .before .before .before .before .before in
-    let at-copy = at-exact-pass .before .before .before .before .before .before .before in
-    let at-args = at-copy .before .before .before .before .before .before .before .before .before .before .before .before in
-    let at-pre = at-args in
-    attempted _ _ _ _ (at-args .args .work .now) (at-pre .pre) _ _ _ _ _ (at-copy .copy .last .1 .0) _ _
-    (at-copy .copy .ensures) (at-exact-pass .exact-pass .ensures) (at-settle .settle .ensures)
-
 pub attempt-spec : {M : Type 1} → statement M
 attempt-spec =
     tie.close
@@ -45,14 +29,14 @@ attempt-spec =
     (λ c. omega arith)
     (λ c. omega arith)
     (λ c. omega arith)
-    copy-requires
+    (λ c κs. omega arith)
     (λ c κs. tt)
     (λ c. omega arith)
     (λ c. omega arith)
     (λ c. omega arith)
     settle-requires
     (λ c. omega arith)
-    same-length-2
+    (λ c. omega arith)
     (λ c. omega arith)
     (λ c. search needs)
-    returns)
+    (λ c. search (attempted, needs)))

@@ -16,14 +16,8 @@ Inv-loop cap k i₀ i = (i ≤ 8) × (def.member k (drop i private.table ++ (cap
 abbrev μ-loop : tie.MeasureT-loop
 μ-loop cap k i₀ i = 8 - i
 
-returns : tie.Need-returns Inv-loop μ-loop
-returns c = member-hit _ private.table _ _ (c .before .before .loop .i) (c .before .loop-test .taken) (c .if1 .taken) (c .before .before .loop .inv .1)
-
 loop-again : tie.Need-loop-again Inv-loop μ-loop
 loop-again c = (search needs, member-skip _ private.table _ _ (c .before .before .loop .i) (c .before .loop-test .taken) (c .if1 .left) (c .before .before .loop .inv .1))
-
-returns-2 : tie.Need-returns-2 Inv-loop μ-loop
-returns-2 c = member-end _ _ private.table _ (c .before .loop .i) (c .loop-test .left) (c .before .loop .inv .1)
 
 pub checkpoint-spec : {M : Type 1} → statement M
 checkpoint-spec =
@@ -34,8 +28,8 @@ checkpoint-spec =
     (λ c. (search needs, refl))
     (λ c. omega arith)
     (λ c. omega arith)
-    returns
+    (λ c. search (member-hit, needs))
     (λ c. omega arith)
     (λ c. omega arith)
     loop-again
-    returns-2)
+    (λ c. search (member-end, needs)))

@@ -23,11 +23,6 @@ loop-again c =
     let at-loop = at-at .before .before in
     (search needs, search needs, search needs, gather-again _ _ _ _ _ _ _ (at-loop .loop .inv .3) (rw (← at-at .at .ensures, ← at-at2 .at2 .ensures) (at-grown-row .grown-row .ensures .count)) (rw (← at-at .at .ensures, ← at-at2 .at2 .ensures) (at-grown-row .grown-row .ensures .listed)))
 
-returns : tie.Need-returns Inv-loop μ-loop
-returns c =
-    let at-loop = c .before in
-    gather-done _ _ (at-loop .loop .i) _ _ _ (omega arith) (omega arith) (at-loop .loop .inv .3)
-
 pub grown-spec : {M : Type 1} → statement M
 grown-spec =
     tie.close
@@ -42,4 +37,4 @@ grown-spec =
     (λ c. omega arith)
     loop-again
     (λ c. c .before .loop .inv .2)
-    returns)
+    (λ c. search (gather-done, needs)))

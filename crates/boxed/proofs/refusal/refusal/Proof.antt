@@ -1,3 +1,4 @@
+use borrow.Author.Needs.{needs}
 use Prim.Native.Nat.{ℕ}
 use mathlib.Core.Bool.{Bool, true, false, not, _&&_, _||_}
 use mathlib.Core.Path.{_≡_, refl, sym, _∙_}
@@ -47,11 +48,6 @@ equal-third : (a b c d n : ℕ) (q : Bool) → q ≡ not (eqb a n && eqb b n && 
 equal-third a b c d n q e h =
     let all = not-false (eqb a n && eqb b n && eqb c n && eqb d n) (sym e ∙ h) in
     eqb-true c n (both-true (eqb a n && eqb b n) (eqb c n) (both-true (eqb a n && eqb b n && eqb c n) (eqb d n) all .0) .1)
-
-good-scales-requires : tie.Need-good-scales-requires
-good-scales-requires c κs =
-    let at-unequal = c .before in
-    equal-third _ _ _ _ _ _ (at-unequal .unequal .ensures) (c .if3 .left)
 
 returns-4 : tie.Need-returns-4
 unfolding def.refusal private.goodScale
@@ -121,7 +117,7 @@ refusal-spec =
     returns-2
     (λ c κs. tt)
     returns-3
-    good-scales-requires
+    (λ c κs. search (equal-third, needs))
     returns-4
     (λ c κs. tt)
     returns-5

@@ -23,21 +23,6 @@ abbrev μ-loop : tie.MeasureT-loop
 loop-holds : tie.Need-loop-holds Inv-loop μ-loop
 loop-holds c = (omega arith, omega arith, record { of-states = refl; of-nu = refl; of-rows = refl; of-work = refl }, run-start _ _ _ _, refl, refl)
 
-turn-requires : tie.Need-turn-requires Inv-loop μ-loop
-turn-requires c κs = omega arith
-
-same-length : tie.Need-same-length Inv-loop μ-loop
-same-length c = omega arith
-
-same-length-2 : tie.Need-same-length-2 Inv-loop μ-loop
-same-length-2 c = omega arith
-
-same-length-3 : tie.Need-same-length-3 Inv-loop μ-loop
-same-length-3 c = omega arith
-
-same-length-4 : tie.Need-same-length-4 Inv-loop μ-loop
-same-length-4 c = omega arith
-
 returns : tie.Need-returns Inv-loop μ-loop
 returns c =
     let at-if2 = c in
@@ -92,12 +77,12 @@ run-spec =
     Inv-loop
     μ-loop
     loop-holds
-    turn-requires
+    (λ c κs. omega arith)
     (λ c κs. tt)
-    same-length
-    same-length-2
-    same-length-3
-    same-length-4
+    (λ c. omega arith)
+    (λ c. omega arith)
+    (λ c. omega arith)
+    (λ c. omega arith)
     returns
     loop-less
     loop-again

@@ -13,18 +13,10 @@ use native.Mathlib.Omega.{arith}
 use Rattle.boxed.proofs.run.turn.Statement.{statement}
 use Rattle.boxed.proofs.run.turn.Tie as tie
 
-slice-aggregate-sweep : tie.Need-slice-aggregate-sweep
-slice-aggregate-sweep c =
-    let at-pre = c .before .before .before .before .before .before .before .before .before .before .before .before .before in
-    sym (length-take-le _ _ (omega arith))
-
 sweep-requires : tie.Need-sweep-requires
 sweep-requires c κs =
     let at-pre = c .before .before .before .before .before .before .before .before .before .before .before .before .before in
     record { matrix = at-pre .pre .lent .lists .matrix; before = length-take-le _ _ (omega arith) }
-
-same-length-2 : tie.Need-same-length-2
-same-length-2 c = omega arith
 
 returns : tie.Need-returns
 returns c =
@@ -53,12 +45,6 @@ check-requires c κs = omega (arith, c .before .before .before .before .before .
 
 abbrev to-check : tie.Then2 → tie.After-check
 to-check c = c .before .before .before .before .before .before .before .before .before .before .before
-
-same-length-5 : tie.Need-same-length-5
-same-length-5 c = omega arith
-
-same-length-6 : tie.Need-same-length-6
-same-length-6 c = omega arith
 
 returns-2 : tie.Need-returns-2
 returns-2 c =
@@ -120,9 +106,6 @@ same-length-9 c =
     let at-sweep = at-check .before .before .before .before .before .before .before .before .before .before .before .before .before .before .before in
     at-check .check .kept .1 .1 .1 .1 .1 .1 .1 .0 ∙ at-sweep .sweep .kept .1 .1 .1 .1 .1 .0
 
-same-length-10 : tie.Need-same-length-10
-same-length-10 c = omega arith
-
 returns-3 : tie.Need-returns-3
 returns-3 c =
     let at-tests = c .before .before in
@@ -156,19 +139,19 @@ turn-spec =
     tie.close
     (tie.spec
     (λ c. omega arith)
-    slice-aggregate-sweep
+    (λ c. search (length-take-le, needs))
     sweep-requires
     (λ c. omega arith)
     (λ c κs. omega arith)
     (λ c. refl)
-    same-length-2
+    (λ c. omega arith)
     (λ c. omega arith)
     returns
     check-requires
     (λ c κs. tt)
     (λ c. omega arith)
-    same-length-5
-    same-length-6
+    (λ c. omega arith)
+    (λ c. omega arith)
     (λ c. omega arith)
     returns-2
     array-share-prefix-before
@@ -176,6 +159,6 @@ turn-spec =
     tests-requires
     (λ c. omega arith)
     same-length-9
-    same-length-10
+    (λ c. omega arith)
     (λ c. omega arith)
     returns-3)

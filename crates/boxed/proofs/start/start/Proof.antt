@@ -20,12 +20,6 @@ loop-holds : tie.Need-loop-holds Inv-loop μ-loop
 unfolding def.start private.startRow
 loop-holds c = (search needs, search needs, search needs, search needs, search needs, turns-from _ _)
 
-row-requires : tie.Need-row-requires Inv-loop μ-loop
-row-requires c κs =
-    let at-loop = c .before in
-    let at-args = at-loop .before .before .before .before .before .before in
-    row-fits (at-args .args .w .now) (length (at-args .args .lo .now)) (at-loop .loop .i) (at-args .pre .square) (omega arith)
-
 loop-again : tie.Need-loop-again Inv-loop μ-loop
 unfolding def.start private.startRow
 loop-again c =
@@ -48,7 +42,7 @@ start-spec =
     Inv-loop
     μ-loop
     loop-holds
-    row-requires
+    (λ c κs. search (row-fits, needs))
     (λ c κs. omega (arith, ap length (c .row .ensures) ∙ row-length _ _ _))
     (λ c κs. omega arith)
     (λ c κs. omega arith)

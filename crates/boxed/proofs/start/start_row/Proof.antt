@@ -16,9 +16,6 @@ returns c =
     let at-is-idle = at-if1 .before in
     record { start = rw (sym (at-is-idle .is-idle .ensures) ∙ at-if1 .if1 .taken, add-one, at-put .put .ensures, at-put-state .put-state .ensures, at-clamp .clamp .ensures .0); within = search needs }
 
-same-length-3 : tie.Need-same-length-3
-same-length-3 c = omega arith
-
 returns-2 : tie.Need-returns-2
 unfolding private.startRow
 returns-2 c =
@@ -46,6 +43,6 @@ start-row-spec =
     (λ c κs. omega arith)
     (λ c κs. tt)
     (λ c κs. omega arith)
-    same-length-3
+    (λ c. omega arith)
     (λ c. omega arith)
     returns-2)

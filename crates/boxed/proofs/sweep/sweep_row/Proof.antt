@@ -18,11 +18,6 @@ returns c =
     let idle = eq-eqb _ _ (sym (at-state .state .ensures) ∙ c .if1 .taken) in
     record { multipliers = rw idle; stopped = rw idle; within = search needs }
 
-row-requires : tie.Need-row-requires
-row-requires c κs =
-    let at-args = c .before .before .before .before .before .before .before .before in
-    row-fits (at-args .args .w .now) (length (at-args .args .u-free .now)) (at-args .args .i) (at-args .pre .lists .square) (at-args .pre .row)
-
 at-requires-3 : tie.Need-at-requires-3
 at-requires-3 c κs =
     let at-row = c .before .before .before .before .before in
@@ -63,7 +58,7 @@ sweep-row-spec =
     (tie.spec
     (λ c κs. omega arith)
     returns
-    row-requires
+    (λ c κs. search (row-fits, needs))
     (λ c κs. omega arith)
     (λ c κs. tt)
     (λ c κs. omega arith)

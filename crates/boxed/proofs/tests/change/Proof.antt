@@ -29,10 +29,7 @@ loop-again c =
 
 returns : tie.Need-returns Inv-loop μ-loop
 unfolding def.change
-returns c =
-    let at-loop = c .before in
-    let at-args = at-loop .before .before .before .before in
-    tab-filled _ (at-loop .loop .i) _ (at-args .args .y .now) (at-loop .loop .y) (at-loop .loop .inv .3) (omega arith) (omega arith) (omega arith) (omega arith)
+returns c = search (tab-filled, needs)
 
 pub change-spec : {M : Type 1} → statement M
 change-spec =

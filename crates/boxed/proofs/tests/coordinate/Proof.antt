@@ -28,7 +28,7 @@ loop-again c =
 
 returns : tie.Need-returns Inv-loop μ-loop
 unfolding private.coordinate
-returns c = turns-done _ _ _ _ _ (omega arith) (omega arith) (c .before .loop .inv .2)
+returns c = search (turns-done, needs)
 
 pub coordinate-spec : {M : Type 1} → statement M
 coordinate-spec =

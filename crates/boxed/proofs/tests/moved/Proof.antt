@@ -22,12 +22,6 @@ loop-holds : tie.Need-loop-holds Inv-loop μ-loop
 unfolding def.moved private.coordinate
 loop-holds c = (search needs, search needs, search needs, turns-from _ _)
 
-row-requires : tie.Need-row-requires Inv-loop μ-loop
-row-requires c κs =
-    let at-loop = c .before in
-    let at-args = at-loop .before .before .before .before in
-    rows-fit (length (at-args .args .motion .now)) (length (at-args .args .nu .now)) (at-loop .loop .c) (c .loop-test .taken)
-
 coordinate-requires : tie.Need-coordinate-requires Inv-loop μ-loop
 coordinate-requires c κs =
     let at-pre = c .before .before .before .before .before .before in
@@ -50,9 +44,7 @@ loop-again c =
 
 returns : tie.Need-returns Inv-loop μ-loop
 unfolding def.moved private.coordinate
-returns c =
-    let at-loop = c .before in
-    turns-done _ _ _ _ _ (at-loop .loop .inv .0) (c .loop-test .left) (at-loop .loop .inv .3)
+returns c = search (turns-done, needs)
 
 pub moved-spec : {M : Type 1} → statement M
 moved-spec =
@@ -62,7 +54,7 @@ moved-spec =
     μ-loop
     (λ c. search needs)
     loop-holds
-    row-requires
+    (λ c κs. search (rows-fit, needs))
     coordinate-requires
     (λ c κs. tt)
     (λ c κs. tt)

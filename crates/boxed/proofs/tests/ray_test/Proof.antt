@@ -6,18 +6,9 @@ use Rattle.boxed.proofs.Testing.{none-fight, some-fight, changed-le, ch
 use Rattle.boxed.proofs.tests.ray_test.Statement.{statement}
 use Rattle.boxed.proofs.tests.ray_test.Tie as tie
 
-slice-aggregate-change : tie.Need-slice-aggregate-change
-slice-aggregate-change c = sym (length-take-le _ _ (omega arith))
-
 change-requires : tie.Need-change-requires
 change-requires c κs =
     record { first = omega arith; second = length-take-le _ _ (omega arith) ∙ sym (c .before .before .before .before .before .before .before .before .before .before .pre .lists .matrix .multipliers) }
-
-array-share-prefix-y : tie.Need-array-share-prefix-y
-array-share-prefix-y c =
-    let at-change = c .before in
-    let at-pre = at-change .before .before .before .before .before .before .before .before .before .before .before in
-    changed-le _ _ _ _ _ (at-change .change .ensures) (at-pre .pre .lists .matrix .multipliers)
 
 slice-aggregate-ray : tie.Need-slice-aggregate-ray
 slice-aggregate-ray c =
@@ -44,9 +35,9 @@ ray-test-spec =
     tie.close
     (tie.spec
     (λ c. omega arith)
-    slice-aggregate-change
+    (λ c. search (length-take-le, needs))
     change-requires
-    array-share-prefix-y
+    (λ c. search (changed-le, needs))
     slice-aggregate-ray
     (λ c κs. search needs)
     (λ c. c .before .before .before .ray .kept .1 .1 .1 .1 .1 .1 .1 .0)

@@ -28,7 +28,7 @@ loop-again c =
 
 returns : tie.Need-returns Inv-loop μ-loop
 unfolding def.residual private.residualRow
-returns c = turns-done _ _ _ _ _ (omega arith) (omega arith) (c .before .loop .inv .2)
+returns c = search (turns-done, needs)
 
 pub residual-spec : {M : Type 1} → statement M
 residual-spec =

@@ -1,3 +1,4 @@
+use borrow.Author.Needs.{needs}
 use mathlib.Core.Path.{_≡_, sym, ap, _∙_}
 use native.Mathlib.Omega.{arith}
 use lib.ListN.{length}
@@ -13,11 +14,6 @@ unfolding private.residualRow
 returns c =
     let at-state = c .before in
     rw (eq-eqb _ _ (sym (at-state .state .ensures) ∙ c .if1 .taken))
-
-row-requires : tie.Need-row-requires
-row-requires c κs =
-    let at-args = c .before .before .before .before .before .before .before .before .before in
-    row-fits (at-args .args .w .now) (length (at-args .args .u-free .now)) (at-args .args .i) (at-args .pre .lists .matrix .square) (at-args .pre .row)
 
 at-requires-3 : tie.Need-at-requires-3
 at-requires-3 c κs =
@@ -48,7 +44,7 @@ residual-row-spec =
     (tie.spec
     (λ c κs. omega arith)
     returns
-    row-requires
+    (λ c κs. search (row-fits, needs))
     (λ c κs. omega arith)
     (λ c κs. tt)
     (λ c κs. omega arith)
