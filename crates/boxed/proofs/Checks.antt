@@ -76,8 +76,8 @@ settled e v nu g nu′ a n st₀ c (infeasible r t) l₀ st l h = record { answe
 pub front-within : (t y : List Float) (n : ℕ) → length t ≡ n → n ≤ length (t ++ y)
 front-within t y n e = omega (arith, length-append t y)
 
-pub front-length : (t y : List Float) (n : ℕ) → length t ≡ n → n ≡ length (take n (t ++ y))
-front-length t y n e = rw (take-at t y n e) (sym e)
+pub front-length : (t y : List Float) (n : ℕ) → length t ≡ n → length (take n (t ++ y)) ≡ n
+front-length t y n e = rw (take-at t y n e) e
 
 -- ---- a pass whose lists fit
 

@@ -1,12 +1,13 @@
 -- One sweep with its tests, from what its calls promise: one law for each return. Then the sweeps as their loop makes them.
 use Prim.Native.Nat.{ℕ, suc, _+_, _≤_, _<_}
 use mathlib.Core.Path.{_≡_, refl, sym, ap, _∙_}
-use mathlib.Core.Bool.{true, false, true≢false}
+use mathlib.Core.Bool.{Bool, true, false, not, true≢false}
 use mathlib.Core.List.{List, _++_}
 use native.Mathlib.Omega.{arith}
 use native.Mathlib.Numerals.{add-one}
 use lib.ListN.{length, take}
 use lib.Seq.{take-at}
+use borrow.Author.Tests.{not-true, not-false}
 use lib.Ieee.{Float}
 use Rattle.loops.specs.Loops.{turns}
 use Rattle.loops.specs.Gathering.{Gathering}
@@ -16,11 +17,12 @@ use Rattle.boxed.specs.Sweep as sweeps
 use Rattle.boxed.specs.Private as private
 use Rattle.boxed.specs.Solve as def
 use Rattle.boxed.specs.Solve.{Run, going, ended, exact, converged, conflict, Iterate, iterate, Watch}
-use Rattle.boxed.specs.Private.{Ran, isGoing}
+use Rattle.boxed.specs.Private.{beyond, isGoing, Swept, Ran, Worked, Counted}
 use Rattle.boxed.proofs.Testing.{none-fight, some-fight}
 use Rattle.exact_pass.specs.Promise.{Front}
 use Rattle.boxed.specs.declared.Cause.the-variants as cause
 use Rattle.boxed.specs.declared.Counts.{Counts}
+use Rattle.boxed.specs.declared.Progress.{Progress}
 use Rattle.boxed.specs.declared.Sweeping.{Sweeping}
 use Rattle.boxed.specs.declared.Sweeping.the-variants as sweeping
 
@@ -48,81 +50,134 @@ module _ (l₀ : List ℕ) (g : Sweeping) (nu : List Float) (st : List ℕ) (c :
   ended-stays cap p m (going s) h f i = absurd (true≢false (rw (h .answer) at f))
   ended-stays cap p m (ended e s) h f i = refl
 
-pub one-more : (n : Counts) (s t : ℕ) → s ≡ t → def.counts (n .sweeps + 1) (n .passes) s ≡ def.counts (suc (n .sweeps)) (n .passes) t
-one-more n s t e = rw (add-one (n .sweeps), e)
+-- ---- one sweep: nu₁ are the multipliers after it, s rows are stopped, and k are grown
 
--- ---- one sweep: nu₁ are the multipliers after it, and k rows of them are grown
+module _ (cap : ℕ) (p : box.Problem) (m : Watch) (nu : List Float) (st : List ℕ) (n : Counts) (i : ℕ) (rows : List ℕ) (work nu₁ old : List Float) (s k : ℕ) (rows₁ : List ℕ)
+    (swept : Swept (p .w) (p .uFree) (p .lo) (p .hi) st nu nu₁ old s) (grew : Gathering (private.grownAt nu₁ (p .scale)) rows (length nu₁) k rows₁) where
+  abbrev c : Counts
+  c = def.counts (n .sweeps + 1) (n .passes) s
 
-module _ (cap : ℕ) (p : box.Problem) (m : Watch) (nu : List Float) (st : List ℕ) (n : Counts) (i : ℕ) (rows : List ℕ) (nu₁ : List Float) (c : Counts) (k : ℕ) (rows₁ : List ℕ)
-    (swept : nu₁ ≡ sweeps.sweep (p .w) (p .uFree) (p .lo) (p .hi) st nu (box.size p))
-    (counted : c ≡ def.counts (suc (n .sweeps)) (n .passes) (sweeps.stopped (p .w) (p .uFree) (p .lo) (p .hi) st nu (box.size p))) (long : length nu₁ ≡ box.size p)
-    (grew : Gathering (private.grownAt nu₁ (p .scale)) rows (length nu₁) k rows₁) where
+  abbrev told : Sweeping → Counts → Progress
+  told g c = record { sweeping = g; counts = c }
+
+  -- what this turn comes to
+  abbrev Turned : Progress → List Float → List ℕ → List ℕ → List Float → Type 0
+  Turned q nu′ st′ rows′ work′ = Counted (def.turn cap p m i (going (iterate nu st n))) rows work (n .sweeps + 1) (n .passes + 1) q nu′ st′ rows′ work′
+
+  abbrev fighting : List ℕ
+  fighting = sweeps.grown nu₁ (p .scale) (length nu₁)
+
   abbrev after : Run
-  after = def.unless cause.Growth (iterate nu₁ st c) (sweeps.grown nu₁ (p .scale) (length nu₁))
+  after = def.unless cause.Growth (iterate nu₁ st c) fighting
 
   turn-is : def.turn cap p m i (going (iterate nu st n)) ≡ def.tested p m nu (def.checked cap p after)
   unfolding def.turn
-  turn-is = rw (long, counted, swept)
+  turn-is = rw (swept .long, add-one, swept .stopped, swept .multipliers)
 
-  front : Front (sweeps.grown nu₁ (p .scale) (length nu₁)) rows k rows₁
+  front : Front fighting rows k rows₁
   unfolding private.isGrown
   front = record { count = grew .count; front = grew .front }
 
-  pub turn-grown : (k ≡ 0 → ⊥) → Ran (def.turn cap p m i (going (iterate nu st n))) rows (sweeping.Infeasible cause.Growth k) nu₁ st c rows₁
+  pub turn-grown : (k ≡ 0 → ⊥) → Turned (told (sweeping.Infeasible cause.Growth k) c) nu₁ st rows₁ work
   turn-grown h =
       let g : Sweeping = sweeping.Infeasible cause.Growth k in
-      let r : Ran after rows g nu₁ st c rows₁ = some-fight cause.Growth nu₁ st rows k rows₁ (sweeps.grown nu₁ (p .scale) (length nu₁)) front h c in
-      rw (turn-is, checked-ended rows g nu₁ st c rows₁ cap p after r refl, tested-ended rows g nu₁ st c rows₁ p m nu after r refl) r
+      let r : Ran after rows g nu₁ st c rows₁ = some-fight cause.Growth nu₁ st rows k rows₁ fighting front h c in
+      record {
+        ran = rw (turn-is, checked-ended rows g nu₁ st c rows₁ cap p after r refl, tested-ended rows g nu₁ st c rows₁ p m nu after r refl) r;
+        workspace = refl;
+        sweeps = refl;
+        passes = omega arith;
+      }
 
   none-grown : k ≡ 0 → (after ≡ going (iterate nu₁ st c)) × (rows₁ ≡ rows)
-  none-grown h = goes-on rows sweeping.Going nu₁ st c rows₁ after (none-fight cause.Growth nu₁ st rows k rows₁ (sweeps.grown nu₁ (p .scale) (length nu₁)) front h c) refl
+  none-grown h = goes-on rows sweeping.Going nu₁ st c rows₁ after (none-fight cause.Growth nu₁ st rows k rows₁ fighting front h c) refl
 
-  module _ (none : k ≡ 0) (g : Sweeping) (nu₂ : List Float) (st₂ : List ℕ) (c₂ : Counts) (rows₂ : List ℕ) (checked : Ran (def.checked cap p (going (iterate nu₁ st c))) rows₁ g nu₂ st₂ c₂ rows₂) where
-    on : def.turn cap p m i (going (iterate nu st n)) ≡ def.tested p m nu (def.checked cap p (going (iterate nu₁ st c)))
-    on = turn-is ∙ ap (λ (r : Run). def.tested p m nu (def.checked cap p r)) (none-grown none .0)
+  -- b tells whether the solve goes on after the check
+  module _ (none : k ≡ 0) (q : Progress) (nu₂ : List Float) (st₂ rows₂ : List ℕ) (work₂ : List Float) (b : Bool)
+      (checked : Counted (def.checked cap p (going (iterate nu₁ st c))) rows₁ work (n .sweeps + 1) (n .passes + 1) q nu₂ st₂ rows₂ work₂) (on : b ≡ isGoing (q .sweeping)) where
+    turn-on : def.turn cap p m i (going (iterate nu st n)) ≡ def.tested p m nu (def.checked cap p (going (iterate nu₁ st c)))
+    turn-on = turn-is ∙ ap (λ (r : Run). def.tested p m nu (def.checked cap p r)) (none-grown none .0)
 
     rows-stay : rows₁ ≡ rows
     rows-stay = none-grown none .1
 
-    pub turn-ended : isGoing g ≡ false → Ran (def.turn cap p m i (going (iterate nu st n))) rows g nu₂ st₂ c₂ rows₂
-    turn-ended f = rw (on, tested-ended rows₁ g nu₂ st₂ c₂ rows₂ p m nu (def.checked cap p (going (iterate nu₁ st c))) checked f, ← rows-stay) checked
+    pub turn-ended : not b ≡ true → Turned q nu₂ st₂ rows₂ work₂
+    turn-ended f =
+        let r = checked .ran in
+        record {
+          ran = rw (turn-on, tested-ended rows₁ (q .sweeping) nu₂ st₂ (q .counts) rows₂ p m nu (def.checked cap p (going (iterate nu₁ st c))) r (sym on ∙ not-true b f), ← rows-stay) r;
+          workspace = checked .workspace;
+          sweeps = checked .sweeps;
+          passes = checked .passes;
+        }
 
-    -- t is the copy of the multipliers before the sweep, at the front of a list with more behind it
-    pub turn-tested : isGoing g ≡ true → (t y : List Float) (q : Sweeping) (rows₃ : List ℕ) → t ≡ nu → length nu ≡ box.size p → ((d : Counts) → Ran (def.tested p m (take (box.size p) (t ++ y)) (going (iterate nu₂ st₂ d))) rows₂ q nu₂ st₂ d rows₃) → Ran (def.turn cap p m i (going (iterate nu st n))) rows q nu₂ st₂ c₂ rows₃
-    turn-tested f t y q rows₃ e l h =
-        let x = goes-on rows₁ g nu₂ st₂ c₂ rows₂ (def.checked cap p (going (iterate nu₁ st c))) checked f in
-        let b : take (box.size p) (t ++ y) ≡ nu = ap (λ (t : List Float). take (box.size p) (t ++ y)) e ∙ take-at nu y (box.size p) l in
-        rw (on, x .0, ← rows-stay, ← x .1) (rw b at (h c₂))
+    -- the copy of the multipliers before the sweep is at the front of an array that y ends
+    pub turn-tested : not b ≡ false → (y : List Float) (g : Sweeping) (rows₃ : List ℕ)
+        → ((d : Counts) → Ran (def.tested p m (take (box.size p) (old ++ y)) (going (iterate nu₂ st₂ d))) rows₂ g nu₂ st₂ d rows₃) → Turned (told g (q .counts)) nu₂ st₂ rows₃ work₂
+    turn-tested f y g rows₃ h =
+        let x = goes-on rows₁ (q .sweeping) nu₂ st₂ (q .counts) rows₂ (def.checked cap p (going (iterate nu₁ st c))) (checked .ran) (sym on ∙ not-false b f) in
+        let e : take (box.size p) (old ++ y) ≡ nu = take-at old y (box.size p) (swept .before-long) ∙ swept .before in
+        record {
+          ran = rw (turn-on, x .0, ← rows-stay, ← x .1) (rw e at (h (q .counts)));
+          workspace = checked .workspace;
+          sweeps = checked .sweeps;
+          passes = checked .passes;
+        }
 
 -- ---- the sweeps, each from where the one before left off, until one ends the solve
 
-module _ (cap : ℕ) (p : box.Problem) (m : Watch) (s : Iterate) where
-  pub run-start : def.run cap p m s 0 ≡ going s
-  unfolding def.run turns
-  run-start = refl
-
-  next : (j : ℕ) (t : Iterate) → def.run cap p m s j ≡ going t → def.run cap p m s (suc j) ≡ def.turn cap p m j (going t)
-  unfolding def.run turns
-  next j t h = rw h
-
-  module _ (j : ℕ) (t : Iterate) (g : Sweeping) (nu : List Float) (st : List ℕ) (c : Counts) (rows rows′ : List ℕ) (come : def.run cap p m s j ≡ going t) (turned : Ran (def.turn cap p m j (going t)) rows g nu st c rows′) where
-    pub run-again : isGoing g ≡ true → c .sweeps ≡ j + 1 → (def.run cap p m s (c .sweeps) ≡ going (iterate nu st c)) × (rows′ ≡ rows)
-    run-again f e =
-        let x = goes-on rows g nu st c rows′ (def.turn cap p m j (going t)) turned f in
-        let y : def.run cap p m s (suc j) ≡ going (iterate nu st c) = next j t come ∙ x .0 in
-        (ap (def.run cap p m s) (e ∙ add-one j) ∙ y, x .1)
-
-    pub run-ended : (k : ℕ) (rows₀ : List ℕ) → isGoing g ≡ false → j < k → rows ≡ rows₀ → Ran (def.run cap p m s k) rows₀ g nu st c rows′
-    unfolding def.run
-    run-ended k rows₀ f b e =
-        rw (stays (def.turn cap p m) (going s) (def.turn cap p m j (going t)) (suc j) (next j t come) (λ i h. ended-stays rows g nu st c rows′ cap p m (def.turn cap p m j (going t)) turned f i) k b, ← e) turned
-
-  pub run-over : (c : Counts) (k : ℕ) (nu : List Float) (st rows rows′ : List ℕ) → def.run cap p m s (c .sweeps) ≡ going (iterate nu st c) → rows′ ≡ rows → c .sweeps ≤ k → k ≤ c .sweeps → Ran (def.run cap p m s k) rows sweeping.Going nu st c rows′
-  run-over c k nu st rows rows′ h f a b = let e : c .sweeps ≡ k = omega arith in rw (← e, h) (record { answer = refl; reached = refl; listed = f })
-
--- the lengths of what a run is lent stay
-pub record Kept (st₀ st : List ℕ) (nu₀ nu : List Float) (rows₀ rows : List ℕ) (work₀ work : List Float) : Type 0 where
+-- the lengths and counts of a run's loop
+pub record Kept (cap : ℕ) (st₀ st : List ℕ) (nu₀ nu : List Float) (rows₀ rows : List ℕ) (work₀ work : List Float) (c : Counts) : Type 0 where
+  pub sweeps : c .sweeps ≤ cap
+  pub passes : c .passes ≤ c .sweeps
   pub of-states : length st ≡ length st₀
   pub of-nu : length nu ≡ length nu₀
   pub of-rows : length rows ≡ length rows₀
   pub of-work : length work ≡ length work₀
+
+abbrev pub first : List Float → List ℕ → Iterate
+first nu st = iterate nu st (def.counts 0 0 0)
+
+-- what its sweeps have come to
+pub record Reached (cap : ℕ) (p : box.Problem) (m : Watch) (nu₀ : List Float) (st₀ rows₀ : List ℕ) (work₀ nu : List Float) (st rows : List ℕ) (work : List Float) (c : Counts) : Type 0 where
+  pub run : def.run cap p m (first nu₀ st₀) (c .sweeps) ≡ going (iterate nu st c)
+  pub listed : rows ≡ rows₀
+  pub workspace : beyond work ≡ beyond work₀
+
+module _ (cap : ℕ) (p : box.Problem) (m : Watch) (nu₀ : List Float) (st₀ rows₀ : List ℕ) (work₀ : List Float) where
+  pub run-start : Reached cap p m nu₀ st₀ rows₀ work₀ nu₀ st₀ rows₀ work₀ (def.counts 0 0 0)
+  unfolding def.run turns
+  run-start = record { run = refl; listed = refl; workspace = refl }
+
+  module _ (nu : List Float) (st rows : List ℕ) (work : List Float) (c : Counts) (so-far : Reached cap p m nu₀ st₀ rows₀ work₀ nu st rows work c) where
+    pub run-over : c .sweeps ≤ cap → cap ≤ c .sweeps → Worked (def.run cap p m (first nu₀ st₀) cap) rows₀ work₀ sweeping.Going nu st c rows work
+    run-over a b =
+        let e : cap ≡ c .sweeps = omega arith in
+        let r : def.run cap p m (first nu₀ st₀) cap ≡ going (iterate nu st c) = ap (def.run cap p m (first nu₀ st₀)) e ∙ so-far .run in
+        record { ran = rw r (record { answer = refl; reached = refl; listed = so-far .listed }); workspace = so-far .workspace }
+
+    abbrev next : Run
+    next = def.turn cap p m (c .sweeps) (going (iterate nu st c))
+
+    step : def.run cap p m (first nu₀ st₀) (suc (c .sweeps)) ≡ next
+    unfolding def.run turns
+    step = rw (so-far .run)
+
+    module _ (q : Progress) (nu′ : List Float) (st′ rows′ : List ℕ) (work′ : List Float) (b : Bool) (swept : Counted next rows work (c .sweeps + 1) (c .passes + 1) q nu′ st′ rows′ work′) (on : b ≡ isGoing (q .sweeping)) where
+      pub run-again : not b ≡ false → Reached cap p m nu₀ st₀ rows₀ work₀ nu′ st′ rows′ work′ (q .counts)
+      run-again f =
+          let x = goes-on rows (q .sweeping) nu′ st′ (q .counts) rows′ next (swept .ran) (sym on ∙ not-false b f) in
+          record {
+            run = ap (def.run cap p m (first nu₀ st₀)) (swept .sweeps ∙ add-one (c .sweeps)) ∙ step ∙ x .0;
+            listed = x .1 ∙ so-far .listed;
+            workspace = swept .workspace ∙ so-far .workspace;
+          }
+
+      pub run-ended : not b ≡ true → c .sweeps < cap → Worked (def.run cap p m (first nu₀ st₀) cap) rows₀ work₀ (q .sweeping) nu′ st′ (q .counts) rows′ work′
+      unfolding def.run
+      run-ended f h =
+          let still = ended-stays rows (q .sweeping) nu′ st′ (q .counts) rows′ cap p m next (swept .ran) (sym on ∙ not-true b f) in
+          record {
+            ran = rw (stays (def.turn cap p m) (going (first nu₀ st₀)) next (suc (c .sweeps)) step (λ i g. still i) cap h, ← so-far .listed) (swept .ran);
+            workspace = swept .workspace ∙ so-far .workspace;
+          }

@@ -156,7 +156,9 @@ pub record SweptRow (v : List Float) (c m : ℕ) (nu : List Float) (k : ℕ) : T
 -- a sweep from the multipliers nu₀
 pub record Swept (w uFree lo hi : List Float) (st : List ℕ) (nu₀ nu old : List Float) (k : ℕ) : Type 0 where
   pub multipliers : nu ≡ sweep.sweep w uFree lo hi st nu₀ (length uFree)
+  pub long : length nu ≡ length uFree
   pub before : old ≡ nu₀
+  pub before-long : length old ≡ length uFree
   pub stopped : k ≡ sweep.stopped w uFree lo hi st nu₀ (length uFree)
 
 -- how the code tells a run r, the row list having been l₀

@@ -66,8 +66,10 @@ returns c =
     let at-args = at-loop .before .before .before .before .before .before .before .before in
     record {
       multipliers = turns-done _ _ _ _ _ (omega arith) (omega arith) (at-loop .loop .inv .3);
+      long = omega arith;
       before = front-done (at-args .args .nu .now) (at-args .args .before .now) (at-loop .loop .i) (at-loop .loop .before) (at-loop .loop .inv .5) (omega arith)
           ∙ front-whole (at-args .args .nu .now) (at-args .args .before .now) (omega arith);
+      before-long = omega arith;
       stopped = stopped-done _ _ _ _ _ _ _ _ _ (omega arith) (omega arith) (at-loop .loop .inv .7);
     }
 
