@@ -22,7 +22,7 @@ use Rattle.boxed.specs.declared.Counts.{Counts}
 use Rattle.boxed.specs.declared.Sweeping.{Sweeping}
 use Rattle.boxed.specs.declared.Sweeping.the-variants as sweeping
 use Rattle.boxed.specs.Solve as def
-use Rattle.boxed.specs.Private.{USED, Lent, Ran, Worked, Settled}
+use Rattle.boxed.specs.Private.{USED, Lent, Ran, Worked, Counted, Settled}
 use Rattle.boxed.proofs.Testing.{all-fit}
 
 -- ---- the table of checkpoints as a loop goes through it: l is the table, r what is behind it
@@ -64,12 +64,21 @@ states-are e = ap (λ (t : Trial). t .states) e
 nu-is : {nu : List Float} {st : List ℕ} {t : Trial} → trial nu st ≡ t → nu ≡ t .nu
 nu-is e = ap (λ (t : Trial). t .nu) e
 
-pub settled : (e : Exact) (v nu : List Float) (g : Sweeping) (nu′ : List Float) → g ≡ goesOn e → nu′ ≡ multipliers e v nu → Settled e v nu g nu′
+-- e is the pass's ending x
+pub settled : (e x : Exact) (v nu : List Float) (g : Sweeping) (nu′ : List Float) → e ≡ x → g ≡ goesOn x → nu′ ≡ multipliers x v nu → Settled e v nu g nu′
 unfolding def.passed
-settled e v nu g nu′ a n st₀ c (moved t) l₀ st l h = record { answer = rw (a, h .answer); reached = rw (n, h .answer, states-are (h .tried)); listed = h .listed }
-settled e v nu g nu′ a n st₀ c (found t) l₀ st l h = record { answer = rw (a, h .answer); reached = rw (n, h .answer, states-are (h .tried), nu-is (h .tried)); listed = h .listed }
-settled e v nu g nu′ a n st₀ c (failed t) l₀ st l h = record { answer = rw (a, h .answer); reached = rw (n, h .answer, states-are (h .tried)); listed = h .listed }
-settled e v nu g nu′ a n st₀ c (infeasible r t) l₀ st l h = record { answer = rw (a, h .answer); reached = rw (n, h .answer, states-are (h .tried)); listed = h .listed }
+settled e x v nu g nu′ i a n st₀ c (moved t) l₀ st l h =
+    let y = sym i ∙ h .answer in
+    record { answer = rw (a, y); reached = rw (n, y, states-are (h .tried)); listed = h .listed }
+settled e x v nu g nu′ i a n st₀ c (found t) l₀ st l h =
+    let y = sym i ∙ h .answer in
+    record { answer = rw (a, y); reached = rw (n, y, states-are (h .tried), nu-is (h .tried)); listed = h .listed }
+settled e x v nu g nu′ i a n st₀ c (failed t) l₀ st l h =
+    let y = sym i ∙ h .answer in
+    record { answer = rw (a, y); reached = rw (n, y, states-are (h .tried)); listed = h .listed }
+settled e x v nu g nu′ i a n st₀ c (infeasible r t) l₀ st l h =
+    let y = sym i ∙ h .answer in
+    record { answer = rw (a, y); reached = rw (n, y, states-are (h .tried)); listed = h .listed }
 
 -- ---- n values at the front of a list
 
@@ -133,16 +142,19 @@ module _ (p : box.Problem) (st : List ℕ) (nu : List Float) (rows : List ℕ) (
 
 -- ---- a check
 
-pub one-tried : (n : Counts) → def.counts (n .sweeps) (n .passes + 1) (n .stopped) ≡ def.tried n
-one-tried n = ap (λ (k : ℕ). def.counts (n .sweeps) k (n .stopped)) (add-one (n .passes))
+-- b tells whether a pass is due
+module _ (cap : ℕ) (p : box.Problem) (nu : List Float) (st : List ℕ) (n : Counts) (rows : List ℕ) (work : List Float) (b : Bool) (due : b ≡ def.checkpoint cap (n .sweeps)) where
+  abbrev Checked : Sweeping → Counts → List Float → List ℕ → List ℕ → List Float → Type 0
+  Checked g c nu′ st′ rows′ work′ =
+      Counted (def.checked cap p (def.going (def.iterate nu st n))) rows work (n .sweeps) (n .passes + 1) (record { sweeping = g; counts = c }) nu′ st′ rows′ work′
 
-module _ (cap : ℕ) (p : box.Problem) (nu : List Float) (st : List ℕ) (n : Counts) (rows : List ℕ) (b : Bool) (due : b ≡ def.checkpoint cap (n .sweeps)) where
-  pub check-tried : (work : List Float) (g : Sweeping) (nu′ : List Float) (st′ : List ℕ) (n′ : Counts) (rows′ : List ℕ) (work′ : List Float) → b ≡ true → n′ ≡ def.tried n
+  pub check-tried : (g : Sweeping) (nu′ : List Float) (st′ rows′ : List ℕ) (work′ : List Float) → b ≡ true
       → ((c : Counts) → Worked (def.passed (def.iterate nu st c) (exactPass p st nu)) rows work g nu′ st′ (def.tried c) rows′ work′)
-      → Ran (def.checked cap p (def.going (def.iterate nu st n))) rows g nu′ st′ n′ rows′
+      → Checked g (def.counts (n .sweeps) (n .passes + 1) (n .stopped)) nu′ st′ rows′ work′
   unfolding def.checked
-  check-tried work g nu′ st′ n′ rows′ work′ t e h = rw (sym due ∙ t, e) (h n .ran)
+  check-tried g nu′ st′ rows′ work′ t h =
+      record { ran = rw (sym due ∙ t, add-one) (h n .ran); workspace = h n .workspace; sweeps = refl; passes = omega arith }
 
-  pub check-not : b ≡ false → Ran (def.checked cap p (def.going (def.iterate nu st n))) rows sweeping.Going nu st n rows
+  pub check-not : b ≡ false → Checked sweeping.Going n nu st rows work
   unfolding def.checked
-  check-not t = rw (sym due ∙ t) (record { answer = refl; reached = refl; listed = refl })
+  check-not t = record { ran = rw (sym due ∙ t) (record { answer = refl; reached = refl; listed = refl }); workspace = refl; sweeps = refl; passes = omega arith }

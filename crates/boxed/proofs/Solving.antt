@@ -12,9 +12,11 @@ use Rattle.boxed.specs.Sweep as sweeps
 use Rattle.boxed.specs.Private as private
 use Rattle.boxed.specs.Solve as def
 use Rattle.boxed.specs.Solve.{iterate, Watch, Left}
-use Rattle.boxed.specs.Private.{USED, Finished}
+use Rattle.boxed.specs.Private.{USED, Ran, Worked, Finished}
 use Rattle.boxed.proofs.Finishing.{solve-uses}
 use Rattle.boxed.specs.declared.BoxReport.{BoxReport}
+use Rattle.boxed.specs.declared.Counts.{Counts}
+use Rattle.boxed.specs.declared.Sweeping.{Sweeping}
 use Rattle.boxed.specs.declared.BoxAnswer.{BoxAnswer}
 use Rattle.boxed.specs.declared.BoxAnswer.the-variants.{Solved, Refused}
 
@@ -33,17 +35,20 @@ module _ (cap : ℕ) (p : box.Problem) (m : Watch) (nu : List Float) (st l : Lis
   unfolding def.solve
   all-idle h r e w = rw (begun, eq-eqb idle (box.size p) h) (record { answer = ap Solved e; multipliers = refl; states = refl; listed = refl; workspace = refl })
 
-  pub some-act : (idle ≡ box.size p → ⊥) → (r : BoxAnswer) (nu′ : List Float) (st′ l′ : List ℕ) (w w′ : List Float)
-      → Finished (def.result p idle l (def.run cap p m (iterate nu₁ st₁ (def.counts 0 0 0)) cap)) r nu′ st′ l′ → private.beyond w′ ≡ private.beyond w
-      → Left (def.solve cap p m nu st l) r nu′ st′ l′ w w′
-  some-act h r nu′ st′ l′ w w′ f d =
-      let e : def.solve cap p m nu st l ≡ def.result p idle l (def.run cap p m (iterate nu₁ st₁ (def.counts 0 0 0)) cap) = solve-is h in
+  -- g is how the run has ended
+  pub some-act : (idle ≡ box.size p → ⊥) → (g : Sweeping) (nu₂ : List Float) (st₂ : List ℕ) (c : Counts) (r : BoxAnswer) (st′ l′ : List ℕ) (w w′ : List Float)
+      → Worked (def.run cap p m (iterate nu₁ st₁ (def.counts 0 0 0)) cap) l w g nu₂ st₂ c l′ w′
+      → ((x : def.Run) (l₀ l : List ℕ) → Ran x l₀ g nu₂ st₂ c l → Finished (def.result p idle l₀ x) r nu₂ st′ l)
+      → Left (def.solve cap p m nu st l) r nu₂ st′ l′ w w′
+  some-act h g nu₂ st₂ c r st′ l′ w w′ d k =
+      let e = solve-is h in
+      let f = k (def.run cap p m (iterate nu₁ st₁ (def.counts 0 0 0)) cap) l l′ (d .ran) in
       record {
         answer = rw e (f .answer);
         multipliers = rw e (f .multipliers);
         states = rw e (f .states);
         listed = rw e (f .listed);
-        workspace = rw (solve-uses cap p m nu st l) (later USED 2304 w′ w (omega arith) d);
+        workspace = rw (solve-uses cap p m nu st l) (later USED 2304 w′ w (omega arith) (d .workspace));
       }
 
 -- ---- a number refuses, and 0 does not

@@ -113,7 +113,7 @@ fn solve_rows(
         (now (nu .entry)) (now (states .entry)) (now (rows .entry)))
         q (now (nu .exit)) (now (states .exit)) (now (rows .exit)) (now (work .entry)) (now (work .exit)) ⌝ }
 {
-    let n = nu.len();
+    let n = u_free.len();
     let idle = start::start(w, lo, hi, states, nu);
     if idle == n {
         return BoxAnswer::Solved(ending::nothing(idle as u32));

@@ -8,28 +8,16 @@ enum-told : tie.Need-enum-told
 enum-told c = omega arith
 
 returns : tie.Need-returns
-returns c =
-    let at-copy = c .before .before in
-    let at-told = at-copy .before .before in
-    let at-args = at-told .before .before .before .before in
-    settled (at-args .args .e) _ _ _ _ (rw (at-told .enum-told .given .1)) (rw (at-told .enum-told .given .1) (at-copy .copy .ensures))
+returns c = search (settled, needs)
 
 returns-2 : tie.Need-returns-2
-returns-2 c = settled (c .before .before .before .before .args .e) _ _ _ _ (rw (c .enum-told2 .given .1)) (rw (c .enum-told2 .given .1))
+returns-2 c = search (settled, needs)
 
 returns-3 : tie.Need-returns-3
-returns-3 c =
-    let at-copy = c .before .before in
-    let at-told = at-copy .before .before in
-    let at-args = at-told .before .before .before .before in
-    settled (at-args .args .e) _ _ _ _ (rw (at-told .enum-told3 .given .1)) (rw (at-told .enum-told3 .given .1) (at-copy .copy2 .ensures))
+returns-3 c = search (settled, needs)
 
 returns-4 : tie.Need-returns-4
-returns-4 c =
-    let at-copy = c .before .before in
-    let at-told = at-copy .before .before .before in
-    let at-args = at-told .before .before .before .before in
-    settled (at-args .args .e) _ _ _ _ (rw (at-told .e .given .1)) (rw (at-told .e .given .1) (at-copy .copy3 .ensures))
+returns-4 c = search (settled, needs)
 
 pub settle-spec : {M : Type 1} → statement M
 settle-spec =

@@ -1,8 +1,9 @@
+use Rattle.boxed.proofs.Accepting.{or-false}
 use borrow.Author.Needs.{needs}
-use Prim.Native.Nat.{ℕ}
-use mathlib.Core.Bool.{Bool, true, false, not, _&&_, _||_}
+use Prim.Native.Nat.{ℕ, _≤_}
+use mathlib.Core.Bool.{Bool, true, false, not, cond, _&&_, _||_}
 use mathlib.Core.Path.{_≡_, refl, sym, _∙_}
-use lib.Dec.{eqb}
+use lib.Dec.{ltb, eqb}
 use borrow.Author.Tests.{ltb-false, eqb-true, not-false}
 use Rattle.boxed.specs.Solve as def
 use Rattle.boxed.specs.Private as private
@@ -10,38 +11,37 @@ use Rattle.loops.proofs.Every.{both-true}
 use Rattle.boxed.proofs.refusal.refusal.Statement.{statement}
 use Rattle.boxed.proofs.refusal.refusal.Tie as tie
 
+-- a test c, of which q tells the answer, gives its number or leaves it to the tests after it
+module _ (q c : Bool) (k r : ℕ) (e : q ≡ c) where
+  refuses : q ≡ true → k ≡ cond c k r
+  refuses h = rw (← e, h)
+
+  refuses-not : not q ≡ true → k ≡ cond (not c) k r
+  refuses-not h = rw (← e, h)
+
+  passes : (n : ℕ) → q ≡ false → n ≡ r → n ≡ cond c k r
+  passes n h g = rw (← e, h) g
+
+  passes-not : (n : ℕ) → not q ≡ false → n ≡ r → n ≡ cond (not c) k r
+  passes-not n h g = rw (← e, h) g
+
 returns : tie.Need-returns
 unfolding def.refusal private.goodScale
-returns c =
-    let at-too-large = c .before in
-    rw (← at-too-large .too-large .ensures, c .if1 .taken)
+returns c = search (refuses, passes, refuses-not, passes-not, needs)
 
-or-left : (a b : Bool) → a || b ≡ false → a ≡ false
-or-left true b h = h
-or-left false b h = refl
+few : (q b : Bool) (n : ℕ) → q ≡ (ltb 32 n || b) → q ≡ false → n ≤ 32
+few q b n e h = ltb-false 32 n (or-false (ltb 32 n) b (sym e ∙ h) .0)
 
 not-square-requires : tie.Need-not-square-requires
-not-square-requires c κs =
-    let at-too-large = c .before in
-    ltb-false _ _ (or-left _ _ (sym (at-too-large .too-large .ensures) ∙ c .if1 .left))
+not-square-requires c κs = few _ _ _ (c .before .too-large .ensures) (c .if1 .left)
 
 returns-2 : tie.Need-returns-2
 unfolding def.refusal private.goodScale
-returns-2 c =
-    let at-not-square = c .before in
-    let at-if1 = at-not-square .before in
-    let at-too-large = at-if1 .before in
-    rw (← at-too-large .too-large .ensures, at-if1 .if1 .left, ← at-not-square .not-square .ensures, c .if2 .taken)
+returns-2 c = search (refuses, passes, refuses-not, passes-not, needs)
 
 returns-3 : tie.Need-returns-3
 unfolding def.refusal private.goodScale
-returns-3 c =
-    let at-unequal = c .before in
-    let at-if2 = at-unequal .before in
-    let at-not-square = at-if2 .before in
-    let at-if1 = at-not-square .before in
-    let at-too-large = at-if1 .before in
-    rw (← at-too-large .too-large .ensures, at-if1 .if1 .left, ← at-not-square .not-square .ensures, at-if2 .if2 .left, ← at-unequal .unequal .ensures, c .if3 .taken)
+returns-3 c = search (refuses, passes, refuses-not, passes-not, needs)
 
 -- where 7 does not refuse, there is a scale for each row
 equal-third : (a b c d n : ℕ) (q : Bool) → q ≡ not (eqb a n && eqb b n && eqb c n && eqb d n) → q ≡ false → c ≡ n
@@ -51,61 +51,27 @@ equal-third a b c d n q e h =
 
 returns-4 : tie.Need-returns-4
 unfolding def.refusal private.goodScale
-returns-4 c =
-    let at-good-scales = c .before in
-    let at-if3 = at-good-scales .before in
-    let at-unequal = at-if3 .before in
-    let at-if2 = at-unequal .before in
-    let at-not-square = at-if2 .before in
-    let at-if1 = at-not-square .before in
-    let at-too-large = at-if1 .before in
-    rw (← at-too-large .too-large .ensures, at-if1 .if1 .left, ← at-not-square .not-square .ensures, at-if2 .if2 .left, ← at-unequal .unequal .ensures, at-if3 .if3 .left, ← at-good-scales .good-scales .ensures, c .if4 .taken)
+returns-4 c = search (refuses, passes, refuses-not, passes-not, needs)
 
 returns-5 : tie.Need-returns-5
 unfolding def.refusal private.goodScale
-returns-5 c =
-    let at-uneven = c .before in
-    let at-if4 = at-uneven .before in
-    let at-good-scales = at-if4 .before in
-    let at-if3 = at-good-scales .before in
-    let at-unequal = at-if3 .before in
-    let at-if2 = at-unequal .before in
-    let at-not-square = at-if2 .before in
-    let at-if1 = at-not-square .before in
-    let at-too-large = at-if1 .before in
-    rw (← at-too-large .too-large .ensures, at-if1 .if1 .left, ← at-not-square .not-square .ensures, at-if2 .if2 .left, ← at-unequal .unequal .ensures, at-if3 .if3 .left, ← at-good-scales .good-scales .ensures, at-if4 .if4 .left, ← at-uneven .uneven .ensures, c .if5 .taken)
+returns-5 c = search (refuses, passes, refuses-not, passes-not, needs)
 
 returns-6 : tie.Need-returns-6
 unfolding def.refusal private.goodScale
 returns-6 c =
-    let at-too-short = c .before in
-    let at-if5 = at-too-short .before in
-    let at-uneven = at-if5 .before in
-    let at-if4 = at-uneven .before in
-    let at-good-scales = at-if4 .before in
-    let at-if3 = at-good-scales .before in
-    let at-unequal = at-if3 .before in
-    let at-if2 = at-unequal .before in
-    let at-not-square = at-if2 .before in
-    let at-if1 = at-not-square .before in
-    let at-too-large = at-if1 .before in
-    rw (← at-too-large .too-large .ensures, at-if1 .if1 .left, ← at-not-square .not-square .ensures, at-if2 .if2 .left, ← at-unequal .unequal .ensures, at-if3 .if3 .left, ← at-good-scales .good-scales .ensures, at-if4 .if4 .left, ← at-uneven .uneven .ensures, at-if5 .if5 .left, ← at-too-short .too-short .ensures, c .if6 .taken)
+    let at-if2 = c .before .before .before .before .before .before .before .before in
+    let at-if1 = at-if2 .before .before in
+    passes _ _ _ _ (at-if1 .before .too-large .ensures) _ (at-if1 .if1 .left)
+    (passes _ _ _ _ (at-if2 .before .not-square .ensures) _ (at-if2 .if2 .left) (search (refuses, passes, refuses-not, passes-not, needs)))
 
 returns-7 : tie.Need-returns-7
 unfolding def.refusal private.goodScale
 returns-7 c =
-    let at-too-short = c .before in
-    let at-if5 = at-too-short .before in
-    let at-uneven = at-if5 .before in
-    let at-if4 = at-uneven .before in
-    let at-good-scales = at-if4 .before in
-    let at-if3 = at-good-scales .before in
-    let at-unequal = at-if3 .before in
-    let at-if2 = at-unequal .before in
-    let at-not-square = at-if2 .before in
-    let at-if1 = at-not-square .before in
-    let at-too-large = at-if1 .before in
-    rw (← at-too-large .too-large .ensures, at-if1 .if1 .left, ← at-not-square .not-square .ensures, at-if2 .if2 .left, ← at-unequal .unequal .ensures, at-if3 .if3 .left, ← at-good-scales .good-scales .ensures, at-if4 .if4 .left, ← at-uneven .uneven .ensures, at-if5 .if5 .left, ← at-too-short .too-short .ensures, c .if6 .left)
+    let at-if2 = c .before .before .before .before .before .before .before .before in
+    let at-if1 = at-if2 .before .before in
+    passes _ _ _ _ (at-if1 .before .too-large .ensures) _ (at-if1 .if1 .left)
+    (passes _ _ _ _ (at-if2 .before .not-square .ensures) _ (at-if2 .if2 .left) (search (refuses, passes, refuses-not, passes-not, needs)))
 
 pub refusal-spec : {M : Type 1} → statement M
 refusal-spec =
