@@ -22,7 +22,7 @@ use Rattle.boxed.specs.declared.Counts.{Counts}
 use Rattle.boxed.specs.declared.Sweeping.{Sweeping}
 use Rattle.boxed.specs.declared.Sweeping.the-variants as sweeping
 use Rattle.boxed.specs.Solve as def
-use Rattle.boxed.specs.Private.{USED, Lent, Ran, Worked, Counted, Settled}
+use Rattle.boxed.specs.Private.{USED, Lent, Worked, Counted, Settled}
 use Rattle.boxed.proofs.Testing.{all-fit}
 
 -- ---- the table of checkpoints as a loop goes through it: l is the table, r what is behind it

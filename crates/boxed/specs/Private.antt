@@ -137,6 +137,11 @@ pub record TurnLent (p : box.Problem) (st : List ℕ) (nu : List Float) (l : Lis
 
 -- ---- what they answer and leave
 
+-- row i of a matrix in rows of n
+pub record RowRead (w : List Float) (n i : ℕ) (r : List Float) : Type 0 where
+  pub row : r ≡ box.row w n i
+  pub long : length r ≡ n
+
 -- k and the row list l after row i, where b tells whether it is noted
 pub record Noted (b : Bool) (i k : ℕ) (l : List ℕ) (k′ : ℕ) (l′ : List ℕ) : Type 0 where
   pub count : k′ ≡ counted b k

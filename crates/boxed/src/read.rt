@@ -3,7 +3,7 @@ ghost use mathlib.Core.Path.{_≡_};
 ghost use Prim.Native.Nat.{_+_, _*_, _≤_, _<_};
 ghost use lib.ListN.{length, getD, set};
 ghost use Rattle.floats.specs.Ops as ops;
-ghost use Rattle.box_rows.specs.Rows as box;
+ghost use Rattle.boxed.specs.Private as private;
 
 pub fn at(v: &[f64], i: usize) -> f64
     requires { ⌜ i < length (now v) ⌝ }
@@ -43,7 +43,7 @@ pub fn put_state(l: &mut [u8], i: usize, x: u8)
 // Row i of a matrix in rows of n.
 pub fn row(w: &[f64], n: usize, i: usize) -> &[f64]
     requires { ⌜ i * n + n ≤ length (now w) ⌝ }
-    ensures { λ q. ⌜ now q ≡ box.row (now (w .entry)) n i ⌝ }
+    ensures { λ q. ⌜ private.RowRead (now (w .entry)) n i (now q) ⌝ }
 {
     let a = i * n;
     let e = a + n;

@@ -1,6 +1,5 @@
 use borrow.Author.Needs.{needs}
 use Rattle.boxed.proofs.Solving.{all-idle, some-act}
-use mathlib.Core.Path.{sym, _∙_}
 use native.Mathlib.Omega.{arith}
 use Rattle.boxed.proofs.solve_rows.Statement.{statement}
 use Rattle.boxed.proofs.solve_rows.Tie as tie
@@ -9,9 +8,6 @@ start-requires : tie.Need-start-requires
 start-requires c κs =
     let at-pre = c .before .before .before .before .before .before .before .before .before .before .before .before in
     rw (at-pre .pre .lists .matrix .lower) (at-pre .pre .lists .matrix)
-
-returns : tie.Need-returns
-returns c = search (all-idle, needs)
 
 cast-answer : tie.Need-cast-answer
 cast-answer c =
@@ -40,7 +36,7 @@ solve-rows-spec =
     (λ c κs. tt)
     (λ c. omega arith)
     (λ c. omega arith)
-    returns
+    (λ c. search (all-idle, needs))
     (λ c κs. omega arith)
     cast-answer
     answer-requires

@@ -2,7 +2,7 @@ use Rattle.boxed.proofs.Accepting.{or-false}
 use borrow.Author.Needs.{needs}
 use Prim.Native.Nat.{ℕ, _≤_}
 use mathlib.Core.Bool.{Bool, true, false, not, cond, _&&_, _||_}
-use mathlib.Core.Path.{_≡_, refl, sym, _∙_}
+use mathlib.Core.Path.{_≡_, sym, _∙_}
 use lib.Dec.{ltb, eqb}
 use borrow.Author.Tests.{ltb-false, eqb-true, not-false}
 use Rattle.boxed.specs.Solve as def
@@ -31,9 +31,6 @@ returns c = search (refuses, passes, refuses-not, passes-not, needs)
 
 few : (q b : Bool) (n : ℕ) → q ≡ (ltb 32 n || b) → q ≡ false → n ≤ 32
 few q b n e h = ltb-false 32 n (or-false (ltb 32 n) b (sym e ∙ h) .0)
-
-not-square-requires : tie.Need-not-square-requires
-not-square-requires c κs = few _ _ _ (c .before .too-large .ensures) (c .if1 .left)
 
 returns-2 : tie.Need-returns-2
 unfolding def.refusal private.goodScale
@@ -79,7 +76,7 @@ refusal-spec =
     (tie.spec
     (λ c κs. tt)
     returns
-    not-square-requires
+    (λ c κs. few _ _ _ (c .before .too-large .ensures) (c .if1 .left))
     returns-2
     (λ c κs. tt)
     returns-3

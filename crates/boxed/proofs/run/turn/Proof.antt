@@ -1,29 +1,14 @@
 use borrow.Author.Needs.{needs}
-use Prim.Native.Nat.{_+_}
-use Rattle.box_rows.specs.Rows as box
-use Rattle.boxed.specs.Sweep as sweeps
-use Rattle.boxed.specs.Solve as def
 use Rattle.boxed.proofs.Checks.{front-within, front-length}
 use Rattle.boxed.proofs.Turns.{turn-grown, turn-ended, turn-tested}
-use borrow.Author.Tests.{not-true, not-false}
 use lib.Seq.{length-take-le}
-use lib.ListN.{length}
-use mathlib.Core.Path.{refl, sym, ap, _∙_}
+use mathlib.Core.Path.{refl}
 use native.Mathlib.Omega.{arith}
 use Rattle.boxed.proofs.run.turn.Statement.{statement}
 use Rattle.boxed.proofs.run.turn.Tie as tie
 
-sweep-requires : tie.Need-sweep-requires
-sweep-requires c κs = record { matrix = omega arith; before = length-take-le _ _ (omega arith) }
-
-returns : tie.Need-returns
-returns c = search (turn-grown, needs)
-
 check-requires : tie.Need-check-requires
 check-requires c κs = omega (arith, c .before .before .before .before .before .before .before .before .before .before .before .before .before .before)
-
-returns-2 : tie.Need-returns-2
-returns-2 c = search (turn-ended, needs)
 
 -- the places of the check and of the sweep, from the copy of the multipliers on
 abbrev to-check : tie.After-slice-known11 → tie.After-check
@@ -49,9 +34,6 @@ tests-requires c κs =
       some = omega (arith, to-sweep at-check);
     }
 
-same-length-9 : tie.Need-same-length-9
-same-length-9 c = omega (arith, to-sweep (to-check c))
-
 returns-3 : tie.Need-returns-3
 returns-3 c =
     let at-tests = c .before .before in
@@ -67,25 +49,25 @@ turn-spec =
     (tie.spec
     (λ c. omega arith)
     (λ c. search (length-take-le, needs))
-    sweep-requires
+    (λ c κs. record { matrix = omega arith; before = length-take-le _ _ (omega arith) })
     (λ c. omega arith)
     (λ c κs. omega arith)
     (λ c. refl)
     (λ c. omega arith)
     (λ c. omega arith)
-    returns
+    (λ c. search (turn-grown, needs))
     check-requires
     (λ c κs. tt)
     (λ c. omega arith)
     (λ c. omega arith)
     (λ c. omega arith)
     (λ c. omega arith)
-    returns-2
+    (λ c. search (turn-ended, needs))
     array-share-prefix-before
     slice-aggregate-tests
     tests-requires
     (λ c. omega arith)
-    same-length-9
+    (λ c. omega (arith, to-sweep (to-check c)))
     (λ c. omega arith)
     (λ c. omega arith)
     returns-3)

@@ -1,11 +1,11 @@
 use Prim.Native.Nat.{_≤_, _-_}
-use mathlib.Core.Path.{_≡_, ap, _∙_}
+use mathlib.Core.Path.{_≡_}
 use native.Mathlib.Omega.{arith}
 use lib.ListN.{length}
 use borrow.Author.Needs.{needs}
 use Rattle.boxed.specs.Sweep as def
 use Rattle.boxed.specs.Private as private
-use Rattle.box_rows.proofs.Matrix.{row-fits, row-length}
+use Rattle.box_rows.proofs.Matrix.{row-fits}
 use Rattle.loops.proofs.Turns.{turns-from, turns-again, turns-done}
 use Rattle.boxed.proofs.start.start.Statement.{statement}
 use Rattle.boxed.proofs.start.start.Tie as tie
@@ -29,7 +29,7 @@ loop-again c =
     let at-at = at-at2 .before in
     let at-row = at-at .before in
     let at-loop = at-row .before .before in
-    (search needs, at-start-row .start-row .ensures .within, search needs, search needs, search needs, turns-again _ _ _ _ _ (at-loop .loop .inv .5) (rw (at-at .at .ensures, at-at2 .at2 .ensures, at-at3 .at3 .ensures, at-row .row .ensures) at (at-start-row .start-row .ensures .start)))
+    (search needs, at-start-row .start-row .ensures .within, search needs, search needs, search needs, turns-again _ _ _ _ _ (at-loop .loop .inv .5) (rw (at-at .at .ensures, at-at2 .at2 .ensures, at-at3 .at3 .ensures, at-row .row .ensures .row) at (at-start-row .start-row .ensures .start)))
 
 returns : tie.Need-returns Inv-loop μ-loop
 unfolding def.start private.startRow
@@ -43,7 +43,7 @@ start-spec =
     μ-loop
     loop-holds
     (λ c κs. search (row-fits, needs))
-    (λ c κs. omega (arith, ap length (c .row .ensures) ∙ row-length _ _ _))
+    (λ c κs. omega arith)
     (λ c κs. omega arith)
     (λ c κs. omega arith)
     (λ c κs. omega arith)

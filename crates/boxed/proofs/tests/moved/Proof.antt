@@ -1,12 +1,11 @@
 use Prim.Native.Nat.{_/_, _≤_, _-_}
-use mathlib.Core.Path.{_≡_, ap, _∙_}
+use mathlib.Core.Path.{_≡_}
 use native.Mathlib.Nat.{div-le-self}
 use native.Mathlib.Omega.{arith}
 use lib.ListN.{length}
 use borrow.Author.Needs.{needs}
 use Rattle.boxed.specs.Sweep as def
 use Rattle.boxed.specs.Private as private
-use Rattle.box_rows.proofs.Matrix.{row-length}
 use Rattle.boxed.proofs.Rows.{rows-fit}
 use Rattle.loops.proofs.Turns.{turns-from, turns-again, turns-done}
 use Rattle.boxed.proofs.tests.moved.Statement.{statement}
@@ -22,11 +21,6 @@ loop-holds : tie.Need-loop-holds Inv-loop μ-loop
 unfolding def.moved private.coordinate
 loop-holds c = (search needs, search needs, search needs, turns-from _ _)
 
-coordinate-requires : tie.Need-coordinate-requires Inv-loop μ-loop
-coordinate-requires c κs =
-    let at-pre = c .before .before .before .before .before .before in
-    record { first = ap length (c .row .ensures) ∙ row-length _ _ _; second = at-pre .pre .before }
-
 add-c : tie.Need-add-c Inv-loop μ-loop
 add-c c =
     let at-loop-test = c .before .before .before .before in
@@ -40,7 +34,7 @@ loop-again c =
     let at-coordinate = at-abs .before in
     let at-row = at-coordinate .before in
     let at-loop = at-row .before .before in
-    (search needs, search needs, search needs, turns-again _ _ _ _ _ (at-loop .loop .inv .3) (rw (c .larger .ensures, at-abs .abs .ensures, at-coordinate .coordinate .ensures, at-row .row .ensures)))
+    (search needs, search needs, search needs, turns-again _ _ _ _ _ (at-loop .loop .inv .3) (rw (c .larger .ensures, at-abs .abs .ensures, at-coordinate .coordinate .ensures, at-row .row .ensures .row)))
 
 returns : tie.Need-returns Inv-loop μ-loop
 unfolding def.moved private.coordinate
@@ -55,7 +49,7 @@ moved-spec =
     (λ c. search needs)
     loop-holds
     (λ c κs. search (rows-fit, needs))
-    coordinate-requires
+    (λ c κs. omega arith)
     (λ c κs. tt)
     (λ c κs. tt)
     add-c
