@@ -14,7 +14,7 @@ use Rattle.loops.proofs.Every.{both-true}
 use Rattle.box_rows.specs.Rows.{Problem, size}
 use Rattle.box_rows.specs.Private.{Sized}
 use Rattle.boxed.specs.Solve.{refusal}
-use Rattle.boxed.specs.Private.{goodScale, goodScaleAt, Lent}
+use Rattle.boxed.specs.Private.{goodScale, goodScaleAt, Matrix, Lent}
 
 -- the number of the first test that holds
 abbrev first : List (Bool × ℕ) → ℕ
@@ -29,10 +29,10 @@ pub or-false : (a b : Bool) → a || b ≡ false → (a ≡ false) × (b ≡ fal
 or-false true b h = absurd (true≢false h)
 or-false false b h = (refl, h)
 
-pub record Accepted (p : Problem) (nu : List Float) (st l : List ℕ) (room : ℕ) : Type 0 where
+pub record Accepted (p : Problem) (nu : List Float) (st l : List ℕ) (workspace : ℕ) : Type 0 where
   pub sized : Sized (size p) (p .w) (p .lo) (p .hi) (p .scale)
   pub values : length nu ≡ size p
-  pub work : 2304 ≤ room
+  pub work : 2304 ≤ workspace
   pub states : size p ≤ length st
   pub listed : size p ≤ length l
 
@@ -54,50 +54,36 @@ four a b c d n h =
     let ab = both-true (eqb a n) (eqb b n) (abc .0) in
     (eqb-true a n (ab .0), eqb-true b n (ab .1), eqb-true c n (abc .1), eqb-true d n (abcd .1))
 
-pub accepted : (p : Problem) (motion nu : List Float) (st l : List ℕ) (room : ℕ) → refusal p motion nu st l room ≡ 0 → Accepted p nu st l room
+pub accepted : (p : Problem) (motion nu : List Float) (st l : List ℕ) (workspace : ℕ) → refusal p motion nu st l workspace ≡ 0 → Accepted p nu st l workspace
 unfolding refusal goodScale
-accepted p motion nu st l room h =
+accepted p motion nu st l workspace h =
     let n = size p in
     let lengths = eqb (length (p .lo)) n && eqb (length (p .hi)) n && eqb (length (p .scale)) n && eqb (length nu) n in
     let g = six (ltb 32 n || ltb 2048 (length motion)) (not (eqb (length (p .w)) (n * n))) (not lengths)
-    (not (every (goodScaleAt (p .scale)) n)) (ltb 0 n && not (eqb (length motion % n) 0)) (ltb room 2304 || ltb (length st) n || ltb (length l) n) h in
+    (not (every (goodScaleAt (p .scale)) n)) (ltb 0 n && not (eqb (length motion % n) 0)) (ltb workspace 2304 || ltb (length st) n || ltb (length l) n) h in
     let few = ltb-false 32 n (or-false (ltb 32 n) (ltb 2048 (length motion)) (g .0) .0) in
     let square = eqb-true (length (p .w)) (n * n) (not-false (eqb (length (p .w)) (n * n)) (g .1)) in
     let seven = four (length (p .lo)) (length (p .hi)) (length (p .scale)) (length nu) n (g .2) in
-    let ten = or-false (ltb room 2304 || ltb (length st) n) (ltb (length l) n) (g .3) in
-    let lent = or-false (ltb room 2304) (ltb (length st) n) (ten .0) in
+    let ten = or-false (ltb workspace 2304 || ltb (length st) n) (ltb (length l) n) (g .3) in
+    let lent = or-false (ltb workspace 2304) (ltb (length st) n) (ten .0) in
     record {
       sized = (few, square, seven .0, seven .1, seven .2);
       values = seven .3;
-      work = ltb-false room 2304 (lent .0);
+      work = ltb-false workspace 2304 (lent .0);
       states = ltb-false (length st) n (lent .1);
       listed = ltb-false (length l) n (ten .1);
     }
 
+pub accepted-by : (p : Problem) (motion nu : List Float) (st l : List ℕ) (workspace number : ℕ)
+    → number ≡ refusal p motion nu st l workspace → number ≡ 0 → Accepted p nu st l workspace
+accepted-by p motion nu st l workspace number e h = accepted p motion nu st l workspace (sym e ∙ h)
+
 -- the solve of the rows is lent enough
-module _ (p : Problem) (motion nu : List Float) (st l : List ℕ) (work : List Float) (number : ℕ)
-    (e : number ≡ refusal p motion nu st l (length work)) (h : number ≡ 0) where
-  taken : Accepted p nu st l (length work)
-  taken = accepted p motion nu st l (length work) (sym e ∙ h)
-
-  pub enough-states : size p ≤ length st
-  enough-states = taken .states
-
-  pub lent : Lent p (take (size p) st) nu l work
-  lent =
-      let s = taken .sized in
-      record {
-        lists = record {
-          matrix = record {
-            few = s .0;
-            square = s .1;
-            lower = s .2;
-            upper = s .3;
-            states = length-take-le (size p) st (taken .states);
-            multipliers = taken .values;
-          };
-          scales = s .4;
-        };
-        listed = taken .listed;
-        workspace = omega (arith, taken .work);
-      }
+pub lent : (p : Problem) (motion nu : List Float) (st l : List ℕ) (work : List Float) (number : ℕ)
+    → number ≡ refusal p motion nu st l (length work) → number ≡ 0 → Lent p (take (size p) st) nu l work
+lent p motion nu st l work number e h =
+    let a = accepted-by p motion nu st l (length work) number e h in
+    let s = a .sized in
+    let matrix : Matrix (size p) (p .w) (p .lo) (p .hi) (take (size p) st) nu =
+    record { few = s .0; square = s .1; lower = s .2; upper = s .3; states = length-take-le (size p) st (a .states); multipliers = a .values } in
+    record { lists = record { matrix = matrix; scales = s .4 }; listed = a .listed; workspace = omega (arith, a .work) }

@@ -33,25 +33,25 @@ statesLeft p sweeping.Exact s = s .states
 statesLeft p sweeping.Converged s = shownStates p s
 statesLeft p (sweeping.Infeasible c k) s = s .states
 
-finished : (p : box.Problem) (idle : ℕ) (g : Sweeping) (nu : List Float) (st : List ℕ) (c : Counts) (a : BoxAnswer) (st′ : List ℕ) → a ≡ answered p idle g (iterate nu st c) → st′ ≡ statesLeft p g (iterate nu st c)
-    → (r : Run) (l₀ l : List ℕ) → Ran r l₀ g nu st c l → Finished (def.result p idle l₀ r) a nu st′ l
-unfolding def.result def.unfound
-finished p idle g nu st c a st′ e f (going s) l₀ l h =
-    let n : nu ≡ s .nu = ap (λ (x : Iterate). x .nu) (h .reached) in
-    let m : st ≡ s .states = ap (λ (x : Iterate). x .states) (h .reached) in
-    record { answer = rw (h .answer, h .reached) at e; multipliers = n; states = rw (← n, ← m) (rw (h .answer) at f); listed = h .listed }
-finished p idle g nu st c a st′ e f (ended exact s) l₀ l h =
-    let n : nu ≡ s .nu = ap (λ (x : Iterate). x .nu) (h .reached) in
-    let m : st ≡ s .states = ap (λ (x : Iterate). x .states) (h .reached) in
-    record { answer = rw (h .answer, h .reached) at e; multipliers = n; states = (rw (h .answer) at f) ∙ m; listed = h .listed }
-finished p idle g nu st c a st′ e f (ended converged s) l₀ l h =
-    let n : nu ≡ s .nu = ap (λ (x : Iterate). x .nu) (h .reached) in
-    let m : st ≡ s .states = ap (λ (x : Iterate). x .states) (h .reached) in
-    record { answer = rw (h .answer, h .reached) at e; multipliers = n; states = rw (← n, ← m) (rw (h .answer) at f); listed = h .listed }
-finished p idle g nu st c a st′ e f (ended (conflict b r) s) l₀ l h =
-    let n : nu ≡ s .nu = ap (λ (x : Iterate). x .nu) (h .reached) in
-    let m : st ≡ s .states = ap (λ (x : Iterate). x .states) (h .reached) in
-    record { answer = rw (h .answer, h .reached) at e; multipliers = n; states = (rw (h .answer) at f) ∙ m; listed = h .listed }
+-- r is the run that g and the iterate tell
+module _ (p : box.Problem) (idle : ℕ) (g : Sweeping) (nu : List Float) (st : List ℕ) (c : Counts) (a : BoxAnswer) (st′ : List ℕ)
+    (e : a ≡ answered p idle g (iterate nu st c)) (f : st′ ≡ statesLeft p g (iterate nu st c)) (l₀ l : List ℕ) where
+  multipliers-are : (s : Iterate) → iterate nu st c ≡ s → nu ≡ s .nu
+  multipliers-are s h = ap (λ (x : Iterate). x .nu) h
+
+  states-are : (s : Iterate) → iterate nu st c ≡ s → st ≡ s .states
+  states-are s h = ap (λ (x : Iterate). x .states) h
+
+  finished : (r : Run) → Ran r l₀ g nu st c l → Finished (def.result p idle l₀ r) a nu st′ l
+  unfolding def.result def.unfound
+  finished (going s) h =
+      record { answer = rw (h .answer, h .reached) at e; multipliers = multipliers-are s (h .reached); states = rw (← multipliers-are s (h .reached), ← states-are s (h .reached)) (rw (h .answer) at f); listed = h .listed }
+  finished (ended exact s) h =
+      record { answer = rw (h .answer, h .reached) at e; multipliers = multipliers-are s (h .reached); states = (rw (h .answer) at f) ∙ states-are s (h .reached); listed = h .listed }
+  finished (ended converged s) h =
+      record { answer = rw (h .answer, h .reached) at e; multipliers = multipliers-are s (h .reached); states = rw (← multipliers-are s (h .reached), ← states-are s (h .reached)) (rw (h .answer) at f); listed = h .listed }
+  finished (ended (conflict b r) s) h =
+      record { answer = rw (h .answer, h .reached) at e; multipliers = multipliers-are s (h .reached); states = (rw (h .answer) at f) ∙ states-are s (h .reached); listed = h .listed }
 
 -- one law for each return: x is the residual, and q the report
 module _ (p : box.Problem) (idle : ℕ) (g : Sweeping) (nu : List Float) (st : List ℕ) (c : Counts) (x : Float) (e : x ≡ sweep.residual p st nu (box.size p)) (q : BoxReport) where
@@ -60,16 +60,16 @@ module _ (p : box.Problem) (idle : ℕ) (g : Sweeping) (nu : List Float) (st : L
 
   pub end-exact : g ≡ sweeping.Exact → q ≡ reported true true → (r : Run) (l₀ l : List ℕ) → Ran r l₀ g nu st c l → Finished (def.result p idle l₀ r) (Solved q) nu st l
   unfolding def.reportOf
-  end-exact h f = finished p idle g nu st c (Solved q) st (rw (h, f, e)) (rw h)
+  end-exact h f r l₀ l ran = finished p idle g nu st c (Solved q) st (rw (h, f, e)) (rw h) l₀ l r ran
 
   pub end-going : (n : ℕ) (st′ : List ℕ) → g ≡ sweeping.Going → q ≡ reported false false → st′ ≡ sweep.classified (p .lo) (p .hi) (p .scale) nu st n → n ≡ box.size p → (r : Run) (l₀ l : List ℕ) → Ran r l₀ g nu st c l → Finished (def.result p idle l₀ r) (Solved q) nu st′ l
   unfolding def.reportOf
-  end-going n st′ h f s m = finished p idle g nu st c (Solved q) st′ (rw (h, f, e)) (rw (h, s, m))
+  end-going n st′ h f s m r l₀ l ran = finished p idle g nu st c (Solved q) st′ (rw (h, f, e)) (rw (h, s, m)) l₀ l r ran
 
   pub end-converged : (n : ℕ) (st′ : List ℕ) → g ≡ sweeping.Converged → q ≡ reported true false → st′ ≡ sweep.classified (p .lo) (p .hi) (p .scale) nu st n → n ≡ box.size p → (r : Run) (l₀ l : List ℕ) → Ran r l₀ g nu st c l → Finished (def.result p idle l₀ r) (Solved q) nu st′ l
   unfolding def.reportOf
-  end-converged n st′ h f s m = finished p idle g nu st c (Solved q) st′ (rw (h, f, e)) (rw (h, s, m))
+  end-converged n st′ h f s m r l₀ l ran = finished p idle g nu st c (Solved q) st′ (rw (h, f, e)) (rw (h, s, m)) l₀ l r ran
 
   pub end-infeasible : (b : Cause) (k : ℕ) → g ≡ sweeping.Infeasible b k → q ≡ reported false false → (r : Run) (l₀ l : List ℕ) → Ran r l₀ g nu st c l → Finished (def.result p idle l₀ r) (Infeasible b k q) nu st l
   unfolding def.reportOf
-  end-infeasible b k h f = finished p idle g nu st c (Infeasible b k q) st (rw (h, f, e)) (rw h)
+  end-infeasible b k h f r l₀ l ran = finished p idle g nu st c (Infeasible b k q) st (rw (h, f, e)) (rw h) l₀ l r ran

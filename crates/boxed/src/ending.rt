@@ -57,7 +57,7 @@ fn classify(lo: &[f64], hi: &[f64], scale: &[f64], nu: &[f64], states: &mut [u8]
         ≡ sweeps.classified (now (lo .entry)) (now (hi .entry)) (now (scale .entry)) (now (nu .entry))
         (now (states .entry)) (length (now (nu .entry))) ⌝ }
 {
-    let n = states.len();
+    let n = nu.len();
     let mut i = 0;
     while i < n {
         classify_row(lo, hi, scale, nu, states, i);

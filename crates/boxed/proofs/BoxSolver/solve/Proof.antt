@@ -1,5 +1,4 @@
-use Rattle.box_rows.specs.Rows as box
-use Rattle.boxed.proofs.Accepting.{enough-states, lent}
+use Rattle.boxed.proofs.Accepting.{accepted-by, lent}
 use Rattle.boxed.proofs.Solving.{is-refused, is-solved}
 use lib.Seq.{length-take-le}
 use mathlib.Core.Path.{sym}
@@ -11,23 +10,17 @@ use Rattle.boxed.proofs.BoxSolver.solve.Tie as tie
 slice-relend-prefix-solve-rows : tie.Need-slice-relend-prefix-solve-rows
 slice-relend-prefix-solve-rows c =
     let at-if1 = c .before in
-    let at-refusal = at-if1 .before in
-    let a = at-refusal .before .before .before .before .before .before .before .before .before .before .before .before .before .before .args in
-    enough-states (box.problem (a .w .now) (a .u-free .now) (a .lo .now) (a .hi .now) (a .scale .now)) (a .motion .now) (a .nu .now) (a .states .now) (a .rows .now) (a .workspace .now) (at-refusal .refusal .result) (at-refusal .refusal .ensures) (at-if1 .if1 .left)
+    accepted-by _ _ _ _ _ _ _ (at-if1 .before .refusal .ensures) (at-if1 .if1 .left) .states
 
 slice-aggregate-solve-rows : tie.Need-slice-aggregate-solve-rows
 slice-aggregate-solve-rows c =
     let at-if1 = c .before .before in
-    let at-refusal = at-if1 .before in
-    let a = at-refusal .before .before .before .before .before .before .before .before .before .before .before .before .before .before .args in
-    sym (length-take-le _ _ (enough-states (box.problem (a .w .now) (a .u-free .now) (a .lo .now) (a .hi .now) (a .scale .now)) (a .motion .now) (a .nu .now) (a .states .now) (a .rows .now) (a .workspace .now) (at-refusal .refusal .result) (at-refusal .refusal .ensures) (at-if1 .if1 .left)))
+    sym (length-take-le _ _ (accepted-by _ _ _ _ _ _ _ (at-if1 .before .refusal .ensures) (at-if1 .if1 .left) .states))
 
 solve-rows-requires : tie.Need-solve-rows-requires
 solve-rows-requires c κs =
     let at-if1 = c .before .before .before .before in
-    let at-refusal = at-if1 .before in
-    let a = at-refusal .before .before .before .before .before .before .before .before .before .before .before .before .before .before .args in
-    lent (box.problem (a .w .now) (a .u-free .now) (a .lo .now) (a .hi .now) (a .scale .now)) (a .motion .now) (a .nu .now) (a .states .now) (a .rows .now) (a .workspace .now) (at-refusal .refusal .result) (at-refusal .refusal .ensures) (at-if1 .if1 .left)
+    lent _ _ _ _ _ _ _ (at-if1 .before .refusal .ensures) (at-if1 .if1 .left)
 
 pub solve-spec : {M : Type 1} → statement M
 solve-spec =

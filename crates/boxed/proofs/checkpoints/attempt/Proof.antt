@@ -1,6 +1,7 @@
+use Rattle.exact_pass.specs.Promise.{WORKSPACE}
 use Rattle.boxed.proofs.Checks.{mid-length, put-length, attempted}
 use lib.ListN.{length}
-use mathlib.Core.Path.{sym, ap, _∙_}
+use mathlib.Core.Path.{_∙_}
 use native.Mathlib.Omega.{arith}
 use borrow.Author.Needs.{needs}
 use Rattle.boxed.proofs.checkpoints.attempt.Statement.{statement}
@@ -10,16 +11,10 @@ settle-requires : tie.Need-settle-requires
 settle-requires c κs =
     let at-exact-pass = c .before .before .before .before .before .before .before .before .before .before .before in
     let at-copy = at-exact-pass .before .before .before .before .before .before .before in
-    let at-args = at-copy .before .before .before .before .before .before .before .before .before .before .before .before in
-    let at-pre = at-args in
-    let n = length (at-args .args .u-free .now) in
-    let room = put-length 1120 n (at-args .args .work .now) (at-copy .copy .last .1 .0) (omega (arith, at-pre .pre)) (ap length (at-copy .copy .ensures) ∙ at-pre .pre .lists .matrix .multipliers) in
-    mid-length 1120 n (at-exact-pass .exact-pass .last .1 .1 .1 .1 .1 .1 .1 .1 .0)
-    (omega (arith, at-pre .pre, at-exact-pass .exact-pass .kept .1 .1 .1 .1 .1 .1 .1 .1 .0, room))
-    ∙ sym (at-exact-pass .exact-pass .kept .1 .1 .1 .1 .1 .1 .0 ∙ at-pre .pre .lists .matrix .multipliers)
-
-abbrev to-exact-pass : tie.After-slice-known10 → tie.After-exact-pass
-to-exact-pass c = c .before .before .before .before .before .before .before .before .before .before .before .before .before .before
+    let at-entry = at-copy .before .before .before .before .before .before .before .before .before .before .before .before in
+    let n = length (at-entry .args .u-free .now) in
+    let l = put-length WORKSPACE n (at-entry .args .work .now) (at-copy .copy .last .1 .0) (omega (arith, at-entry .pre)) (omega (arith, at-copy, at-entry)) in
+    mid-length WORKSPACE n (at-exact-pass .exact-pass .last .1 .1 .1 .1 .1 .1 .1 .1 .0) (omega (arith, at-entry .pre, at-exact-pass)) ∙ omega (arith, at-exact-pass, at-entry)
 
 pub attempt-spec : {M : Type 1} → statement M
 attempt-spec =

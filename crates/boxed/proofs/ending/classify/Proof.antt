@@ -10,25 +10,22 @@ use Rattle.boxed.proofs.ending.classify.Statement.{statement}
 use Rattle.boxed.proofs.ending.classify.Tie as tie
 
 abbrev Inv-loop : tie.InvT-loop
-Inv-loop lo hi scale nu states₀ n i₀ states i = (i ≤ n) × (n ≡ length states₀) × (length states ≡ length states₀) × (states ≡ def.classified lo hi scale nu states₀ i)
+Inv-loop lo hi scale nu states₀ n i₀ states i = (i ≤ n) × (n ≡ length nu) × (length states ≡ length states₀) × (states ≡ def.classified lo hi scale nu states₀ i)
 
 abbrev μ-loop : tie.MeasureT-loop
 μ-loop lo hi scale nu states₀ n i₀ states i = n - i
 
 loop-holds : tie.Need-loop-holds Inv-loop μ-loop
 unfolding def.classified private.classifyRow
-loop-holds c = (search needs, search needs, search needs, turns-from _ _)
+loop-holds c = search (turns-from, needs)
 
 loop-again : tie.Need-loop-again Inv-loop μ-loop
 unfolding def.classified private.classifyRow
-loop-again c =
-    let at-classify-row = c .before .before in
-    let at-loop = at-classify-row .before .before .before in
-    (search needs, search needs, search needs, turns-again _ _ _ _ _ (at-loop .loop .inv .3) (at-classify-row .classify-row .ensures))
+loop-again c = search (turns-again, needs)
 
 returns : tie.Need-returns Inv-loop μ-loop
 unfolding def.classified private.classifyRow
-returns c = turns-done _ _ _ _ _ (omega arith) (omega arith) (c .before .loop .inv .3)
+returns c = search (turns-done, needs)
 
 pub classify-spec : {M : Type 1} → statement M
 classify-spec =
@@ -41,5 +38,5 @@ classify-spec =
     (λ c. omega arith)
     (λ c. omega arith)
     loop-again
-    (λ c. c .before .loop .inv .2)
+    (λ c. omega arith)
     returns)

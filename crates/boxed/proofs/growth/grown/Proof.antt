@@ -36,5 +36,5 @@ grown-spec =
     (λ c. omega arith)
     (λ c. omega arith)
     loop-again
-    (λ c. c .before .loop .inv .2)
+    (λ c. omega arith)
     (λ c. search (gather-done, needs)))

@@ -46,5 +46,5 @@ copy-spec =
     (λ c. omega arith)
     (λ c. omega arith)
     loop-again
-    (λ c. c .before .loop .inv .2)
+    (λ c. omega arith)
     returns)

@@ -11,14 +11,14 @@ use Rattle.boxed.proofs.start.start.Statement.{statement}
 use Rattle.boxed.proofs.start.start.Tie as tie
 
 abbrev Inv-loop : tie.InvT-loop
-Inv-loop w lo hi states₀ nu₀ n idle₀ i₀ states nu idle i = (i ≤ n) × (idle ≤ i) × (length nu ≡ length nu₀) × (length states ≡ length states₀) × (n ≡ length lo) × (private.started nu states idle ≡ def.start w n lo hi nu₀ states₀ i)
+Inv-loop w lo hi states₀ nu₀ n idle₀ i₀ states nu idle i = (i ≤ n) × (idle ≤ i) × (length nu ≡ length nu₀) × (length states ≡ length states₀) × (n ≡ length lo) × (private.started nu states idle ≡ def.start w (length lo) lo hi nu₀ states₀ i)
 
 abbrev μ-loop : tie.MeasureT-loop
 μ-loop w lo hi states₀ nu₀ n idle₀ i₀ states nu idle i = n - i
 
 loop-holds : tie.Need-loop-holds Inv-loop μ-loop
 unfolding def.start private.startRow
-loop-holds c = (search needs, search needs, search needs, search needs, search needs, turns-from _ _)
+loop-holds c = search (turns-from, needs)
 
 loop-again : tie.Need-loop-again Inv-loop μ-loop
 unfolding def.start private.startRow
@@ -33,7 +33,7 @@ loop-again c =
 
 returns : tie.Need-returns Inv-loop μ-loop
 unfolding def.start private.startRow
-returns c = record { start = turns-done _ _ _ _ _ (omega arith) (omega arith) (c .before .loop .inv .5); within = search needs }
+returns c = record { start = search (turns-done, needs); within = search needs }
 
 pub start-spec : {M : Type 1} → statement M
 start-spec =
@@ -50,6 +50,6 @@ start-spec =
     (λ c. omega arith)
     (λ c. omega arith)
     loop-again
-    (λ c. c .before .loop .inv .3)
-    (λ c. c .before .loop .inv .2)
+    (λ c. omega arith)
+    (λ c. omega arith)
     returns)

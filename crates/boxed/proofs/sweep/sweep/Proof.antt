@@ -28,14 +28,6 @@ loop-holds c =
     let at-args = c .before .before .before .before .before .before .before in
     (search needs, search needs, search needs, turns-from _ _, search needs, front-start (at-args .args .nu .now) (at-args .args .before .now), search needs, stopped-start _ _ _ _ _ _)
 
--- src/sweep.rt:60:30
-at-requires : tie.Need-at-requires Inv-loop μ-loop
-at-requires c κs = omega arith
-
--- src/sweep.rt:60:9
-put-requires : tie.Need-put-requires Inv-loop μ-loop
-put-requires c κs = omega arith
-
 loop-again : tie.Need-loop-again Inv-loop μ-loop
 unfolding def.sweep private.sweepRow
 loop-again c =
@@ -54,10 +46,6 @@ loop-again c =
       at-sweep-row .sweep-row .ensures .within,
       stopped-again _ _ _ _ _ _ _ _ _ _ (at-loop .loop .inv .7) (at-loop .loop .inv .3) (at-sweep-row .sweep-row .ensures .stopped),
     )
-
--- src/sweep.rt:40:1
-same-length-2 : tie.Need-same-length-2 Inv-loop μ-loop
-same-length-2 c = c .before .loop .inv .4
 
 returns : tie.Need-returns Inv-loop μ-loop
 unfolding def.sweep private.sweepRow
@@ -80,12 +68,12 @@ sweep-spec =
     Inv-loop
     μ-loop
     loop-holds
-    at-requires
-    put-requires
+    (λ c κs. omega arith)
+    (λ c κs. omega arith)
     (λ c κs. omega arith)
     (λ c. omega arith)
     (λ c. omega arith)
     loop-again
-    (λ c. c .before .loop .inv .2)
-    same-length-2
+    (λ c. omega arith)
+    (λ c. c .before .loop .inv .4)
     returns)

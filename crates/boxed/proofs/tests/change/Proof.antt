@@ -44,5 +44,5 @@ change-spec =
     (λ c. omega arith)
     (λ c. omega arith)
     loop-again
-    (λ c. c .before .loop .inv .2)
+    (λ c. omega arith)
     returns)

@@ -19,7 +19,7 @@ abbrev μ-loop : tie.MeasureT-loop
 
 loop-holds : tie.Need-loop-holds Inv-loop μ-loop
 unfolding def.moved private.coordinate
-loop-holds c = (search needs, search needs, search needs, turns-from _ _)
+loop-holds c = search (turns-from, needs)
 
 add-c : tie.Need-add-c Inv-loop μ-loop
 add-c c =

@@ -22,9 +22,7 @@ loop-holds c = search (turns-from, needs)
 
 loop-again : tie.Need-loop-again Inv-loop μ-loop
 unfolding def.residual private.residualRow
-loop-again c =
-    let at-loop = c .before .before in
-    (search needs, search needs, turns-again _ _ _ _ _ (at-loop .loop .inv .2) (c .residual-row .ensures))
+loop-again c = search (turns-again, needs)
 
 returns : tie.Need-returns Inv-loop μ-loop
 unfolding def.residual private.residualRow
