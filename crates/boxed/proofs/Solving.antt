@@ -12,7 +12,7 @@ use Rattle.boxed.specs.Sweep as sweeps
 use Rattle.boxed.specs.Private as private
 use Rattle.boxed.specs.Solve as def
 use Rattle.boxed.specs.Solve.{iterate, Watch, Left}
-use Rattle.boxed.specs.Private.{USED, Ran, Worked, Finished}
+use Rattle.boxed.specs.Private.{USED, Worked, Answered}
 use Rattle.boxed.proofs.Finishing.{solve-uses}
 use Rattle.boxed.specs.declared.BoxReport.{BoxReport}
 use Rattle.boxed.specs.declared.Counts.{Counts}
@@ -38,7 +38,7 @@ module _ (cap : ℕ) (p : box.Problem) (m : Watch) (nu : List Float) (st l : Lis
   -- g is how the run has ended
   pub some-act : (idle ≡ box.size p → ⊥) → (g : Sweeping) (nu₂ : List Float) (st₂ : List ℕ) (c : Counts) (r : BoxAnswer) (st′ l′ : List ℕ) (w w′ : List Float)
       → Worked (def.run cap p m (iterate nu₁ st₁ (def.counts 0 0 0)) cap) l w g nu₂ st₂ c l′ w′
-      → ((x : def.Run) (l₀ l : List ℕ) → Ran x l₀ g nu₂ st₂ c l → Finished (def.result p idle l₀ x) r nu₂ st′ l)
+      → Answered p idle g nu₂ st₂ c r st′
       → Left (def.solve cap p m nu st l) r nu₂ st′ l′ w w′
   some-act h g nu₂ st₂ c r st′ l′ w w′ d k =
       let e = solve-is h in

@@ -22,7 +22,7 @@ use Rattle.boxed.specs.declared.BoxReport.{BoxReport}
 use Rattle.boxed.specs.declared.BoxAnswer.{BoxAnswer}
 use Rattle.boxed.specs.Sweep as sweep
 use Rattle.boxed.specs.Solve.{Run, going, ended, exact, converged, conflict}
-use Rattle.boxed.specs.Solve.{Iterate, iterate, tried, passed, Outcome, Result, answerOf}
+use Rattle.boxed.specs.Solve.{Iterate, iterate, tried, passed, Outcome, Result, result, answerOf}
 
 abbrev pub isGoing : Sweeping → Bool
 isGoing sweeping.Going = true
@@ -200,6 +200,10 @@ pub record Finished (x : Result) (r : BoxAnswer) (nu : List Float) (st l : List 
   pub multipliers : nu ≡ x .nu
   pub states : st ≡ x .states
   pub listed : l ≡ x .listed
+
+-- the answer a, and the states st′ left, where a run has come to the iterate of nu, st and c and goes on as g
+abbrev pub Answered : box.Problem → ℕ → Sweeping → List Float → List ℕ → Counts → BoxAnswer → List ℕ → Type 0
+Answered p idle g nu st c a st′ = (r : Run) (l₀ l : List ℕ) → Ran r l₀ g nu st c l → Finished (result p idle l₀ r) a nu st′ l
 
 -- ---- single rows and short words of Sweep.antt, as the functions have them
 

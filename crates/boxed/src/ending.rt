@@ -1,11 +1,8 @@
 // What a solve reports and leaves.
 ghost use mathlib.Core.Path.{_≡_};
-ghost use mathlib.Core.List.{List};
-ghost use Prim.Native.Nat.{ℕ};
 ghost use lib.ListN.{length};
 ghost use Rattle.box_rows.specs.Rows as box;
 ghost use Rattle.boxed.specs.Sweep as sweeps;
-ghost use Rattle.boxed.specs.Solve as def;
 ghost use Rattle.boxed.specs.Private as private;
 use crate::BoxAnswer;
 use crate::BoxReport;
@@ -101,13 +98,10 @@ pub fn answer(
 ) -> BoxAnswer
     requires { ⌜
         private.Lists (box.problem (now w) (now «u_free») (now lo) (now hi) (now scale)) (now states) (now nu) ⌝ }
-    ensures { λ q. ⌜ ((r : def.Run) (l₀ l : List ℕ)
-        → private.Ran r l₀ (progress .sweeping) (now (nu .entry)) (now (states .entry)) (progress .counts) l
-        → private.Finished
-        (def.result
+    ensures { λ q. ⌜ private.Answered
         (box.problem (now (w .entry)) (now («u_free» .entry)) (now (lo .entry)) (now (hi .entry)) (now (scale .entry)))
-        idle l₀ r)
-        q (now (nu .entry)) (now (states .exit)) l) ⌝ }
+        idle (progress .sweeping) (now (nu .entry)) (now (states .entry)) (progress .counts)
+        q (now (states .exit)) ⌝ }
 {
     let residual = tests::residual(w, u_free, lo, hi, scale, states, nu);
     let s = progress.sweeping;
