@@ -53,18 +53,18 @@ module _ (cap : ℕ) (p : box.Problem) (m : Watch) (nu : List Float) (st l : Lis
 
 -- ---- a number refuses, and 0 does not
 
-module _ (p : box.Problem) (m : Watch) (nu : List Float) (st l : List ℕ) (room number : ℕ) (e : number ≡ def.refusal p (m .motion) nu st l room) where
+module _ (p : box.Problem) (m : Watch) (nu : List Float) (st l : List ℕ) (workspace number : ℕ) (e : number ≡ def.refusal p (m .motion) nu st l workspace) where
   refused : (k : ℕ) → (k ≡ 0 → ⊥) → (w : List Float) → Left (def.reply def.SWEEP_CAP p m nu st l k) (Refused k) nu st l w w
   unfolding def.reply
   refused zero h w = absurd (h refl)
   refused (suc k) h w = record { answer = refl; multipliers = refl; states = refl; listed = refl; workspace = refl }
 
-  pub is-refused : (number ≡ 0 → ⊥) → (w : List Float) → Left (def.solveReply p m nu st l room) (Refused number) nu st l w w
+  pub is-refused : (number ≡ 0 → ⊥) → (w : List Float) → Left (def.solveReply p m nu st l workspace) (Refused number) nu st l w w
   unfolding def.solveReply
   is-refused h w = rw (← e) (refused number h w)
 
   pub is-solved : number ≡ 0 → (r : BoxAnswer) (nu′ : List Float) (st′ l′ : List ℕ) (w w′ : List Float) → Left (def.solve def.SWEEP_CAP p m nu (take (box.size p) st) l) r nu′ st′ l′ w w′
-      → Left (def.solveReply p m nu st l room) r nu′ (st′ ++ drop (box.size p) st) l′ w w′
+      → Left (def.solveReply p m nu st l workspace) r nu′ (st′ ++ drop (box.size p) st) l′ w w′
   unfolding def.solveReply def.reply
   is-solved h r nu′ st′ l′ w w′ f =
       rw (← e, h)

@@ -54,7 +54,7 @@ all-fit z v rows e h =
       le-leb _ _ h,
     )
 
--- ---- the change of the multipliers is the direction of the ray: it stands at the front of an array that z ends
+-- ---- the change of the multipliers is the direction of the ray: it is the front of an array that z ends
 
 change-length : (nu before : List Float) (n : ℕ) → length (sweep.change nu before n) ≡ n
 unfolding sweep.change
@@ -94,6 +94,6 @@ module _ (p : box.Problem) (motion : List Float) (tolerance : Float) (nu before 
     unfolding def.tested
     has-converged g c = rw (← e, h, ← f, g) (record { answer = refl; reached = refl; listed = refl })
 
-    pub along-ray : le r 1e-9 ≡ false → (q : Sweeping) (rows′ : List ℕ) → ((c : Counts) → Ran (def.unless cause.Sweep (iterate nu st c) (ray p st (sweep.change nu before (box.size p)))) rows q nu st c rows′) → (c : Counts) → Ran (def.tested p (watch motion tolerance) before (going (iterate nu st c))) rows q nu st c rows′
+    pub tries-ray : le r 1e-9 ≡ false → (q : Sweeping) (rows′ : List ℕ) → ((c : Counts) → Ran (def.unless cause.Sweep (iterate nu st c) (ray p st (sweep.change nu before (box.size p)))) rows q nu st c rows′) → (c : Counts) → Ran (def.tested p (watch motion tolerance) before (going (iterate nu st c))) rows q nu st c rows′
     unfolding def.tested
-    along-ray g q rows′ m c = rw (← e, h, ← f, g) (m c)
+    tries-ray g q rows′ m c = rw (← e, h, ← f, g) (m c)

@@ -61,8 +61,8 @@ module _ (cap : ℕ) (p : box.Problem) (m : Watch) (nu : List Float) (st : List 
   told g c = record { sweeping = g; counts = c }
 
   -- what this turn comes to
-  abbrev Turned : Progress → List Float → List ℕ → List ℕ → List Float → Type 0
-  Turned q nu′ st′ rows′ work′ = Counted (def.turn cap p m i (going (iterate nu st n))) rows work (n .sweeps + 1) (n .passes + 1) q nu′ st′ rows′ work′
+  abbrev TurnCounted : Progress → List Float → List ℕ → List ℕ → List Float → Type 0
+  TurnCounted q nu′ st′ rows′ work′ = Counted (def.turn cap p m i (going (iterate nu st n))) rows work (n .sweeps + 1) (n .passes + 1) q nu′ st′ rows′ work′
 
   abbrev fighting : List ℕ
   fighting = sweeps.grown nu₁ (p .scale) (length nu₁)
@@ -78,7 +78,7 @@ module _ (cap : ℕ) (p : box.Problem) (m : Watch) (nu : List Float) (st : List 
   unfolding private.isGrown
   front = record { count = grew .count; front = grew .front }
 
-  pub turn-grown : (k ≡ 0 → ⊥) → Turned (told (sweeping.Infeasible cause.Growth k) c) nu₁ st rows₁ work
+  pub turn-grown : (k ≡ 0 → ⊥) → TurnCounted (told (sweeping.Infeasible cause.Growth k) c) nu₁ st rows₁ work
   turn-grown h =
       let g : Sweeping = sweeping.Infeasible cause.Growth k in
       let r : Ran after rows g nu₁ st c rows₁ = some-fight cause.Growth nu₁ st rows k rows₁ fighting front h c in
@@ -101,7 +101,7 @@ module _ (cap : ℕ) (p : box.Problem) (m : Watch) (nu : List Float) (st : List 
     rows-stay : rows₁ ≡ rows
     rows-stay = none-grown none .1
 
-    pub turn-ended : not b ≡ true → Turned q nu₂ st₂ rows₂ work₂
+    pub turn-ended : not b ≡ true → TurnCounted q nu₂ st₂ rows₂ work₂
     turn-ended f =
         let r = checked .ran in
         record {
@@ -113,7 +113,7 @@ module _ (cap : ℕ) (p : box.Problem) (m : Watch) (nu : List Float) (st : List 
 
     -- the copy of the multipliers before the sweep is at the front of an array that y ends
     pub turn-tested : not b ≡ false → (y : List Float) (g : Sweeping) (rows₃ : List ℕ)
-        → ((d : Counts) → Ran (def.tested p m (take (box.size p) (old ++ y)) (going (iterate nu₂ st₂ d))) rows₂ g nu₂ st₂ d rows₃) → Turned (told g (q .counts)) nu₂ st₂ rows₃ work₂
+        → ((d : Counts) → Ran (def.tested p m (take (box.size p) (old ++ y)) (going (iterate nu₂ st₂ d))) rows₂ g nu₂ st₂ d rows₃) → TurnCounted (told g (q .counts)) nu₂ st₂ rows₃ work₂
     turn-tested f y g rows₃ h =
         let x = goes-on rows₁ (q .sweeping) nu₂ st₂ (q .counts) rows₂ (def.checked cap p (going (iterate nu₁ st c))) (checked .ran) (sym on ∙ not-false b f) in
         let e : take (box.size p) (old ++ y) ≡ nu = take-at old y (box.size p) (swept .before-long) ∙ swept .before in

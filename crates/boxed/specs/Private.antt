@@ -1,4 +1,4 @@
--- Words of private contracts: what the code tells of a run between two sweeps, and what it leaves. No promise of a public call stands on them; those are in Solve.antt.
+-- Words of private contracts: what the code tells of a run between two sweeps, and what it leaves. No promise of a public call rests on them; those are in Solve.antt.
 -- Definitions only.
 use Prim.Native.Nat.{ℕ, suc, _*_, _≤_, _<_}
 use mathlib.Core.Path.{_≡_}

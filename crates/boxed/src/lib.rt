@@ -141,8 +141,8 @@ fn solve_rows(
 pub struct BoxSolver {}
 
 impl BoxSolver {
-    // The number with which `solve` refuses such a call, 5 to 10, or 0 where it takes it. `room` is the workspace's
-    // length.
+    // The number with which `solve` refuses such a call, 5 to 10, or 0 where it takes it. `workspace` is the
+    // length of the workspace.
     pub fn refusal(
         w: &[f64],
         u_free: &[f64],
@@ -153,14 +153,25 @@ impl BoxSolver {
         nu: &[f64],
         states: &[u8],
         rows: &[usize],
-        room: usize,
+        workspace: usize,
     ) -> u32
         ensures { λ r. ⌜ r ≡ def.refusal
             (box.problem (now (w .entry)) (now («u_free» .entry)) (now (lo .entry)) (now (hi .entry))
             (now (scale .entry)))
-            (now (motion .entry)) (now (nu .entry)) (now (states .entry)) (now (rows .entry)) room ⌝ }
+            (now (motion .entry)) (now (nu .entry)) (now (states .entry)) (now (rows .entry)) workspace ⌝ }
     {
-        refusal::refusal(w, u_free, lo, hi, scale, motion, nu, states, rows, room)
+        refusal::refusal(
+            w,
+            u_free,
+            lo,
+            hi,
+            scale,
+            motion,
+            nu,
+            states,
+            rows,
+            workspace,
+        )
     }
 
     // From the multipliers in nu, those that solve the problem, in their place, with a state for each row; or the rows

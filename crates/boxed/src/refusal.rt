@@ -78,10 +78,10 @@ fn uneven(motion: usize, n: usize) -> bool
 }
 
 // 10: a workspace, states or a row list that are too short.
-fn too_short(room: usize, states: usize, rows: usize, n: usize) -> bool
-    ensures { λ r. ⌜ r ≡ (ltb room 2304 || ltb states n || ltb rows n) ⌝ }
+fn too_short(workspace: usize, states: usize, rows: usize, n: usize) -> bool
+    ensures { λ r. ⌜ r ≡ (ltb workspace 2304 || ltb states n || ltb rows n) ⌝ }
 {
-    if room < crate::WORKSPACE {
+    if workspace < crate::WORKSPACE {
         return true;
     }
     if states < n {
@@ -101,11 +101,11 @@ pub fn refusal(
     nu: &[f64],
     states: &[u8],
     rows: &[usize],
-    room: usize,
+    workspace: usize,
 ) -> u32
     ensures { λ r. ⌜ r ≡ def.refusal
         (box.problem (now (w .entry)) (now («u_free» .entry)) (now (lo .entry)) (now (hi .entry)) (now (scale .entry)))
-        (now (motion .entry)) (now (nu .entry)) (now (states .entry)) (now (rows .entry)) room ⌝ }
+        (now (motion .entry)) (now (nu .entry)) (now (states .entry)) (now (rows .entry)) workspace ⌝ }
 {
     let n = u_free.len();
     if too_large(n, motion.len()) {
@@ -123,7 +123,7 @@ pub fn refusal(
     if uneven(motion.len(), n) {
         return 9;
     }
-    if too_short(room, states.len(), rows.len(), n) {
+    if too_short(workspace, states.len(), rows.len(), n) {
         return 10;
     }
     0

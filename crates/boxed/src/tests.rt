@@ -1,5 +1,5 @@
 // The tests after a sweep: whether the motion has stopped, whether a residual is left, and whether the multipliers
-// still move along a ray.
+// still move in the direction of a ray.
 ghost use mathlib.Core.Path.{_≡_};
 ghost use Prim.Native.Nat.{_/_};
 ghost use lib.ListN.{length};

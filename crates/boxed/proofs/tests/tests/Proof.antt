@@ -1,6 +1,6 @@
 use borrow.Author.Needs.{needs}
 use native.Mathlib.Omega.{arith}
-use Rattle.boxed.proofs.Testing.{still-moves, has-converged, along-ray}
+use Rattle.boxed.proofs.Testing.{still-moves, has-converged, tries-ray}
 use Rattle.boxed.proofs.tests.tests.Statement.{statement}
 use Rattle.boxed.proofs.tests.tests.Tie as tie
 
@@ -13,5 +13,5 @@ tests-spec =
     (λ c. search (has-converged, needs))
     (λ c κs. omega arith)
     (λ c. omega arith)
-    (λ c. search (along-ray, needs))
+    (λ c. search (tries-ray, needs))
     (λ c. search (still-moves, needs)))
