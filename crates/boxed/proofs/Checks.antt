@@ -6,7 +6,7 @@ use mathlib.Core.List.{List, [], _∷_, _++_}
 use native.Mathlib.Omega.{arith}
 use native.Mathlib.Numerals.{add-one}
 use lib.Dec.{eqb}
-use lib.ListN.{length, getD, take, drop, drop-of-length-le, length-append, length-drop}
+use lib.ListN.{length, getD, take, drop, drop-of-length-le, length-drop}
 use lib.Seq.{drop-cons, drop-at, take-at, length-take-le}
 use lib.Ieee.{Float}
 use borrow.Author.Tests.{eq-eqb, ne-eqb, le-leb}
@@ -79,14 +79,6 @@ settled e x v nu g nu′ i a n st₀ c (failed t) l₀ st l h =
 settled e x v nu g nu′ i a n st₀ c (infeasible r t) l₀ st l h =
     let y = sym i ∙ h .answer in
     record { answer = rw (a, y); reached = rw (n, y, states-are (h .tried)); listed = h .listed }
-
--- ---- n values at the front of a list
-
-pub front-within : (t y : List Float) (n : ℕ) → length t ≡ n → n ≤ length (t ++ y)
-front-within t y n e = omega (arith, length-append t y)
-
-pub front-length : (t y : List Float) (n : ℕ) → length t ≡ n → length (take n (t ++ y)) ≡ n
-front-length t y n e = rw (take-at t y n e) e
 
 -- ---- a pass whose lists fit
 

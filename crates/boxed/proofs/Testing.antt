@@ -17,7 +17,7 @@ use Rattle.boxed.specs.Sweep as sweep
 use Rattle.boxed.specs.Private as private
 use Rattle.boxed.specs.Solve as def
 use Rattle.boxed.specs.Solve.{iterate, watch, going}
-use Rattle.boxed.specs.Private.{Ran, Lists}
+use Rattle.boxed.specs.Private.{Ran, Lists, TestLists}
 use Rattle.boxed.specs.declared.Cause.{Cause}
 use Rattle.boxed.specs.declared.Cause.the-variants as cause
 use Rattle.boxed.specs.declared.Counts.{Counts}
@@ -54,7 +54,15 @@ all-fit z v rows e h =
       le-leb _ _ h,
     )
 
--- ---- the change of the multipliers is the direction of the ray: it is the front of an array that z ends
+-- ---- n values at the front of a list
+
+pub front-within : (t y : List Float) (n : ℕ) → length t ≡ n → n ≤ length (t ++ y)
+front-within t y n e = omega (arith, length-append t y)
+
+pub front-length : (t y : List Float) (n : ℕ) → length t ≡ n → length (take n (t ++ y)) ≡ n
+front-length t y n e = rw (take-at t y n e) e
+
+-- ---- the change of the multipliers is the direction of the ray: y is the front of an array that z ends
 
 change-length : (nu before : List Float) (n : ℕ) → length (sweep.change nu before n) ≡ n
 unfolding sweep.change
@@ -67,19 +75,32 @@ module _ (nu before y z : List Float) (n : ℕ) (e : y ≡ sweep.change nu befor
   long : length y ≡ n
   long = ap length changed ∙ change-length nu before n
 
-  pub changed-le : n ≤ length (y ++ z)
-  changed-le = omega (arith, length-append y z, long)
+  pub changed-within : n ≤ length (y ++ z)
+  changed-within = front-within y z n long
 
-  pub changed-front : take n (y ++ z) ≡ sweep.change nu before n
+  pub changed-length : length (take n (y ++ z)) ≡ n
+  changed-length = front-length y z n long
+
+  changed-front : take n (y ++ z) ≡ sweep.change nu before n
   changed-front = take-at y z n long ∙ changed
 
-pub ray-front : (p : box.Problem) (st : List ℕ) (nu before y : List Float) (rows : List ℕ) (k : ℕ) (rows′ : List ℕ)
-    → Lists p st nu → box.size p ≤ length rows → y ≡ sweep.change nu before (box.size p)
-    → Front (rayReply p st y rows) rows k rows′ → Front (ray p st (sweep.change nu before (box.size p))) rows k rows′
-unfolding rayReply
-ray-front p st nu before y rows k rows′ z h e f =
-    let g : length y ≡ box.size p = ap length e ∙ change-length nu before (box.size p) in
-    rw (← e) (rw (all-fit z y rows g h) at f)
+module _ (p : box.Problem) (st : List ℕ) (nu before y z : List Float) (rows : List ℕ) (k : ℕ) (rows′ : List ℕ) (lent : TestLists p st nu before rows)
+    (e : y ≡ sweep.change nu before (length nu)) (f : Front (rayReply p st (take (box.size p) (y ++ z)) rows) rows k rows′) where
+  abbrev fighting : List ℕ
+  fighting = ray p st (sweep.change nu before (box.size p))
+
+  ray-front : Front fighting rows k rows′
+  unfolding rayReply
+  ray-front =
+      let n = lent .lists .matrix .multipliers in
+      let d = changed-front nu before y z (box.size p) e n in
+      rw (← d) (rw (all-fit (lent .lists) (take (box.size p) (y ++ z)) rows (changed-length nu before y z (box.size p) e n) (lent .listed)) at f)
+
+  pub no-ray : k ≡ 0 → (c : Counts) → Ran (def.unless cause.Sweep (iterate nu st c) fighting) rows sweeping.Going nu st c rows′
+  no-ray h = none-fight cause.Sweep nu st rows k rows′ fighting ray-front h
+
+  pub some-ray : (k ≡ 0 → ⊥) → (c : Counts) → Ran (def.unless cause.Sweep (iterate nu st c) fighting) rows (sweeping.Infeasible cause.Sweep k) nu st c rows′
+  some-ray h = some-fight cause.Sweep nu st rows k rows′ fighting ray-front h
 
 -- ---- the tests: v is the motion, and r the residual
 

@@ -1,5 +1,5 @@
 use borrow.Author.Needs.{needs}
-use Rattle.boxed.proofs.Checks.{front-within, front-length}
+use Rattle.boxed.proofs.Testing.{front-within, front-length}
 use Rattle.boxed.proofs.Turns.{turn-grown, turn-ended, turn-tested}
 use lib.Seq.{length-take-le}
 use mathlib.Core.Path.{refl}
