@@ -8,7 +8,7 @@ use lib.Ieee.{nan}
 use Rattle.loops.specs.Loops.{pasted}
 use Rattle.loops.proofs.Paste.{front-start, front-again, front-done, front-whole}
 use Rattle.boxed.proofs.Later.{sweep-later}
-use Rattle.boxed.proofs.Stopping.{stopped-start, stopped-again, stopped-done}
+use Rattle.boxed.proofs.Stopping.{stopped-again}
 use borrow.Author.Needs.{needs}
 use native.Mathlib.Omega.{arith}
 use Rattle.boxed.proofs.sweep.sweep.Statement.{statement}
@@ -23,10 +23,10 @@ abbrev μ-loop : tie.MeasureT-loop
 μ-loop w u-free lo hi states nu₀ before₀ n k₀ i₀ nu before k i = n - i
 
 loop-holds : tie.Need-loop-holds Inv-loop μ-loop
-unfolding def.sweep private.sweepRow
+unfolding def.sweep def.stopped private.sweepRow
 loop-holds c =
     let at-args = c .before .before .before .before .before .before .before in
-    (search needs, search needs, search needs, turns-from _ _, search needs, front-start (at-args .args .nu .now) (at-args .args .before .now), search needs, stopped-start _ _ _ _ _ _)
+    (search needs, search needs, search needs, turns-from _ _, search needs, front-start (at-args .args .nu .now) (at-args .args .before .now), search needs, turns-from _ _)
 
 loop-again : tie.Need-loop-again Inv-loop μ-loop
 unfolding def.sweep private.sweepRow
@@ -48,7 +48,7 @@ loop-again c =
     )
 
 returns : tie.Need-returns Inv-loop μ-loop
-unfolding def.sweep private.sweepRow
+unfolding def.sweep def.stopped private.sweepRow
 returns c =
     let at-loop = c .before in
     let at-args = at-loop .before .before .before .before .before .before .before .before in
@@ -58,7 +58,7 @@ returns c =
       before = front-done (at-args .args .nu .now) (at-args .args .before .now) (at-loop .loop .i) (at-loop .loop .before) (at-loop .loop .inv .5) (omega arith)
           ∙ front-whole (at-args .args .nu .now) (at-args .args .before .now) (omega arith);
       before-long = omega arith;
-      stopped = stopped-done _ _ _ _ _ _ _ _ _ (omega arith) (omega arith) (at-loop .loop .inv .7);
+      stopped = turns-done _ _ _ _ _ (omega arith) (omega arith) (at-loop .loop .inv .7);
     }
 
 pub sweep-spec : {M : Type 1} → statement M
