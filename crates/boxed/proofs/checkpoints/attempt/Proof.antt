@@ -16,6 +16,14 @@ settle-requires c κs =
     let l = put-length WORKSPACE n (at-entry .args .work .now) (at-copy .copy .last .1 .0) (omega (arith, at-entry .pre)) (omega (arith, at-copy, at-entry)) in
     mid-length WORKSPACE n (at-exact-pass .exact-pass .last .1 .1 .1 .1 .1 .1 .1 .1 .0) (omega (arith, at-entry .pre, at-exact-pass)) ∙ omega (arith, at-exact-pass, at-entry)
 
+returns : tie.Need-returns
+returns c =
+    let at-exact-pass = c .before .before .before .before .before .before .before .before .before .before .before .before .before .before in
+    let at-copy = at-exact-pass .before .before .before .before .before .before .before in
+    let at-entry = at-copy .before .before .before .before .before .before .before .before .before .before .before .before in
+    attempted _ _ _ _ (at-entry .args .work .now) (at-entry .pre) _ _ _ _ _ (at-copy .copy .last .1 .0) _ _
+    (at-copy .copy .ensures) (at-exact-pass .exact-pass .ensures) (c .before .before .settle .ensures)
+
 pub attempt-spec : {M : Type 1} → statement M
 attempt-spec =
     tie.close
@@ -34,4 +42,4 @@ attempt-spec =
     (λ c. omega arith)
     (λ c. omega arith)
     (λ c. search needs)
-    (λ c. search (attempted, needs)))
+    returns)
