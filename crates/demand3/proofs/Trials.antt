@@ -244,7 +244,6 @@ module _ (p : Problem) (st : List ℕ) (nu : List Float) where
       go false f z = this l w
 
   worst-released : Released p st nu (size p) (passes.worstRow p st nu (size p))
-  unfolding passes.worstRow
   worst-released =
       turns-keep (passes.releaseRow p st nu) (record { residual = 1e-9; row = size p }) (Released p st nu) (size p) (nothing refl refl λ i b. absurd (not-suc-le-zero b))
       λ i x c k. row-released i x c k
@@ -282,7 +281,7 @@ record Wrote (p : Problem) (first : Trial) (nu : List Float) (st : List ℕ) : T
 module _ (p : Problem) (base : List Float) (first : Trial) where
   release-passing : (t : Trial) → Tries p base t → (w : Wrote p first (t .nu) (t .states)) → pass.steps p first (suc (w .before)) ≡ pass.release p t
       → Passing p base first (pass.release p t)
-  unfolding pass.release passes.worstRow passes.releaseRow pushed worse
+  unfolding pass.release passes.releaseRow pushed worse
   release-passing t h w came = go (passes.worstRow p (t .states) (t .nu) (size p)) (worst-released p (t .states) (t .nu)) came
     where
       go : (b : Worst) → Released p (t .states) (t .nu) (size p) b
@@ -332,9 +331,14 @@ module _ (p : Problem) (base : List Float) (first : Trial) where
           written = λ i b z. advanced-at (t .states) (size p) (directionOf p t) alpha (t .nu) (h .long) i b z ∙ ap (λ (f : Float). at (t .nu) i ⊕ f ⊗ directionAt p t i) e;
         }
 
-    stepped-passing : (r : Blocking) → r .alpha ≡ stepLength p t → Blocks p (t .states) r → next ≡ passes.stepped p t (freeIn p t) (directionOf p t) r
-        → Passing p base first (passes.stepped p t (freeIn p t) (directionOf p t) r)
-    unfolding passes.stepped passes.unbounded wrote
+    -- the step that the ratio test r allows
+    abbrev stepped : Blocking → Pass
+    stepped r =
+        let u = trial (pass.advance (freeIn p t) (directionOf p t) (r .alpha) (t .nu) (length (freeIn p t))) (t .states) in
+        cond (isFinite (r .alpha)) (cond (eqb (r .state) 0) (pass.release p u) (moved (pass.hold (p .lo) (p .hi) u r))) (passes.unbounded p t (freeIn p t) (directionOf p t))
+
+    stepped-passing : (r : Blocking) → r .alpha ≡ stepLength p t → Blocks p (t .states) r → next ≡ stepped r → Passing p base first (stepped r)
+    unfolding passes.unbounded wrote
     stepped-passing r e s came = pick (isFinite (r .alpha)) came
       where
         u : Trial
@@ -348,17 +352,17 @@ module _ (p : Problem) (base : List Float) (first : Trial) where
         pick true c = blocked-passing u r (advanced-tries p base t (directionOf p t) (r .alpha) h) (wrote (r .alpha) e) s c
         pick false c = unmet-passing t (ray p (t .states) y) h (ray-gathered p (t .states) y)
 
-    toward-passing : next ≡ passes.toward p t (freeIn p t) → Passing p base first (passes.toward p t (freeIn p t))
-    unfolding passes.toward passes.takeStep directionOf stepLength
-    toward-passing came =
+    free-step-passing : next ≡ passes.freeStep p t (freeIn p t) → Passing p base first (passes.freeStep p t (freeIn p t))
+    unfolding passes.freeStep passes.takeStep directionOf stepLength
+    free-step-passing came =
         stepped-passing (pass.ratioTest (p .lo) (p .hi) (freeIn p t) (t .nu) (directionOf p t) (pass.longest (targetOf p t .inconsistent)) (length (freeIn p t))) refl
         (test-blocks p (t .states) (t .nu) (directionOf p t) (pass.longest (targetOf p t .inconsistent))) came
 
     free-passing : (l : List ℕ) → l ≡ freeIn p t → next ≡ pass.stepOf p t l → Passing p base first (pass.stepOf p t l)
-    unfolding pass.stepOf passes.toward passes.takeStep passes.stepped passes.unbounded
+    unfolding pass.stepOf passes.freeStep passes.takeStep passes.unbounded
     free-passing [] e came =
         release-passing t h (record { before = k; from = t .nu; tried = tried; written = λ i b z. absurd (none-free (t .states) (size p) i (sym e) b z) }) came
-    free-passing (a ∷ l) e came = subst (λ (l : List ℕ). next ≡ passes.toward p t l → Passing p base first (passes.toward p t l)) (sym e) toward-passing came
+    free-passing (a ∷ l) e came = subst (λ (l : List ℕ). next ≡ passes.freeStep p t l → Passing p base first (passes.freeStep p t l)) (sym e) free-step-passing came
 
   step-passing : (k : ℕ) (x : Pass) → pass.steps p first k ≡ x → pass.steps p first (suc k) ≡ pass.step p k x → Passing p base first x → Passing p base first (pass.step p k x)
   unfolding pass.step
