@@ -385,44 +385,6 @@ fn pass_8(
     )
 }
 
-fn pass_16(
-    w: &[f64],
-    u_free: &[f64],
-    lo: &[f64],
-    hi: &[f64],
-    scale: &[f64],
-    states: &mut [u8],
-    nu: &mut [f64],
-    rows: &mut [usize],
-    work: &mut [f64],
-) -> Exact
-    requires { ⌜ private.PassLent (length (now «u_free»)) (now w) (now lo) (now hi) (now scale) (now states) (now nu)
-        (now rows) (now work) × private.Small (length (now «u_free»)) 16 ⌝ }
-    ensures { λ q. ⌜ private.Ran
-        (box.problem (now (w .entry)) (now («u_free» .entry)) (now (lo .entry)) (now (hi .entry))
-        (now (scale .entry)))
-        (now (states .entry)) (now (nu .entry)) (now (rows .entry)) (now (work .entry)) q (now (nu .exit))
-        (now (states .exit)) (now (rows .exit)) (now (work .exit)) ⌝ }
-{
-    let mut m = [0.0f64; 256];
-    let mut y = [0.0f64; 16];
-    let mut z = [0.0f64; 16];
-    run(
-        w,
-        u_free,
-        lo,
-        hi,
-        scale,
-        states,
-        nu,
-        &mut m,
-        &mut y,
-        &mut z,
-        rows,
-        work,
-    )
-}
-
 fn pass_32(
     w: &[f64],
     u_free: &[f64],
@@ -461,7 +423,7 @@ fn pass_32(
     )
 }
 
-// The scratch of a pass has one of four sizes, so that a small problem does not clear nine kilobytes.
+// The scratch of a pass has one of three sizes, so that a small problem does not clear nine kilobytes.
 pub fn pass(
     w: &[f64],
     u_free: &[f64],
@@ -485,11 +447,8 @@ pub fn pass(
     if n <= 2 {
         return pass_2(w, u_free, lo, hi, scale, states, nu, rows, work);
     }
-    if n > 16 {
-        return pass_32(w, u_free, lo, hi, scale, states, nu, rows, work);
-    }
     if n > 8 {
-        return pass_16(w, u_free, lo, hi, scale, states, nu, rows, work);
+        return pass_32(w, u_free, lo, hi, scale, states, nu, rows, work);
     }
     pass_8(w, u_free, lo, hi, scale, states, nu, rows, work)
 }

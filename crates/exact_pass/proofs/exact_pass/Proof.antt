@@ -1,8 +1,8 @@
 use Rattle.box_rows.specs.Rows as box
 use mathlib.Core.Path.{sym, _∙_}
 use Rattle.exact_pass.proofs.Replies.{fits-lengths, left-short, left-unfit, left-passed}
-use Rattle.exact_pass.proofs.exact_pass.Statement.{statement}
-use Rattle.exact_pass.proofs.exact_pass.Tie as tie
+use Rattle.exact_pass.proofs.exact_pass as this
+use this.Tie as tie
 
 pass-requires : tie.Need-pass-requires
 pass-requires c κs =
@@ -23,7 +23,7 @@ returns-2 c =
     let at-if1 = at-fits2 .before in
     left-passed _ _ _ _ _ _ _ _ _ _ _ (at-if1 .if1 .left) (at-fits2 .fits2 .ensures) (at-if2 .if2 .taken) (at-pass .pass .ensures)
 
-pub exact-pass-spec : {M : Type 1} → statement M
+pub exact-pass-spec : {M : Type 1} → this.Statement.statement M
 exact-pass-spec =
     tie.close
     (tie.spec

@@ -1,10 +1,10 @@
 use Rattle.loops.proofs.Common.{arith}
 use Rattle.loops.proofs.Index.{product}
 use borrow.Author.Tests.{le-leb, lt-leb}
-use Rattle.exact_pass.proofs.fits.Statement.{statement}
-use Rattle.exact_pass.proofs.fits.Tie as tie
+use Rattle.exact_pass.proofs.fits as this
+use this.Tie as tie
 
-pub fits-spec : {M : Type 1} → statement M
+pub fits-spec : {M : Type 1} → this.Statement.statement M
 fits-spec =
     tie.close
     (tie.spec

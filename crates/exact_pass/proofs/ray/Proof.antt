@@ -1,8 +1,8 @@
 use Rattle.box_rows.specs.Rows as box
 use mathlib.Core.Path.{sym, _∙_}
 use Rattle.exact_pass.proofs.Replies.{fits-lengths, ray-fits, ray-unfit}
-use Rattle.exact_pass.proofs.ray.Statement.{statement}
-use Rattle.exact_pass.proofs.ray.Tie as tie
+use Rattle.exact_pass.proofs.ray as this
+use this.Tie as tie
 
 ray-requires : tie.Need-ray-requires
 ray-requires c κs =
@@ -18,7 +18,7 @@ returns c =
     let at-fits2 = at-if1 .before in
     ray-fits _ _ _ _ _ (at-fits2 .fits2 .ensures) _ _ (at-if1 .if1 .taken) (at-ray .ray .ensures)
 
-pub ray-spec : {M : Type 1} → statement M
+pub ray-spec : {M : Type 1} → this.Statement.statement M
 ray-spec = tie.close (tie.spec
     (λ c κs. tt)
     ray-requires

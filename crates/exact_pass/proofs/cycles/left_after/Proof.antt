@@ -1,10 +1,10 @@
 use Rattle.loops.proofs.Common.{refl, arith, needs}
 use native.Mathlib.Nat.{mod-le}
 use Rattle.exact_pass.proofs.Periods.{left-is}
-use Rattle.exact_pass.proofs.cycles.left_after.Statement.{statement}
-use Rattle.exact_pass.proofs.cycles.left_after.Tie as tie
+use Rattle.exact_pass.proofs.cycles.left_after as this
+use this.Tie as tie
 
-pub left-after-spec : {M : Type 1} → statement M
+pub left-after-spec : {M : Type 1} → this.Statement.statement M
 left-after-spec =
     tie.close
     (tie.spec

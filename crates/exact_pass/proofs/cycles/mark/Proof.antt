@@ -1,8 +1,8 @@
 use Rattle.loops.proofs.Common.{_+_, _-_, refl, arith, length}
 use Rattle.box_rows.proofs.Matrix.{later}
 use Rattle.exact_pass.proofs.Running.{marked-new}
-use Rattle.exact_pass.proofs.cycles.mark.Statement.{statement}
-use Rattle.exact_pass.proofs.cycles.mark.Tie as tie
+use Rattle.exact_pass.proofs.cycles.mark as this
+use this.Tie as tie
 
 returns-2 : tie.Need-returns-2
 returns-2 c =
@@ -16,7 +16,7 @@ returns-2 c =
       later (1088 + length (at-entry .args .nu .now)) 1120 _ _ (omega (arith, p)) (at-copy .copy .ensures .after),
     )
 
-pub mark-spec : {M : Type 1} → statement M
+pub mark-spec : {M : Type 1} → this.Statement.statement M
 mark-spec =
     tie.close
     (tie.spec

@@ -1,8 +1,8 @@
 use Rattle.loops.proofs.Common.{_-_, _≤_, _≡_, refl, arith, length, take, needs}
 use Rattle.loops.proofs.Paste.{front-read, front-start, front-again, front-done}
 use Rattle.loops.specs.Loops.{pasted}
-use Rattle.exact_pass.proofs.cycles.mark_states.Statement.{statement}
-use Rattle.exact_pass.proofs.cycles.mark_states.Tie as tie
+use Rattle.exact_pass.proofs.cycles.mark_states as this
+use this.Tie as tie
 
 abbrev Inv-loop : tie.InvT-loop
 Inv-loop states marks₀ n i₀ marks i = (i ≤ n) × (n ≡ length states) × (length marks ≡ length marks₀) × (marks ≡ pasted (take i states) marks₀)
@@ -21,7 +21,7 @@ returns c =
     let at-pre = at-loop .before .before .before in
     rw (front-done _ _ (at-loop .loop .i) (at-loop .loop .marks) (at-loop .loop .inv .3) (omega arith)) (front-read _ _ _ refl (at-pre .pre))
 
-pub mark-states-spec : {M : Type 1} → statement M
+pub mark-states-spec : {M : Type 1} → this.Statement.statement M
 mark-states-spec =
     tie.close
     (tie.spec

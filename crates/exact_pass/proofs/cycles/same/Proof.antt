@@ -2,8 +2,8 @@ use borrow.Author.Tests.{eqb-true}
 use mathlib.Core.Bool.{true≢false}
 use Rattle.floats.proofs.OneValue.{nan-is, has-bits, same-bits}
 use mathlib.Core.Path.{sym, _∙_}
-use Rattle.exact_pass.proofs.cycles.same.Statement.{statement}
-use Rattle.exact_pass.proofs.cycles.same.Tie as tie
+use Rattle.exact_pass.proofs.cycles.same as this
+use this.Tie as tie
 
 returns-3 : tie.Need-returns-3
 returns-3 c =
@@ -11,7 +11,7 @@ returns-3 c =
     let at-good = at-args in
     λ h. same-bits (at-args .args .x) (at-args .args .y) (at-good .good .0 .1) (at-good .good .1 .0 .1) (eqb-true _ _ h)
 
-pub same-spec : {M : Type 1} → statement M
+pub same-spec : {M : Type 1} → this.Statement.statement M
 same-spec =
     tie.close (tie.spec
     (λ c. λ h. nan-is _ (c .if1 .taken) ∙ sym (nan-is _ h))

@@ -6,8 +6,8 @@ use lib.Seq.{length-take-le, getD-take}
 use Rattle.loops.proofs.Same.{same-lists, same-more, part-at}
 use Rattle.exact_pass.specs.Private as private
 use Rattle.exact_pass.proofs.Periods.{same-trials}
-use Rattle.exact_pass.proofs.cycles.same_trial.Statement.{statement}
-use Rattle.exact_pass.proofs.cycles.same_trial.Tie as tie
+use Rattle.exact_pass.proofs.cycles.same_trial as this
+use this.Tie as tie
 
 abbrev Inv-loop : tie.InvT-loop
 Inv-loop nu states work marks n i₀ i =
@@ -36,7 +36,7 @@ returns-3 c =
     let p = c .before .before .before .before .before .before .pre in
     λ h. same-trials (same-lists nan _ _ (l .i) (omega (arith, l .inv .0, l .inv .1, c .loop-test .left)) (sym (length-take-le _ _ (omega (arith, length-drop 1088 (c .before .before .before .before .before .before .args .work .now), p)))) (l .inv .2)) (same-lists 0 _ _ (l .i) (omega (arith, l .inv .0, l .inv .1, c .loop-test .left, p .states)) (p .states ∙ sym (length-take-le _ _ (p .long))) (l .inv .3))
 
-pub same-trial-spec : {M : Type 1} → statement M
+pub same-trial-spec : {M : Type 1} → this.Statement.statement M
 same-trial-spec =
     tie.close
     (tie.spec

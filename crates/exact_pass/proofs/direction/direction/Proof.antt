@@ -1,7 +1,7 @@
 use Rattle.exact_pass.specs.Pass as def
 use borrow.Author.Needs.{needs}
-use Rattle.exact_pass.proofs.direction.direction.Statement.{statement}
-use Rattle.exact_pass.proofs.direction.direction.Tie as tie
+use Rattle.exact_pass.proofs.direction.direction as this
+use this.Tie as tie
 
 returns : tie.Need-returns
 unfolding def.direction
@@ -11,7 +11,7 @@ returns-2 : tie.Need-returns-2
 unfolding def.direction
 returns-2 c = rw (c .before .before .before .before .if1 .left) (c .before .before .to-target .ensures)
 
-pub direction-spec : {M : Type 1} → statement M
+pub direction-spec : {M : Type 1} → this.Statement.statement M
 direction-spec = tie.close (tie.spec
     returns
     (λ c κs. search needs)

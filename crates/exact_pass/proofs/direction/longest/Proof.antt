@@ -1,7 +1,7 @@
 use Rattle.floats.proofs.Infinity.{infinity-is}
 use Rattle.exact_pass.specs.Pass as def
-use Rattle.exact_pass.proofs.direction.longest.Statement.{statement}
-use Rattle.exact_pass.proofs.direction.longest.Tie as tie
+use Rattle.exact_pass.proofs.direction.longest as this
+use this.Tie as tie
 
 returns : tie.Need-returns
 unfolding def.longest
@@ -11,7 +11,7 @@ returns-2 : tie.Need-returns-2
 unfolding def.longest
 returns-2 c = rw (c .if1 .left)
 
-pub longest-spec : {M : Type 1} → statement M
+pub longest-spec : {M : Type 1} → this.Statement.statement M
 longest-spec = tie.close (tie.spec
     returns
     returns-2)

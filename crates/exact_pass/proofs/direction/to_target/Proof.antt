@@ -3,8 +3,8 @@ use Rattle.box_rows.proofs.Matrix.{tab-filled}
 use Rattle.loops.proofs.Fill.{tab-start, tab-again}
 use Rattle.exact_pass.proofs.Rows.{free-row}
 use Rattle.exact_pass.specs.Private as private
-use Rattle.exact_pass.proofs.direction.to_target.Statement.{statement}
-use Rattle.exact_pass.proofs.direction.to_target.Tie as tie
+use Rattle.exact_pass.proofs.direction.to_target as this
+use this.Tie as tie
 
 abbrev Inv-loop : tie.InvT-loop
 Inv-loop scale free z nu y₀ k i₀ y i = (i ≤ k) × (k ≡ length free) × (length y ≡ length y₀) × (y ≡ private.toTarget scale free z nu i ++ drop i y₀)
@@ -23,7 +23,7 @@ returns c =
     let at-pre = at-loop .before .before .before .before .before .before in
     tab-filled _ _ _ _ _ (at-loop .loop .inv .3) (at-loop .loop .inv .2) (at-pre .pre .listed .long) (omega arith) (omega arith)
 
-pub to-target-spec : {M : Type 1} → statement M
+pub to-target-spec : {M : Type 1} → this.Statement.statement M
 to-target-spec =
     tie.close
     (tie.spec

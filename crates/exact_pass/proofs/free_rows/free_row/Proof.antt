@@ -1,7 +1,7 @@
 use Rattle.loops.proofs.Common.{refl, arith, add-one, eq-eqb, ne-eqb}
 use Rattle.loops.specs.Loops.{counted, noted}
-use Rattle.exact_pass.proofs.free_rows.free_row.Statement.{statement}
-use Rattle.exact_pass.proofs.free_rows.free_row.Tie as tie
+use Rattle.exact_pass.proofs.free_rows.free_row as this
+use this.Tie as tie
 
 returns : tie.Need-returns
 unfolding counted noted
@@ -11,7 +11,7 @@ returns-2 : tie.Need-returns-2
 unfolding counted noted
 returns-2 c = rw (ne-eqb _ _ (c .if1 .left)) (refl, refl)
 
-pub free-row-spec : {M : Type 1} → statement M
+pub free-row-spec : {M : Type 1} → this.Statement.statement M
 free-row-spec =
     tie.close (tie.spec
     (λ c. omega arith)

@@ -3,8 +3,8 @@ use Rattle.exact_pass.proofs.Rows.{free-done}
 use Rattle.loops.proofs.Gather.{gather-start, gather-again, gather-le}
 use Rattle.loops.specs.Gathering.{Gathering}
 use Rattle.exact_pass.specs.Private as private
-use Rattle.exact_pass.proofs.free_rows.free_rows.Statement.{statement}
-use Rattle.exact_pass.proofs.free_rows.free_rows.Tie as tie
+use Rattle.exact_pass.proofs.free_rows.free_rows as this
+use this.Tie as tie
 
 abbrev Inv-loop : tie.InvT-loop
 Inv-loop states free₀ n k₀ i₀ free k i = (i ≤ n) × (n ≡ length states) × (length free ≡ length free₀) × Gathering (private.isFree states) free₀ i k free
@@ -19,7 +19,7 @@ loop-again c =
     let at-loop = at-state .before .before in
     (search needs, search needs, search needs, gather-again _ _ _ _ _ _ _ (at-loop .loop .inv .3) (rw (← at-state .state .ensures) (at-free-row .free-row .ensures .0)) (rw (← at-state .state .ensures) (at-free-row .free-row .ensures .1)))
 
-pub free-rows-spec : {M : Type 1} → statement M
+pub free-rows-spec : {M : Type 1} → this.Statement.statement M
 free-rows-spec =
     tie.close
     (tie.spec

@@ -2,8 +2,8 @@ use Rattle.loops.proofs.Common.{_-_, _≤_, _≡_, arith, length, needs}
 use Rattle.exact_pass.proofs.Rows.{free-row}
 use Rattle.exact_pass.specs.Pass as def
 use Rattle.loops.proofs.Turns.{turns-from, turns-again, turns-done}
-use Rattle.exact_pass.proofs.ratio.advance.Statement.{statement}
-use Rattle.exact_pass.proofs.ratio.advance.Tie as tie
+use Rattle.exact_pass.proofs.ratio.advance as this
+use this.Tie as tie
 
 abbrev Inv-loop : tie.InvT-loop
 Inv-loop free y alpha nu₀ k i₀ nu i = (i ≤ k) × (k ≡ length free) × (length nu₀ ≡ length nu) × (nu ≡ def.advance free y alpha nu₀ i)
@@ -24,7 +24,7 @@ returns : tie.Need-returns Inv-loop μ-loop
 unfolding def.advance
 returns c = search (turns-done, needs)
 
-pub advance-spec : {M : Type 1} → statement M
+pub advance-spec : {M : Type 1} → this.Statement.statement M
 advance-spec =
     tie.close
     (tie.spec

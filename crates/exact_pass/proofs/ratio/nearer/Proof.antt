@@ -1,6 +1,6 @@
 use Rattle.exact_pass.specs.Private as private
-use Rattle.exact_pass.proofs.ratio.nearer.Statement.{statement}
-use Rattle.exact_pass.proofs.ratio.nearer.Tie as tie
+use Rattle.exact_pass.proofs.ratio.nearer as this
+use this.Tie as tie
 
 returns : tie.Need-returns
 unfolding private.nearer
@@ -10,7 +10,7 @@ returns-2 : tie.Need-returns-2
 unfolding private.nearer
 returns-2 c = rw (c .if1 .left)
 
-pub nearer-spec : {M : Type 1} → statement M
+pub nearer-spec : {M : Type 1} → this.Statement.statement M
 nearer-spec = tie.close (tie.spec
     (λ c κs. tt)
     returns

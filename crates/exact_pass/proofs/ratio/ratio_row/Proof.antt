@@ -1,7 +1,7 @@
 use Rattle.exact_pass.specs.Private as private
 use borrow.Author.Needs.{needs}
-use Rattle.exact_pass.proofs.ratio.ratio_row.Statement.{statement}
-use Rattle.exact_pass.proofs.ratio.ratio_row.Tie as tie
+use Rattle.exact_pass.proofs.ratio.ratio_row as this
+use this.Tie as tie
 
 returns : tie.Need-returns
 unfolding private.ratioRow
@@ -15,7 +15,7 @@ returns-3 : tie.Need-returns-3
 unfolding private.ratioRow
 returns-3 c = rw (c .before .if1 .left, c .if2 .left)
 
-pub ratio-row-spec : {M : Type 1} → statement M
+pub ratio-row-spec : {M : Type 1} → this.Statement.statement M
 ratio-row-spec = tie.close (tie.spec
     (λ c. search needs)
     (λ c κs. tt)

@@ -4,8 +4,8 @@ use Rattle.exact_pass.proofs.Rows.{free-row}
 use Rattle.exact_pass.specs.Pass as def
 use Rattle.exact_pass.specs.Private as private
 use Rattle.loops.proofs.Turns.{turns-from, turns-again, turns-done}
-use Rattle.exact_pass.proofs.ratio.ratio_test.Statement.{statement}
-use Rattle.exact_pass.proofs.ratio.ratio_test.Tie as tie
+use Rattle.exact_pass.proofs.ratio.ratio_test as this
+use this.Tie as tie
 
 abbrev Inv-loop : tie.InvT-loop
 Inv-loop lo hi free nu y alpha k r₀ i₀ r i = (i ≤ k) × (k ≡ length free) × Blocks (length nu) r × (r ≡ def.ratioTest lo hi free nu y alpha i)
@@ -35,7 +35,7 @@ returns c =
     let i = c .before .loop .inv in
     (turns-done _ _ _ _ _ (omega arith) (omega arith) (i .3), i .2 .0, i .2 .1)
 
-pub ratio-test-spec : {M : Type 1} → statement M
+pub ratio-test-spec : {M : Type 1} → this.Statement.statement M
 ratio-test-spec =
     tie.close
     (tie.spec

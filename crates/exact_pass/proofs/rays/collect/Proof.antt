@@ -1,8 +1,8 @@
 use Rattle.loops.proofs.Common.{_-_, _≤_, _≡_, arith, length, needs}
 use Rattle.exact_pass.specs.Walk.{walked}
 use Rattle.exact_pass.proofs.Collecting.{Going, collect-start, collect-again, collect-stop, collect-done}
-use Rattle.exact_pass.proofs.rays.collect.Statement.{statement}
-use Rattle.exact_pass.proofs.rays.collect.Tie as tie
+use Rattle.exact_pass.proofs.rays.collect as this
+use this.Tie as tie
 
 abbrev Inv-loop : tie.InvT-loop
 Inv-loop lo hi scale states y least list₀ n k₀ far₀ a₀ list k far a = (a ≤ n) × (n ≡ length y) × (n ≤ length list) × (length list ≡ length list₀) × Going (walked lo hi scale states y least a) a k far list
@@ -10,7 +10,7 @@ Inv-loop lo hi scale states y least list₀ n k₀ far₀ a₀ list k far a = (a
 abbrev μ-loop : tie.MeasureT-loop
 μ-loop lo hi scale states y least list₀ n k₀ far₀ a₀ list k far a = n - a
 
-pub collect-spec : {M : Type 1} → statement M
+pub collect-spec : {M : Type 1} → this.Statement.statement M
 collect-spec =
     tie.close
     (tie.spec

@@ -1,9 +1,9 @@
 use Rattle.loops.proofs.Common.{needs}
 use Rattle.exact_pass.specs.Private.{falls}
-use Rattle.exact_pass.proofs.rays.falls.Statement.{statement}
-use Rattle.exact_pass.proofs.rays.falls.Tie as tie
+use Rattle.exact_pass.proofs.rays.falls as this
+use this.Tie as tie
 
-pub falls-spec : {M : Type 1} → statement M
+pub falls-spec : {M : Type 1} → this.Statement.statement M
 unfolding falls
 falls-spec =
     tie.close

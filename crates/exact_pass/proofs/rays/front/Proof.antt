@@ -1,8 +1,8 @@
 use Rattle.loops.proofs.Common.{_-_, _≤_, _≡_, arith, length, take, needs}
 use Rattle.loops.proofs.Paste.{front-again, front-done}
 use Rattle.loops.specs.Loops.{fronted}
-use Rattle.exact_pass.proofs.rays.front.Statement.{statement}
-use Rattle.exact_pass.proofs.rays.front.Tie as tie
+use Rattle.exact_pass.proofs.rays.front as this
+use this.Tie as tie
 
 abbrev Inv-loop : tie.InvT-loop
 Inv-loop l rows₀ k i₀ rows i = (i ≤ k) × (k ≡ length l) × (length rows ≡ length rows₀) × (rows ≡ fronted (take i l) rows₀)
@@ -10,7 +10,7 @@ Inv-loop l rows₀ k i₀ rows i = (i ≤ k) × (k ≡ length l) × (length rows
 abbrev μ-loop : tie.MeasureT-loop
 μ-loop l rows₀ k i₀ rows i = k - i
 
-pub front-spec : {M : Type 1} → statement M
+pub front-spec : {M : Type 1} → this.Statement.statement M
 front-spec =
     tie.close
     (tie.spec

@@ -1,9 +1,9 @@
 use Rattle.loops.proofs.Common.{arith, eq-eqb, ne-eqb}
 use Rattle.exact_pass.specs.Private.{largestRow}
-use Rattle.exact_pass.proofs.rays.larger_row.Statement.{statement}
-use Rattle.exact_pass.proofs.rays.larger_row.Tie as tie
+use Rattle.exact_pass.proofs.rays.larger_row as this
+use this.Tie as tie
 
-pub larger-row-spec : {M : Type 1} → statement M
+pub larger-row-spec : {M : Type 1} → this.Statement.statement M
 unfolding largestRow
 larger-row-spec =
     tie.close

@@ -1,8 +1,8 @@
 use Rattle.loops.proofs.Common.{_-_, _≤_, _≡_, arith, length, needs}
 use Rattle.exact_pass.specs.Private as private
 use Rattle.loops.proofs.Turns.{turns-from, turns-again, turns-done}
-use Rattle.exact_pass.proofs.rays.largest.Statement.{statement}
-use Rattle.exact_pass.proofs.rays.largest.Tie as tie
+use Rattle.exact_pass.proofs.rays.largest as this
+use this.Tie as tie
 
 abbrev Inv-loop : tie.InvT-loop
 Inv-loop scale states y n worst₀ a₀ worst a = (a ≤ n) × (n ≡ length y) × (worst ≡ private.largest scale states y a)
@@ -10,7 +10,7 @@ Inv-loop scale states y n worst₀ a₀ worst a = (a ≤ n) × (n ≡ length y) 
 abbrev μ-loop : tie.MeasureT-loop
 μ-loop scale states y n worst₀ a₀ worst a = n - a
 
-pub largest-spec : {M : Type 1} → statement M
+pub largest-spec : {M : Type 1} → this.Statement.statement M
 unfolding private.largest
 largest-spec =
     tie.close

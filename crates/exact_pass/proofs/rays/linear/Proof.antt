@@ -2,8 +2,8 @@ use Rattle.loops.proofs.Common.{_-_, _≤_, _≡_, arith, length, needs}
 use Rattle.exact_pass.specs.Private.{linear}
 use Rattle.exact_pass.proofs.Rows.{free-row}
 use Rattle.loops.proofs.Turns.{turns-from, turns-again, turns-done}
-use Rattle.exact_pass.proofs.rays.linear.Statement.{statement}
-use Rattle.exact_pass.proofs.rays.linear.Tie as tie
+use Rattle.exact_pass.proofs.rays.linear as this
+use this.Tie as tie
 
 abbrev Inv-loop : tie.InvT-loop
 Inv-loop u-free y l k s₀ i₀ s i = (i ≤ k) × (k ≡ length l) × (s ≡ linear u-free y l i)
@@ -11,7 +11,7 @@ Inv-loop u-free y l k s₀ i₀ s i = (i ≤ k) × (k ≡ length l) × (s ≡ li
 abbrev μ-loop : tie.MeasureT-loop
 μ-loop u-free y l k s₀ i₀ s i = k - i
 
-pub linear-spec : {M : Type 1} → statement M
+pub linear-spec : {M : Type 1} → this.Statement.statement M
 unfolding linear
 linear-spec =
     tie.close

@@ -3,8 +3,8 @@ use Rattle.box_rows.proofs.Matrix.{row-length}
 use Rattle.exact_pass.specs.Private.{quadratic}
 use Rattle.exact_pass.proofs.Rows.{free-row}
 use Rattle.loops.proofs.Turns.{turns-from, turns-again, turns-done}
-use Rattle.exact_pass.proofs.rays.quadratic.Statement.{statement}
-use Rattle.exact_pass.proofs.rays.quadratic.Tie as tie
+use Rattle.exact_pass.proofs.rays.quadratic as this
+use this.Tie as tie
 
 abbrev Inv-loop : tie.InvT-loop
 Inv-loop w y l k n q₀ i₀ q i = (i ≤ k) × (k ≡ length l) × (n ≡ length y) × (q ≡ quadratic w (length y) y l i)
@@ -12,7 +12,7 @@ Inv-loop w y l k n q₀ i₀ q i = (i ≤ k) × (k ≡ length l) × (n ≡ lengt
 abbrev μ-loop : tie.MeasureT-loop
 μ-loop w y l k n q₀ i₀ q i = k - i
 
-pub quadratic-spec : {M : Type 1} → statement M
+pub quadratic-spec : {M : Type 1} → this.Statement.statement M
 unfolding quadratic
 quadratic-spec =
     tie.close

@@ -2,8 +2,8 @@ use Rattle.loops.proofs.Common.{_-_, _≤_, _≡_, arith, length, needs}
 use Rattle.exact_pass.specs.Private.{quadraticRow}
 use Rattle.exact_pass.proofs.Rows.{free-row}
 use Rattle.loops.proofs.Turns.{turns-from, turns-again, turns-done}
-use Rattle.exact_pass.proofs.rays.quadratic_row.Statement.{statement}
-use Rattle.exact_pass.proofs.rays.quadratic_row.Tie as tie
+use Rattle.exact_pass.proofs.rays.quadratic_row as this
+use this.Tie as tie
 
 abbrev Inv-loop : tie.InvT-loop
 Inv-loop row v y l quad k q₀ j₀ q j = (j ≤ k) × (k ≡ length l) × (q ≡ quadraticRow row v y l quad j)
@@ -11,7 +11,7 @@ Inv-loop row v y l quad k q₀ j₀ q j = (j ≤ k) × (k ≡ length l) × (q �
 abbrev μ-loop : tie.MeasureT-loop
 μ-loop row v y l quad k q₀ j₀ q j = k - j
 
-pub quadratic-row-spec : {M : Type 1} → statement M
+pub quadratic-row-spec : {M : Type 1} → this.Statement.statement M
 unfolding quadraticRow
 quadratic-row-spec =
     tie.close

@@ -1,15 +1,15 @@
 use Rattle.loops.proofs.Common.{arith, needs}
 use lib.ListN.{length-take}
 use Rattle.exact_pass.proofs.Collecting.{ray-zero, ray-found, ray-not}
-use Rattle.exact_pass.proofs.rays.ray.Statement.{statement}
-use Rattle.exact_pass.proofs.rays.ray.Tie as tie
+use Rattle.exact_pass.proofs.rays.ray as this
+use this.Tie as tie
 
 falls-requires : tie.Need-falls-requires
 falls-requires c κs =
     let fit = c .before .before .before .before .before .before .before .before .before .before .before .before .before .before .pre .0 in
     (c .before .before .collect .ensures .below, rw (fit .values) (fit .sized .0, fit .sized .1), omega arith)
 
-pub ray-spec : {M : Type 1} → statement M
+pub ray-spec : {M : Type 1} → this.Statement.statement M
 ray-spec =
     tie.close
     (tie.spec

@@ -1,9 +1,9 @@
 use Rattle.loops.proofs.Common.{refl, arith, add-one, eq-eqb, ne-eqb}
 use Rattle.loops.specs.Loops.{counted, noted}
-use Rattle.exact_pass.proofs.rays.taken.Statement.{statement}
-use Rattle.exact_pass.proofs.rays.taken.Tie as tie
+use Rattle.exact_pass.proofs.rays.taken as this
+use this.Tie as tie
 
-pub taken-spec : {M : Type 1} → statement M
+pub taken-spec : {M : Type 1} → this.Statement.statement M
 unfolding counted noted
 taken-spec =
     tie.close

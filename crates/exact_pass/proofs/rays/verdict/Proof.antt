@@ -1,10 +1,10 @@
 use Rattle.loops.proofs.Common.{sym, _∙_, eq-eqb, ne-eqb}
 use Rattle.exact_pass.specs.Private.{verdict}
 use Rattle.exact_pass.specs.Walk.{dropped}
-use Rattle.exact_pass.proofs.rays.verdict.Statement.{statement}
-use Rattle.exact_pass.proofs.rays.verdict.Tie as tie
+use Rattle.exact_pass.proofs.rays.verdict as this
+use this.Tie as tie
 
-pub verdict-spec : {M : Type 1} → statement M
+pub verdict-spec : {M : Type 1} → this.Statement.statement M
 unfolding verdict dropped
 verdict-spec =
     tie.close

@@ -1,8 +1,8 @@
 use Rattle.loops.proofs.Common.{_-_, _≤_, _≡_, arith, length, nan, needs}
 use Rattle.box_rows.proofs.Matrix.{copy-start, copy-again, copy-part, copy-after}
 use lib.Seq.{paste}
-use Rattle.exact_pass.proofs.read.copy.Statement.{statement}
-use Rattle.exact_pass.proofs.read.copy.Tie as tie
+use Rattle.exact_pass.proofs.read.copy as this
+use this.Tie as tie
 
 abbrev Inv-loop : tie.InvT-loop
 Inv-loop from to₀ a n i₀ to i = (i ≤ n) × (n ≡ length from) × (length to ≡ length to₀) × (to ≡ paste to₀ a from i)
@@ -26,7 +26,7 @@ returns c =
           (at-loop .loop .inv .3) (omega arith) (omega arith) (omega arith);
     }
 
-pub copy-spec : {M : Type 1} → statement M
+pub copy-spec : {M : Type 1} → this.Statement.statement M
 copy-spec =
     tie.close
     (tie.spec

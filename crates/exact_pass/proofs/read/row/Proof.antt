@@ -1,8 +1,8 @@
 use Rattle.box_rows.proofs.Matrix.{row-fits, row-part}
 use Rattle.loops.proofs.Index.{product}
 use Rattle.loops.proofs.Common.{_+_, _-_, _*_, _≡_, arith}
-use Rattle.exact_pass.proofs.read.row.Statement.{statement}
-use Rattle.exact_pass.proofs.read.row.Tie as tie
+use Rattle.exact_pass.proofs.read.row as this
+use this.Tie as tie
 
 returns : tie.Need-returns
 returns c =
@@ -10,7 +10,7 @@ returns c =
     let at-pre = at-args in
     let q : at-args .args .i * at-args .args .n + at-args .args .n - at-args .args .i * at-args .args .n ≡ at-args .args .n = omega arith in rw q (row-part _ _ _ (row-fits (at-args .args .w .now) _ _ (at-pre .pre .0 .1) (at-pre .pre .1)))
 
-pub row-spec : {M : Type 1} → statement M
+pub row-spec : {M : Type 1} → this.Statement.statement M
 row-spec =
     tie.close
     (tie.spec

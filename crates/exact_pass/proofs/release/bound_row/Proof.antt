@@ -1,6 +1,6 @@
 use Rattle.loops.proofs.Common.{sym, _∙_, arith}
-use Rattle.exact_pass.proofs.release.bound_row.Statement.{statement}
-use Rattle.exact_pass.proofs.release.bound_row.Tie as tie
+use Rattle.exact_pass.proofs.release.bound_row as this
+use this.Tie as tie
 
 returns : tie.Need-returns
 returns c =
@@ -12,7 +12,7 @@ returns c =
     let at-row-sum = at-pushed .before in
     rw (c .worse .ensures, at-natural-residual .natural-residual .ensures, at-at .at .ensures, at-at2 .at2 .ensures, at-row-sum .row-sum .ensures) (rw (← at-row-sum .row-sum .ensures, sym (at-pushed .pushed .ensures) ∙ at-if1 .if1 .taken))
 
-pub bound-row-spec : {M : Type 1} → statement M
+pub bound-row-spec : {M : Type 1} → this.Statement.statement M
 bound-row-spec =
     tie.close
     (tie.spec

@@ -1,7 +1,7 @@
 use borrow.Author.Tests.{eq-eqb, ne-eqb}
 use Rattle.exact_pass.specs.Private as private
-use Rattle.exact_pass.proofs.release.pushed.Statement.{statement}
-use Rattle.exact_pass.proofs.release.pushed.Tie as tie
+use Rattle.exact_pass.proofs.release.pushed as this
+use this.Tie as tie
 
 returns : tie.Need-returns
 unfolding private.pushed
@@ -15,7 +15,7 @@ returns-3 : tie.Need-returns-3
 unfolding private.pushed
 returns-3 c = rw (ne-eqb _ _ (c .before .if1 .left), ne-eqb _ _ (c .if2 .left))
 
-pub pushed-spec : {M : Type 1} → statement M
+pub pushed-spec : {M : Type 1} → this.Statement.statement M
 pushed-spec = tie.close (tie.spec
     returns
     returns-2

@@ -1,7 +1,7 @@
 use Rattle.exact_pass.proofs.Releases.{release-found, release-moved}
 use Rattle.loops.proofs.Common.{refl, arith}
-use Rattle.exact_pass.proofs.release.release.Statement.{statement}
-use Rattle.exact_pass.proofs.release.release.Tie as tie
+use Rattle.exact_pass.proofs.release.release as this
+use this.Tie as tie
 
 returns : tie.Need-returns
 returns c =
@@ -17,7 +17,7 @@ returns-2 c =
     let at-pre = at-worst-row .before .before .before .before .before .before .before .before .before in
     release-moved _ _ _ _ (at-worst-row .worst-row .ensures .0) (at-if1 .if1 .left) _ (at-put-state .put-state .ensures)
 
-pub release-spec : {M : Type 1} → statement M
+pub release-spec : {M : Type 1} → this.Statement.statement M
 release-spec =
     tie.close
     (tie.spec

@@ -1,8 +1,8 @@
 use Rattle.loops.proofs.Common.{sym, ap, _∙_, arith, length, needs}
 use Rattle.exact_pass.proofs.Releases.{bound-below, release-free, release-idle, release-bound}
 use Rattle.box_rows.proofs.Matrix.{row-length}
-use Rattle.exact_pass.proofs.release.release_row.Statement.{statement}
-use Rattle.exact_pass.proofs.release.release_row.Tie as tie
+use Rattle.exact_pass.proofs.release.release_row as this
+use this.Tie as tie
 
 returns-3 : tie.Need-returns-3
 returns-3 c =
@@ -14,7 +14,7 @@ returns-3 c =
       bound-below _ _ _ _ _ _ _ _ _ _ e _ (p .2) (omega (arith, p .1)),
     )
 
-pub release-row-spec : {M : Type 1} → statement M
+pub release-row-spec : {M : Type 1} → this.Statement.statement M
 release-row-spec =
     tie.close
     (tie.spec

@@ -3,8 +3,8 @@ use Rattle.box_rows.specs.Rows as box
 use Rattle.exact_pass.specs.declared.Worst.{Worst}
 use Rattle.exact_pass.specs.Private as private
 use Rattle.loops.proofs.Turns.{turns-from, turns-again, turns-done}
-use Rattle.exact_pass.proofs.release.worst_row.Statement.{statement}
-use Rattle.exact_pass.proofs.release.worst_row.Tie as tie
+use Rattle.exact_pass.proofs.release.worst_row as this
+use this.Tie as tie
 
 abbrev Inv-loop : tie.InvT-loop
 Inv-loop w u-free lo hi scale states nu n worst₀ i₀ worst i = (i ≤ n) × (n ≡ length u-free) × (worst .row ≤ n) × (worst ≡ private.worstRow (box.problem w u-free lo hi scale) states nu i)
@@ -12,7 +12,7 @@ Inv-loop w u-free lo hi scale states nu n worst₀ i₀ worst i = (i ≤ n) × (
 abbrev μ-loop : tie.MeasureT-loop
 μ-loop w u-free lo hi scale states nu n worst₀ i₀ worst i = n - i
 
-pub worst-row-spec : {M : Type 1} → statement M
+pub worst-row-spec : {M : Type 1} → this.Statement.statement M
 worst-row-spec =
     tie.close
     (tie.spec

@@ -1,8 +1,8 @@
 use borrow.Author.Tests.{eq-eqb, ne-eqb}
-use Rattle.exact_pass.proofs.start.placed.Statement.{statement}
-use Rattle.exact_pass.proofs.start.placed.Tie as tie
+use Rattle.exact_pass.proofs.start.placed as this
+use this.Tie as tie
 
-pub placed-spec : {M : Type 1} → statement M
+pub placed-spec : {M : Type 1} → this.Statement.statement M
 placed-spec = tie.close (tie.spec
     (λ c. rw (eq-eqb _ _ (c .if1 .taken)))
     (λ c. rw (ne-eqb _ _ (c .before .if1 .left), eq-eqb _ _ (c .if2 .taken)))

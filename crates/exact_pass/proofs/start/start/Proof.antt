@@ -2,8 +2,8 @@ use Rattle.loops.proofs.Common.{_-_, _≤_, _≡_, arith, length, needs}
 use Rattle.exact_pass.specs.Pass as def
 use Rattle.exact_pass.specs.Private as private
 use Rattle.loops.proofs.Turns.{turns-from, turns-again, turns-done}
-use Rattle.exact_pass.proofs.start.start.Statement.{statement}
-use Rattle.exact_pass.proofs.start.start.Tie as tie
+use Rattle.exact_pass.proofs.start.start as this
+use this.Tie as tie
 
 abbrev Inv-loop : tie.InvT-loop
 Inv-loop lo hi scale states₀ nu₀ n acting₀ i₀ states nu acting i = (i ≤ n) × (acting ≤ i) × (length nu ≡ length nu₀) × (length states ≡ length states₀) × (n ≡ length nu₀) × (private.started nu states acting ≡ def.start lo hi scale nu₀ states₀ i)
@@ -26,7 +26,7 @@ returns : tie.Need-returns Inv-loop μ-loop
 unfolding def.start private.startRow
 returns c = (turns-done _ _ _ _ _ (omega arith) (omega arith) (c .before .loop .inv .5), search needs)
 
-pub start-spec : {M : Type 1} → statement M
+pub start-spec : {M : Type 1} → this.Statement.statement M
 start-spec =
     tie.close
     (tie.spec

@@ -2,8 +2,8 @@ use Rattle.loops.proofs.Common.{_≡_, refl, sym, _∙_, arith, add-one, needs,
 use Rattle.floats.specs.Ops.{at}
 use Rattle.box_rows.specs.Rows as box
 use Rattle.exact_pass.specs.Private as private
-use Rattle.exact_pass.proofs.start.start_row.Statement.{statement}
-use Rattle.exact_pass.proofs.start.start_row.Tie as tie
+use Rattle.exact_pass.proofs.start.start_row as this
+use this.Tie as tie
 
 returns : tie.Need-returns
 unfolding private.startRow
@@ -33,7 +33,7 @@ returns-2 c =
       omega (arith, at-if1 .before .before .before .before .before .before .before .before .pre .5),
     )
 
-pub start-row-spec : {M : Type 1} → statement M
+pub start-row-spec : {M : Type 1} → this.Statement.statement M
 start-row-spec =
     tie.close
     (tie.spec

@@ -1,7 +1,7 @@
 use Rattle.loops.proofs.Common.{arith}
 use Rattle.exact_pass.proofs.Lent.{scatter-lent, scattered-lent}
-use Rattle.exact_pass.proofs.steps.free_ray.Statement.{statement}
-use Rattle.exact_pass.proofs.steps.free_ray.Tie as tie
+use Rattle.exact_pass.proofs.steps.free_ray as this
+use this.Tie as tie
 
 returns : tie.Need-returns
 returns c =
@@ -9,7 +9,7 @@ returns c =
     let at-scatter = at-ray .before .before .before .before .before in
     rw (← at-scatter .before .before .before .before .before .before .before .before .before .before .before .before .pre .1, ← at-scatter .scatter .ensures) (at-ray .ray .ensures)
 
-pub free-ray-spec : {M : Type 1} → statement M
+pub free-ray-spec : {M : Type 1} → this.Statement.statement M
 free-ray-spec =
     tie.close
     (tie.spec

@@ -1,8 +1,8 @@
 use Rattle.loops.proofs.Common.{refl, _∙_, arith}
 use Rattle.exact_pass.proofs.Stepping.{free-step-run}
 use Rattle.exact_pass.proofs.Lent.{target-lent, direction-lent, step-lent}
-use Rattle.exact_pass.proofs.steps.free_step.Statement.{statement}
-use Rattle.exact_pass.proofs.steps.free_step.Tie as tie
+use Rattle.exact_pass.proofs.steps.free_step as this
+use this.Tie as tie
 
 abbrev entry : tie.After-target → tie.Start
 entry c = c .before .before .before .before .before .before .before .before .before .before .before .before .before .before .before .before .before .before .before .before
@@ -34,18 +34,18 @@ returns c =
     let at-target = at-direction .before .before .before .before .before .before .before .before .before .before .before .before in
     record { passed = free-step-run _ _ _ _ _ _ _ _ _ _ _ _ _ (at-take-step .take-step .ensures) (at-direction .direction .ensures) (at-target .target .ensures .target); workspace = at-target .target .ensures .workspace }
 
-pub free-step-spec : {M : Type 1} → statement M
+pub free-step-spec : {M : Type 1} → this.Statement.statement M
 free-step-spec =
     tie.close
     (tie.spec
     target-requires
     direction-requires
     take-step-requires
-    (λ c. omega arith)
-    (λ c. omega arith)
-    (λ c. omega arith)
-    (λ c. omega arith)
-    (λ c. omega arith)
-    (λ c. omega arith)
-    (λ c. omega arith)
+    (λ c. c .before .before .before .before .before .before .take-step .kept .1 .1 .1 .1 .1 .0)
+    (λ c. c .before .before .before .before .before .before .take-step .kept .1 .1 .1 .1 .1 .1 .0)
+    (λ c. to-target c .target .kept .1 .1 .1 .1 .1 .1 .0)
+    (λ c. c .before .before .before .before .before .before .before .before .before .before .before .before .before .direction .kept .1 .1 .1 .1 .1 .0 ∙ to-target c .target .kept .1 .1 .1 .1 .1 .1 .1 .0)
+    (λ c. to-target c .target .kept .1 .1 .1 .1 .1 .1 .1 .1 .0)
+    (λ c. c .before .before .before .before .before .before .take-step .kept .1 .1 .1 .1 .1 .1 .1 .1 .1 .1 .0)
+    (λ c. to-target c .target .kept .1 .1 .1 .1 .1 .1 .1 .1 .1 .0)
     returns)

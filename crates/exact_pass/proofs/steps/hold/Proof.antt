@@ -1,7 +1,7 @@
 use native.Mathlib.Omega.{arith}
 use Rattle.exact_pass.specs.Pass as def
-use Rattle.exact_pass.proofs.steps.hold.Statement.{statement}
-use Rattle.exact_pass.proofs.steps.hold.Tie as tie
+use Rattle.exact_pass.proofs.steps.hold as this
+use this.Tie as tie
 
 returns : tie.Need-returns
 unfolding def.hold
@@ -14,7 +14,7 @@ returns c =
     let at-at = at-at2 .before in
     rw (at-put .put .ensures, at-put-state .put-state .ensures, at-placed .placed .ensures, at-at .at .ensures, at-at2 .at2 .ensures, at-at3 .at3 .ensures)
 
-pub hold-spec : {M : Type 1} → statement M
+pub hold-spec : {M : Type 1} → this.Statement.statement M
 hold-spec =
     tie.close
     (tie.spec

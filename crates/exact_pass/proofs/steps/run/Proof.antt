@@ -2,8 +2,8 @@ use Rattle.loops.proofs.Common.{_+_, _*_, _≤_, sym, ap, _∙_, arith, length,
 use Rattle.box_rows.specs.Rows as box
 use Rattle.exact_pass.specs.Private as private
 use Rattle.exact_pass.proofs.Running.{Going, now, going-start, going-again, going-ended, going-over, marks-lent, pass-ran}
-use Rattle.exact_pass.proofs.steps.run.Statement.{statement}
-use Rattle.exact_pass.proofs.steps.run.Tie as tie
+use Rattle.exact_pass.proofs.steps.run as this
+use this.Tie as tie
 
 abbrev Inv-loop : tie.InvT-loop
 Inv-loop w u-free lo hi scale states₀ nu₀ matrix₀ y₀ z₀ rows₀ work₀ acting most marks₀ m₀ left₀ states nu matrix y z rows work marks m left =
@@ -91,7 +91,7 @@ returns-2 c =
     let at-start = to-start at-copy in
     pass-ran (entry at-start .pre) (at-start .start .ensures) (at-start .start .kept .1 .1 .1 .1 .0) (at-copy .copy .ensures) (going-over (c .before .loop .inv) (c .loop-test .left))
 
-pub run-spec : {M : Type 1} → statement M
+pub run-spec : {M : Type 1} → this.Statement.statement M
 run-spec =
     tie.close
     (tie.spec
@@ -104,15 +104,15 @@ run-spec =
     (λ c. search needs)
     mark-states-requires
     loop-holds
-    (λ c κs. omega arith)
+    (λ c κs. c .before .before .before .before .before .before .before .before .loop .inv .lent)
     (λ c κs. tt)
     (λ c. to-step c .step .kept .1 .1 .1 .1 .1 .0 ∙ to-loop (to-step c) .loop .inv .lent .fit .states ∙ sym (began (to-loop (to-step c)) .pre .fit .states))
     (λ c. to-step c .step .kept .1 .1 .1 .1 .1 .1 .0 ∙ to-loop (to-step c) .loop .inv .lent .fit .values ∙ sym (began (to-loop (to-step c)) .pre .fit .values))
-    (λ c. omega arith)
-    (λ c. omega arith)
-    (λ c. omega arith)
+    (λ c. to-step c .step .kept .1 .1 .1 .1 .1 .1 .1 .0 ∙ to-loop (to-step c) .loop .inv .matrix)
+    (λ c. to-step c .step .kept .1 .1 .1 .1 .1 .1 .1 .1 .0 ∙ to-loop (to-step c) .loop .inv .direction)
+    (λ c. to-step c .step .kept .1 .1 .1 .1 .1 .1 .1 .1 .1 .0 ∙ to-loop (to-step c) .loop .inv .solution)
     (λ c. to-step c .step .kept .1 .1 .1 .1 .1 .1 .1 .1 .1 .1 .0 ∙ ap length (to-loop (to-step c) .loop .inv .listed))
-    (λ c. omega arith)
+    (λ c. to-step c .step .kept .1 .1 .1 .1 .1 .1 .1 .1 .1 .1 .1 .0 ∙ to-loop (to-step c) .loop .inv .workspace ∙ to-copy (to-loop (to-step c)) .copy .kept .1 .0)
     returns
     (λ c. omega arith)
     (λ c. omega arith)
@@ -122,11 +122,11 @@ run-spec =
     mark-requires
     (λ c. omega (arith, c .before .before .before .before .before .before .before .before .left-after .ensures .1, c .before .before .before .before .before .before .before .before .before .before .before .before .before .before .before .before .before .before .before .before .before .before .before .before .before .before .before .before .before .before .before .before .before .before .before .before .before .before .loop-test .taken))
     loop-again
-    (λ c. omega arith)
-    (λ c. omega arith)
-    (λ c. omega arith)
-    (λ c. omega arith)
-    (λ c. omega arith)
+    (λ c. c .before .loop .inv .lent .fit .states ∙ sym (began (c .before) .pre .fit .states))
+    (λ c. c .before .loop .inv .lent .fit .values ∙ sym (began (c .before) .pre .fit .values))
+    (λ c. c .before .loop .inv .matrix)
+    (λ c. c .before .loop .inv .direction)
+    (λ c. c .before .loop .inv .solution)
     (λ c. ap length (c .before .loop .inv .listed))
-    (λ c. omega arith)
+    (λ c. c .before .loop .inv .workspace ∙ to-copy (c .before) .copy .kept .1 .0)
     returns-2)

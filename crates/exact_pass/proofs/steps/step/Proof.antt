@@ -1,9 +1,9 @@
-use Rattle.loops.proofs.Common.{refl, sym, arith, needs}
-use lib.Seq.{length-take-le}
+use Rattle.loops.proofs.Common.{_*_, refl, sym, arith, needs}
+use lib.Seq.{length-take-le, length-front}
 use Rattle.exact_pass.proofs.Stepping.{step-released, step-free}
 use Rattle.exact_pass.proofs.Lent.{states-few, free-few, square-few, matrix-few, direction-few, solution-few, free-step-lent}
-use Rattle.exact_pass.proofs.steps.step.Statement.{statement}
-use Rattle.exact_pass.proofs.steps.step.Tie as tie
+use Rattle.exact_pass.proofs.steps.step as this
+use this.Tie as tie
 
 abbrev entry : tie.After-free-rows → tie.Start
 entry c = c .before .before .before .before .before .before .before .before .before .before .before .before .before .before .before
@@ -39,7 +39,7 @@ returns-2 c =
       workspace = at-step .free-step .ensures .workspace;
     }
 
-pub step-spec : {M : Type 1} → statement M
+pub step-spec : {M : Type 1} → this.Statement.statement M
 step-spec =
     tie.close
     (tie.spec
@@ -59,11 +59,11 @@ step-spec =
     (λ c. let r = c .before .before .before .before .before .before .before in solution-few (entry r .pre) (r .free-rows .ensures))
     (λ c. let r = c .before .before .before .before .before .before .before .before in sym (length-take-le _ _ (solution-few (entry r .pre) (r .free-rows .ensures))))
     free-step-requires
-    (λ c. omega arith)
-    (λ c. omega arith)
-    (λ c. omega arith)
-    (λ c. omega arith)
-    (λ c. omega arith)
-    (λ c. omega arith)
-    (λ c. omega arith)
+    (λ c. to-step c .free-step .kept .1 .1 .1 .1 .1 .0)
+    (λ c. to-step c .free-step .kept .1 .1 .1 .1 .1 .1 .0)
+    (λ c. let k = to-rows (to-step c) .free-rows .result in length-front (entry (to-rows (to-step c)) .args .m .now) (to-step c .free-step .last .1 .1 .1 .1 .1 .1 .1 .1 .0) (k * k) (to-step c .free-step .kept .1 .1 .1 .1 .1 .1 .1 .1 .0))
+    (λ c. length-front (entry (to-rows (to-step c)) .args .y .now) (to-step c .free-step .last .1 .1 .1 .1 .1 .1 .1 .1 .1 .0) (to-rows (to-step c) .free-rows .result) (to-step c .free-step .kept .1 .1 .1 .1 .1 .1 .1 .1 .1 .0))
+    (λ c. length-front (entry (to-rows (to-step c)) .args .z .now) (to-step c .free-step .last .1 .1 .1 .1 .1 .1 .1 .1 .1 .1 .0) (to-rows (to-step c) .free-rows .result) (to-step c .free-step .kept .1 .1 .1 .1 .1 .1 .1 .1 .1 .1 .0))
+    (λ c. to-step c .free-step .kept .1 .1 .1 .1 .1 .1 .1 .1 .1 .1 .1 .0)
+    (λ c. to-step c .free-step .kept .1 .1 .1 .1 .1 .1 .1 .1 .1 .1 .1 .1 .0)
     returns-2)

@@ -1,8 +1,8 @@
 use Rattle.loops.proofs.Common.{refl, arith, needs, not-true, not-false}
 use Rattle.exact_pass.proofs.Lent.{ratio-lent, advance-lent, ray-lent, release-lent, hold-lent}
 use Rattle.exact_pass.proofs.Stepping.{taken-unbounded, taken-released, taken-to-bound}
-use Rattle.exact_pass.proofs.steps.take_step.Statement.{statement}
-use Rattle.exact_pass.proofs.steps.take_step.Tie as tie
+use Rattle.exact_pass.proofs.steps.take_step as this
+use this.Tie as tie
 
 abbrev entry : tie.After-ratio-test → tie.Start
 entry c = c .before .before .before .before .before .before .before .before .before .before .before .before .before
@@ -18,7 +18,7 @@ hold-requires c κs =
     let at-test = at-advance .before .before .before .before in
     hold-lent (entry at-test .pre) (at-advance .advance .kept .1 .1 .1 .0) (at-test .ratio-test .ensures .1) (at-test .ratio-test .ensures .2)
 
-pub take-step-spec : {M : Type 1} → statement M
+pub take-step-spec : {M : Type 1} → this.Statement.statement M
 take-step-spec =
     tie.close
     (tie.spec

@@ -2,10 +2,10 @@ use Rattle.loops.proofs.Same.{take-replicate}
 use lib.Seq.{length-take-le}
 use Rattle.loops.proofs.Common.{refl, sym, arith}
 use Rattle.exact_pass.proofs.Stepping.{unbounded-failed, unbounded-ray}
-use Rattle.exact_pass.proofs.steps.unbounded.Statement.{statement}
-use Rattle.exact_pass.proofs.steps.unbounded.Tie as tie
+use Rattle.exact_pass.proofs.steps.unbounded as this
+use this.Tie as tie
 
-pub unbounded-spec : {M : Type 1} → statement M
+pub unbounded-spec : {M : Type 1} → this.Statement.statement M
 unbounded-spec =
     tie.close
     (tie.spec

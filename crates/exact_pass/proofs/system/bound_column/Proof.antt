@@ -1,8 +1,8 @@
 use Rattle.loops.proofs.Common.{needs, eq-eqb, ne-eqb}
-use Rattle.exact_pass.proofs.system.bound_column.Statement.{statement}
-use Rattle.exact_pass.proofs.system.bound_column.Tie as tie
+use Rattle.exact_pass.proofs.system.bound_column as this
+use this.Tie as tie
 
-pub bound-column-spec : {M : Type 1} → statement M
+pub bound-column-spec : {M : Type 1} → this.Statement.statement M
 bound-column-spec = tie.close (tie.spec
     (λ c. rw (eq-eqb _ _ (c .if1 .taken)))
     (λ c κs. search needs)

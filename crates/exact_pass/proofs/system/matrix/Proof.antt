@@ -6,8 +6,8 @@ use Rattle.box_rows.proofs.Matrix.{row-length}
 use Rattle.exact_pass.specs.Pass as def
 use Rattle.exact_pass.proofs.Rows.{free-row}
 use Rattle.exact_pass.proofs.Systems.{matrix-start, matrix-again, matrix-done}
-use Rattle.exact_pass.proofs.system.matrix.Statement.{statement}
-use Rattle.exact_pass.proofs.system.matrix.Tie as tie
+use Rattle.exact_pass.proofs.system.matrix as this
+use this.Tie as tie
 
 abbrev Inv-loop : tie.InvT-loop
 Inv-loop w scale free m₀ k n i₀ m i = (i ≤ k) × (k ≡ length free) × (n ≡ length scale) × (length m ≡ length m₀) × (m ≡ def.matrix w scale free i ++ drop (i * length free) m₀)
@@ -40,7 +40,7 @@ loop-again c =
     let at-loop = at-row .before .before .before .before .before in
     (search needs, search needs, search needs, search needs, matrix-again _ _ _ _ (at-loop .loop .i) _ (at-row .matrix-row .last .1 .1 .1 .0) (at-loop .loop .inv .4) (cc))
 
-pub matrix-spec : {M : Type 1} → statement M
+pub matrix-spec : {M : Type 1} → this.Statement.statement M
 matrix-spec =
     tie.close
     (tie.spec

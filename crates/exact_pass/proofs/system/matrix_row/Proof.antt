@@ -3,8 +3,8 @@ use Rattle.box_rows.proofs.Matrix.{tab-filled}
 use Rattle.loops.proofs.Fill.{tab-start, tab-again}
 use Rattle.exact_pass.proofs.Rows.{free-row}
 use Rattle.exact_pass.specs.Private as private
-use Rattle.exact_pass.proofs.system.matrix_row.Statement.{statement}
-use Rattle.exact_pass.proofs.system.matrix_row.Tie as tie
+use Rattle.exact_pass.proofs.system.matrix_row as this
+use this.Tie as tie
 
 abbrev Inv-loop : tie.InvT-loop
 Inv-loop row scale free out₀ k j₀ out j = (j ≤ k) × (k ≡ length free) × (length out ≡ length out₀) × (out ≡ private.matrixRow row scale free j ++ drop j out₀)
@@ -29,7 +29,7 @@ returns c =
     let at-pre = at-loop .before .before .before .before .before in
     tab-filled _ _ _ _ _ (at-loop .loop .inv .3) (at-loop .loop .inv .2) (at-pre .pre .2) (omega arith) (omega arith)
 
-pub matrix-row-spec : {M : Type 1} → statement M
+pub matrix-row-spec : {M : Type 1} → this.Statement.statement M
 matrix-row-spec =
     tie.close
     (tie.spec

@@ -7,8 +7,8 @@ use Rattle.exact_pass.specs.Pass as def
 use Rattle.exact_pass.specs.Private as private
 use Rattle.exact_pass.proofs.Rows.{free-row}
 use Rattle.exact_pass.proofs.Systems.{residual-is}
-use Rattle.exact_pass.proofs.system.residual.Statement.{statement}
-use Rattle.exact_pass.proofs.system.residual.Tie as tie
+use Rattle.exact_pass.proofs.system.residual as this
+use this.Tie as tie
 
 abbrev Inv-loop : tie.InvT-loop
 Inv-loop w scale free work z y₀ k n inconsistent₀ i₀ y inconsistent i =
@@ -49,7 +49,7 @@ returns c =
     let i = c .before .loop .inv in
     (tab-filled _ _ _ _ _ (i .4) (i .3) (entry (c .before) .pre .3) (omega arith) (omega arith), turns-done _ _ _ _ _ (omega arith) (omega arith) (i .5))
 
-pub residual-spec : {M : Type 1} → statement M
+pub residual-spec : {M : Type 1} → this.Statement.statement M
 residual-spec =
     tie.close
     (tie.spec

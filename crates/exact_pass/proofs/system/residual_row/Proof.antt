@@ -2,8 +2,8 @@ use Rattle.loops.proofs.Common.{_-_, _≤_, _≡_, arith, length, needs}
 use Rattle.exact_pass.proofs.Rows.{free-row}
 use Rattle.exact_pass.specs.Private as private
 use Rattle.loops.proofs.Turns.{turns-from, turns-again, turns-done}
-use Rattle.exact_pass.proofs.system.residual_row.Statement.{statement}
-use Rattle.exact_pass.proofs.system.residual_row.Tie as tie
+use Rattle.exact_pass.proofs.system.residual_row as this
+use this.Tie as tie
 
 abbrev Inv-loop : tie.InvT-loop
 Inv-loop row scale free z b k s₀ j₀ s j = (j ≤ k) × (k ≡ length free) × (s ≡ private.residualRow row scale free z b j)
@@ -24,7 +24,7 @@ returns : tie.Need-returns Inv-loop μ-loop
 unfolding private.residualRow
 returns c = search (turns-done, needs)
 
-pub residual-row-spec : {M : Type 1} → statement M
+pub residual-row-spec : {M : Type 1} → this.Statement.statement M
 residual-row-spec =
     tie.close
     (tie.spec

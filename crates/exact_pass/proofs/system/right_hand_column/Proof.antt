@@ -3,8 +3,8 @@ use Rattle.loops.proofs.Updates.{updated-start, updated-again, updated-done}
 use Rattle.box_rows.proofs.Matrix.{row-length}
 use Rattle.exact_pass.specs.Private.{columnTaken}
 use Rattle.exact_pass.proofs.Rows.{free-row}
-use Rattle.exact_pass.proofs.system.right_hand_column.Statement.{statement}
-use Rattle.exact_pass.proofs.system.right_hand_column.Tie as tie
+use Rattle.exact_pass.proofs.system.right_hand_column as this
+use this.Tie as tie
 
 abbrev Inv-loop : tie.InvT-loop
 Inv-loop w n free j v rhs₀ k i₀ rhs i = (i ≤ k) × (k ≡ length free) × (length rhs ≡ length rhs₀) × (rhs ≡ columnTaken w n free j v i rhs₀)
@@ -23,7 +23,7 @@ loop-again c =
     let at-put = c .before .before in
     (search needs, search needs, search needs, rw (at-put .put .ensures) (updated-again _ _ _ _ _ _ _ _ _ (omega arith) (at-put .before .before .before .before .before .before .before .before .loop .inv .3) refl (cc)))
 
-pub right-hand-column-spec : {M : Type 1} → statement M
+pub right-hand-column-spec : {M : Type 1} → this.Statement.statement M
 right-hand-column-spec =
     tie.close
     (tie.spec

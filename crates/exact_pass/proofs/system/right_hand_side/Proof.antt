@@ -1,7 +1,7 @@
 use Rattle.loops.proofs.Common.{_-_, _≤_, _≡_, arith, length, needs}
 use Rattle.exact_pass.proofs.Systems.{columns, columns-start, columns-again, columns-done}
-use Rattle.exact_pass.proofs.system.right_hand_side.Statement.{statement}
-use Rattle.exact_pass.proofs.system.right_hand_side.Tie as tie
+use Rattle.exact_pass.proofs.system.right_hand_side as this
+use this.Tie as tie
 
 abbrev Inv-loop : tie.InvT-loop
 Inv-loop w u-free states nu free rhs₀ n j₀ rhs j = (j ≤ n) × (n ≡ length nu) × (length rhs ≡ length rhs₀) × (rhs ≡ columns w u-free states nu free (length free) j)
@@ -17,7 +17,7 @@ loop-again c =
     let at-loop = at-state .before .before in
     (search needs, search needs, search needs, columns-again _ _ _ _ _ _ _ _ _ _ _ (at-loop .loop .inv .3) (at-state .state .ensures) (at-at .at .ensures) (rw (at-loop .loop .inv .1) at (at-held .bound-column .ensures)))
 
-pub right-hand-side-spec : {M : Type 1} → statement M
+pub right-hand-side-spec : {M : Type 1} → this.Statement.statement M
 right-hand-side-spec =
     tie.close
     (tie.spec

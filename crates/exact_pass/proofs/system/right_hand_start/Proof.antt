@@ -5,8 +5,8 @@ use Rattle.loops.proofs.Fill.{tab-start, tab-again}
 use Rattle.floats.specs.Ops.{at}
 use Rattle.box_rows.proofs.Matrix.{tab-filled}
 use Rattle.exact_pass.proofs.Rows.{free-row}
-use Rattle.exact_pass.proofs.system.right_hand_start.Statement.{statement}
-use Rattle.exact_pass.proofs.system.right_hand_start.Tie as tie
+use Rattle.exact_pass.proofs.system.right_hand_start as this
+use this.Tie as tie
 
 abbrev Inv-loop : tie.InvT-loop
 Inv-loop u-free free rhs₀ k i₀ rhs i = (i ≤ k) × (k ≡ length free) × (length rhs ≡ length rhs₀) × (rhs ≡ tab (λ (i : ℕ). neg (at u-free (getD free i 0))) i ++ drop i rhs₀)
@@ -25,7 +25,7 @@ returns c =
     let at-pre = at-loop .before .before .before .before in
     tab-filled _ _ _ _ _ (at-loop .loop .inv .3) (at-loop .loop .inv .2) (at-pre .pre .1) (omega arith) (omega arith)
 
-pub right-hand-start-spec : {M : Type 1} → statement M
+pub right-hand-start-spec : {M : Type 1} → this.Statement.statement M
 right-hand-start-spec =
     tie.close
     (tie.spec

@@ -1,7 +1,7 @@
 use Rattle.exact_pass.proofs.Systems.{solved-x, solved-work}
 use mathlib.Core.Path.{refl}
-use Rattle.exact_pass.proofs.system.solve.Statement.{statement}
-use Rattle.exact_pass.proofs.system.solve.Tie as tie
+use Rattle.exact_pass.proofs.system.solve as this
+use this.Tie as tie
 
 abbrev to-solve : tie.After-slice-known8 → tie.After-solve
 to-solve c = c .before .before .before .before .before .before .before .before
@@ -13,7 +13,7 @@ returns c =
     let at-pre = at-args in
     (solved-x _ _ _ _ (at-args .args .work .now) (at-pre .pre .0) (at-pre .pre .1) refl (at-pre .pre .2) (at-pre .pre .3) _ (at-solve .solve .ensures .x-left), solved-work _ _ _ _ (at-args .args .work .now) (at-pre .pre .0) (at-pre .pre .1) refl (at-pre .pre .2) (at-pre .pre .3) _ (at-solve .solve .ensures .workspace-left))
 
-pub solve-spec : {M : Type 1} → statement M
+pub solve-spec : {M : Type 1} → this.Statement.statement M
 solve-spec =
     tie.close
     (tie.spec

@@ -1,7 +1,7 @@
 use Rattle.loops.proofs.Common.{_∙_, arith, needs}
 use Rattle.exact_pass.proofs.Systems.{target-run}
-use Rattle.exact_pass.proofs.system.target.Statement.{statement}
-use Rattle.exact_pass.proofs.system.target.Tie as tie
+use Rattle.exact_pass.proofs.system.target as this
+use this.Tie as tie
 
 abbrev entry : tie.After-right-hand-side → tie.Start
 entry c = c .before .before .before .before .before .before .before .before .before .before .before .before
@@ -37,7 +37,7 @@ returns c =
     target-run _ (entry at-side .args .u-free .now) (entry at-side .args .scale .now) _ _ _ _ _ _ (at-solve .solve .last .1 .1 .1 .0) (at-side .right-hand-side .ensures) (at-copy .copy .ensures) (entry at-side .pre .few) (at-solve .solve .ensures .1)
     _ _ _ _ (at-matrix .matrix .ensures) (at-solve .solve .ensures .0) (at-residual .residual .ensures .0) (at-residual .residual .ensures .1)
 
-pub target-spec : {M : Type 1} → statement M
+pub target-spec : {M : Type 1} → this.Statement.statement M
 target-spec =
     tie.close
     (tie.spec

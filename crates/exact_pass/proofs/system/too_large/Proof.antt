@@ -1,12 +1,12 @@
 use Rattle.exact_pass.specs.Private as private
-use Rattle.exact_pass.proofs.system.too_large.Statement.{statement}
-use Rattle.exact_pass.proofs.system.too_large.Tie as tie
+use Rattle.exact_pass.proofs.system.too_large as this
+use this.Tie as tie
 
 returns : tie.Need-returns
 unfolding private.tooLarge
 returns c = rw (c .abs .ensures)
 
-pub too-large-spec : {M : Type 1} → statement M
+pub too-large-spec : {M : Type 1} → this.Statement.statement M
 too-large-spec = tie.close (tie.spec
     (λ c κs. tt)
     returns)
