@@ -76,6 +76,12 @@ mark-requires c κs =
     let i = to-loop at-step .loop .inv in
     (stepped-marks at-step, omega (arith, i .since, i .bounded, at-step .before .before .before .before .before .before .before .before .loop-test .taken), i .span)
 
+loop-less : tie.Need-loop-less Inv-loop μ-loop
+loop-less c =
+    let at-left = c .before .before .before .before .before .before .before .before in
+    let at-step = at-left .before .before .before .before .before .before .before .before .before .before .before .before .before .before .before .before .before .before .before .before .before .before in
+    omega (arith, at-left .left-after .ensures .1, at-step .before .before .before .before .before .before .before .before .loop-test .taken)
+
 loop-again : tie.Need-loop-again Inv-loop μ-loop
 loop-again c =
     let at-mark = c .before .before .before in
@@ -118,9 +124,9 @@ run-spec =
     (λ c. omega arith)
     (λ c. omega arith)
     left-after-requires
-    (λ c. omega (arith, c .before .before .before .before .before .before .before .before .before .before .before .before .before .before .before .before .before .before .before .before .before .before .before .before .before .before .before .before .before .before .before .before .before .before .before .loop .inv .marks-long))
+    (λ c. omega (arith, to-loop (c .before .before .before .before .before .before .before .before .before .before .before .before .before .before .before .before .before .before .before .before .before .before .before .before .before .before) .loop .inv .marks-long))
     mark-requires
-    (λ c. omega (arith, c .before .before .before .before .before .before .before .before .left-after .ensures .1, c .before .before .before .before .before .before .before .before .before .before .before .before .before .before .before .before .before .before .before .before .before .before .before .before .before .before .before .before .before .before .before .before .before .before .before .before .before .before .loop-test .taken))
+    loop-less
     loop-again
     (λ c. c .before .loop .inv .lent .fit .states ∙ sym (began (c .before) .pre .fit .states))
     (λ c. c .before .loop .inv .lent .fit .values ∙ sym (began (c .before) .pre .fit .values))

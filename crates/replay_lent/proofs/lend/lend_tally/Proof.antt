@@ -330,7 +330,9 @@ module _ {M : Type 1} (𝓤 : URA M) (H : Heap 𝓤) (A : Atoms 𝓤) (W : Given
         move ! (1 ∷ []) $ fsplit ! $ drop ! $
         -- [what the other parameters own; the tokens]
         enter ! C Λ code.function _ _ $
-        alloc1 ! (λ l₀. alloc1 ! (λ l₁. alloc1 ! (λ l₂. alloc1 ! (λ l₃. alloc1 ! (λ l₄. alloc1 ! (λ l₅. alloc1 ! (λ l₆. alloc1 ! (λ l₇. alloc1 ! (λ l₈. alloc1 ! (λ l₉. alloc1 ! (λ l₁₀. alloc1 ! (λ l₁₁. alloc1 ! (λ l₁₂. alloc1 ! (λ l₁₃. alloc1 ! (λ l₁₄. alloc1 ! (λ l₁₅. alloc1 ! (λ l₁₆. alloc1 ! (λ l₁₇. alloc1 ! (λ l₁₈. alloc1 ! (λ l₁₉. alloc1 ! (λ l₂₀. alloc1 ! (λ l₂₁. alloc1 ! (λ l₂₂. alloc1 ! (λ l₂₃. alloc1 ! (λ l₂₄. alloc0 ! $ params1 ! $
+        alloc1 ! (λ l₀. alloc1 ! (λ l₁. alloc1 ! (λ l₂. alloc1 ! (λ l₃. alloc1 ! (λ l₄. alloc1 ! (λ l₅. alloc1 ! (λ l₆. alloc1 ! (λ l₇. alloc1 ! (λ l₈.
+        alloc1 ! (λ l₉. alloc1 ! (λ l₁₀. alloc1 ! (λ l₁₁. alloc1 ! (λ l₁₂. alloc1 ! (λ l₁₃. alloc1 ! (λ l₁₄. alloc1 ! (λ l₁₅. alloc1 ! (λ l₁₆. alloc1 ! (λ l₁₇.
+        alloc1 ! (λ l₁₈. alloc1 ! (λ l₁₉. alloc1 ! (λ l₂₀. alloc1 ! (λ l₂₁. alloc1 ! (λ l₂₂. alloc1 ! (λ l₂₃. alloc1 ! (λ l₂₄. alloc0 ! $ params1 ! $
         pass1 ! (init ! 46 refl (typed h i-tally)) $
         pass1 ! (init ! 44 refl (tt, (tt, (record { fits = i-w .0 .1 .0 }, tt)))) $
         pass1 ! (init ! 42 refl (tt, (tt, (record { fits = i-u-free .0 .1 .0 }, tt)))) $
