@@ -96,7 +96,7 @@ fn release_row(
     if s == box_rows::IDLE {
         return worst;
     }
-    let n = u_free.len();
+    let n = nu.len();
     bound_row(
         read::row(w, n, i),
         read::at(u_free, i),
@@ -128,7 +128,7 @@ fn worst_row(
         (now (states .entry)) (now (nu .entry)) (length (now («u_free» .entry))) .row)
         × (q ≤ length (now («u_free» .entry))) ⌝ }
 {
-    let n = u_free.len();
+    let n = nu.len();
     let mut worst = Worst {
         residual: crate::EXACT_RESIDUAL,
         row: n,
@@ -162,7 +162,7 @@ pub fn release(
         ⌝ }
 {
     let i = worst_row(w, u_free, lo, hi, scale, states, nu);
-    if i == u_free.len() {
+    if i == nu.len() {
         return Exact::Found;
     }
     read::put_state(states, i, box_rows::INSIDE);

@@ -10,7 +10,7 @@ returns-3 c =
     let at-state = at-row .before .before .before in
     let p = at-state .before .before .before .before .before .before .before .before .pre in
     let e = c .bound-row .ensures in (
-      release-bound _ _ _ _ _ _ _ _ _ _ e _ _ (at-state .state .ensures) (at-row .row .ensures) (c .before .before .before .before .at .ensures) (c .before .before .before .at2 .ensures) (c .before .before .at3 .ensures) (c .before .at4 .ensures),
+      release-bound _ _ _ _ _ _ _ _ _ _ e _ _ (at-state .state .ensures) (rw (p .0 .values) at (at-row .row .ensures)) (c .before .before .before .before .at .ensures) (c .before .before .before .at2 .ensures) (c .before .before .at3 .ensures) (c .before .at4 .ensures),
       bound-below _ _ _ _ _ _ _ _ _ _ e _ (p .2) (omega (arith, p .1)),
     )
 
@@ -21,7 +21,7 @@ release-row-spec =
     (λ c κs. omega arith)
     (λ c. (release-free _ _ _ _ _ (sym (c .before .state .ensures) ∙ c .if1 .taken), search needs))
     (λ c. (release-idle _ _ _ _ _ (sym (c .before .before .state .ensures) ∙ c .if2 .taken), search needs))
-    (λ c κs. omega arith)
+    (λ c κs. let p = c .before .before .before .before .before .before .before .before .before .before .pre in rw (p .0 .values) ((p .0 .sized .0, p .0 .sized .1), p .1))
     (λ c κs. omega arith)
     (λ c κs. omega arith)
     (λ c κs. omega arith)
