@@ -57,7 +57,7 @@ pub record Scaled (n : ℕ) (lo hi scale : List Float) (st : List ℕ) (nu : Lis
   pub states : length st ≡ n
   pub multipliers : length nu ≡ n
 
--- without scales, and with their square matrix, few enough
+-- at most 32 rows: their matrix, and for each row its bounds, state and multiplier
 pub record Matrix (n : ℕ) (w lo hi : List Float) (st : List ℕ) (nu : List Float) : Type 0 where
   pub few : n ≤ 32
   pub square : length w ≡ n * n
@@ -71,12 +71,12 @@ pub record Lists (p : box.Problem) (st : List ℕ) (nu : List Float) : Type 0 wh
   pub matrix : Matrix (box.size p) (p .w) (p .lo) (p .hi) st nu
   pub scales : length (p .scale) ≡ box.size p
 
--- row i of the n that such lists have
+-- what A says of the lists, and that i is one of n rows
 pub record Row (A : Type 0) (n i : ℕ) : Type 0 where
   pub lists : A
   pub row : i < n
 
--- and a count of rows before it
+-- the same, and that k counts some of the rows before row i
 pub record CountedRow (A : Type 0) (n i k : ℕ) : Type 0 where
   pub lists : A
   pub row : i < n
@@ -87,7 +87,7 @@ pub record Pair (n : ℕ) (a b : List Float) : Type 0 where
   pub first : length a ≡ n
   pub second : length b ≡ n
 
--- n rows, of whose motion there is something to measure
+-- the multipliers before a sweep, of n rows, at least one
 pub record Measured (n : ℕ) (old : List Float) : Type 0 where
   pub before : length old ≡ n
   pub some : 0 < n
@@ -97,12 +97,12 @@ pub record Listing (n : ℕ) (scale : List Float) (l : List ℕ) : Type 0 where
   pub scales : length scale ≡ n
   pub listed : n ≤ length l
 
--- a sweep's lists: `old` gets the multipliers as they were
+-- what a sweep is lent: `old` gets the multipliers as they were
 pub record SweepLists (n : ℕ) (w lo hi : List Float) (st : List ℕ) (nu old : List Float) : Type 0 where
   pub matrix : Matrix n w lo hi st nu
   pub before : length old ≡ n
 
--- those of the tests after it
+-- what the tests after a sweep are lent
 pub record TestLists (p : box.Problem) (st : List ℕ) (nu old : List Float) (l : List ℕ) : Type 0 where
   pub lists : Lists p st nu
   pub before : length old ≡ box.size p
@@ -117,18 +117,18 @@ USED = 1152
 abbrev pub MOST : ℕ
 MOST = 0xffff_ffff
 
--- a whole solve's
+-- what a whole solve is lent
 pub record Lent (p : box.Problem) (st : List ℕ) (nu : List Float) (l : List ℕ) (work : List Float) : Type 0 where
   pub lists : Lists p st nu
   pub listed : box.size p ≤ length l
   pub workspace : USED ≤ length work
 
--- at a checkpoint: one more pass can be counted
+-- the same at a checkpoint, where one more pass can be counted
 pub record CheckLent (p : box.Problem) (st : List ℕ) (nu : List Float) (l : List ℕ) (work : List Float) (c : Counts) : Type 0 where
   pub lent : Lent p st nu l work
   pub passes : c .passes < MOST
 
--- before a sweep, of some rows: so can it
+-- the same before a sweep: there is a row, and one more sweep and one more pass can be counted
 pub record TurnLent (p : box.Problem) (st : List ℕ) (nu : List Float) (l : List ℕ) (work : List Float) (c : Counts) : Type 0 where
   pub lent : Lent p st nu l work
   pub some : 0 < box.size p
@@ -166,7 +166,7 @@ pub record Swept (w uFree lo hi : List Float) (st : List ℕ) (nu₀ nu old : Li
   pub before-long : length old ≡ length uFree
   pub stopped : k ≡ sweep.stopped w uFree lo hi st nu₀ (length uFree)
 
--- how the code tells a run r, the row list having been l₀
+-- what the code tells of a run r, where the row list was l₀
 pub record Ran (r : Run) (l₀ : List ℕ) (g : Sweeping) (nu : List Float) (st : List ℕ) (c : Counts) (l : List ℕ) : Type 0 where
   pub answer : g ≡ sweepingOf r
   pub reached : iterate nu st c ≡ iterateOf r
@@ -176,12 +176,12 @@ pub record Ran (r : Run) (l₀ : List ℕ) (g : Sweeping) (nu : List Float) (st 
 abbrev pub beyond : List Float → List Float
 beyond work = drop USED work
 
--- and leaves the workspace, which was work₀, past what a solve uses
+-- the same, and past what a solve uses the workspace is as it was in work₀
 pub record Worked (r : Run) (l₀ : List ℕ) (work₀ : List Float) (g : Sweeping) (nu : List Float) (st : List ℕ) (c : Counts) (l : List ℕ) (work : List Float) : Type 0 where
   pub ran : Ran r l₀ g nu st c l
   pub workspace : beyond work ≡ beyond work₀
 
--- and has counted k sweeps and at most m passes
+-- the same, with k sweeps counted and at most m passes
 pub record Counted (r : Run) (l₀ : List ℕ) (work₀ : List Float) (k m : ℕ) (q : Progress) (nu : List Float) (st l : List ℕ) (work : List Float) : Type 0 where
   pub ran : Ran r l₀ (q .sweeping) nu st (q .counts) l
   pub workspace : beyond work ≡ beyond work₀

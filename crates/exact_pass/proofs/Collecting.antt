@@ -14,9 +14,9 @@ use Rattle.box_rows.specs.Rows as box
 use Rattle.exact_pass.specs.Ray as rays
 use Rattle.exact_pass.specs.Private as private
 use Rattle.exact_pass.specs.Walk as walks
-use Rattle.exact_pass.specs.Walk.{Walked, none, these, rowsOf, farthestOf, walkedAfter}
+use Rattle.exact_pass.specs.Walk.{Walked, none, these, walkedAfter}
 use Rattle.exact_pass.specs.Promise.{Front}
-use Rattle.exact_pass.specs.Private.{Collecting, verdict}
+use Rattle.exact_pass.specs.Private.{Collecting, verdict, rowsOf, farthestOf}
 use Rattle.exact_pass.proofs.OneWalk.{one-walk}
 
 -- k rows so far, each below n, none of which ends it, and their farthest
@@ -69,12 +69,12 @@ module _ (lo hi scale : List Float) (st : List ℕ) (y : List Float) (least : Fl
     unfolding walks.walked walks.walkRow walks.walk turns
     collect-stop {n = n} s e b =
         let t : to n ≡ none = stays (walks.walkRow lo hi scale st y least) _ none (suc a) (stopped _ h _ _ (sym e ∙ s)) (λ i g. refl) n b in
-        record { rows = rw t; farthest = rw t; few = omega arith; room = omega arith; below = λ i b. absurd (not-suc-le-zero b) }
+        record { rows = rw t; farthest = rw t; few = omega arith; within = omega arith; below = λ i b. absurd (not-suc-le-zero b) }
 
     pub collect-done : {n : ℕ} → a ≤ n → n ≤ a → n ≤ length l → Collecting (to n) n k far l
     collect-done {n = n} f g r =
         let e : a ≡ n = omega arith in
-        rw (← e) (record { rows = rw (h .is); farthest = rw (h .is); few = h .few; room = omega arith; below = each-at (λ b. b < a) (take k l) (h .below) })
+        rw (← e) (record { rows = rw (h .is); farthest = rw (h .is); few = h .few; within = omega arith; below = each-at (λ b. b < a) (take k l) (h .below) })
 
 -- whether the problem of n rows falls along the rows of l, by their farthest
 abbrev pub fallsBy : ℕ → List Float → List Float → List Float → List ℕ → Float → Bool
@@ -101,7 +101,7 @@ module _ (p : box.Problem) (st : List ℕ) (y : List Float) {s : Float} {n : ℕ
     ray-is = rw (ray-by, nonzero, falling p y _, ← one-walk (p .lo) (p .hi) (p .scale) st y (1e-9 ⊗ s) n, ← size, got .rows, got .farthest, fallen)
 
     pub ray-found : {out out′ : List ℕ} → b ≡ true → out′ ≡ fronted (take k l) out → Front (rays.ray p st y) out k out′
-    ray-found e f = rw (ray-is, e) (record { count = sym (length-take-le k l (got .room)); front = f })
+    ray-found e f = rw (ray-is, e) (record { count = sym (length-take-le k l (got .within)); front = f })
 
     pub ray-not : {out : List ℕ} → b ≡ false → Front (rays.ray p st y) out 0 out
     ray-not e = rw (ray-is, e) (record { count = refl; front = refl })

@@ -16,7 +16,7 @@ module _ {n : ℕ} {w lo hi scale : List Float} {st : List ℕ} {nu : List Float
 
 module _ {n : ℕ} {w lo hi scale : List Float} {st : List ℕ} {nu : List Float} {l : List ℕ} {y : List Float} {rows : List ℕ} (s : StepLent n w lo hi scale st nu l y rows) where
   pub ratio-lent : RatioLent (length nu) lo hi l y
-  ratio-lent = rw (s .fit .values) (record { listed = s .listed; los = s .fit .sized .2; his = s .fit .sized .3; some = s .some })
+  ratio-lent = rw (s .fit .values) (record { listed = s .listed; lower = s .fit .sized .2; upper = s .fit .sized .3; some = s .some })
 
   pub ray-lent : RayLent n w lo hi scale st l y rows
   ray-lent = record { sized = s .fit .sized; states = s .fit .states; listed = s .listed; list = s .list }
@@ -29,7 +29,7 @@ module _ {n : ℕ} {w lo hi scale : List Float} {st : List ℕ} {nu : List Float
 
   pub hold-lent : {n′ : ℕ} {r : Blocking} → n′ ≡ length nu → r .row < length nu → r .state < 256 → Blocked n′ lo hi st r
   hold-lent kept h b =
-      rw (kept, s .fit .values) (record { row = rw (s .fit .values) at h; los = s .fit .sized .2; his = s .fit .sized .3; states = s .fit .states; byte = b })
+      rw (kept, s .fit .values) (record { row = rw (s .fit .values) at h; lower = s .fit .sized .2; upper = s .fit .sized .3; states = s .fit .states; byte = b })
 
 -- ---- a ray: d is to be the direction of all rows
 

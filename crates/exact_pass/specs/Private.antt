@@ -2,7 +2,7 @@
 use Prim.Native.Nat.{ℕ, suc, _+_, _*_, _≤_, _<_}
 use mathlib.Core.Path.{_≡_}
 use mathlib.Core.Bool.{Bool, true, false, not, cond, _&&_, _||_}
-use mathlib.Core.List.{List}
+use mathlib.Core.List.{List, []}
 use lib.Dec.{eqb}
 use lib.ListN.{getD, set, length, take, drop, replicate}
 use lib.Ieee.{Float, nan, lt, le, neg}
@@ -56,18 +56,20 @@ pub record Listed (n : ℕ) (l : List ℕ) (y : List Float) : Type 0 where
   pub below : Below n l
   pub long : length y ≡ length l
 
+-- what the ratio test is lent, for the free rows l and their direction y
 pub record RatioLent (n : ℕ) (lo hi : List Float) (l : List ℕ) (y : List Float) : Type 0 where
   pub listed : Listed n l y
-  pub los : length lo ≡ n
-  pub his : length hi ≡ n
+  pub lower : length lo ≡ n
+  pub upper : length hi ≡ n
   pub some : 0 < n
 
+-- what the direction is made from: the solution z of the free rows l
 pub record DirectionLent (n : ℕ) (scale : List Float) (l : List ℕ) (z y : List Float) : Type 0 where
   pub listed : Listed n l y
   pub scales : length scale ≡ n
   pub solution : length z ≡ length l
 
--- the system of the free rows l, and scratch for it
+-- what the system of the free rows l is made from, and its scratch
 pub record TargetLent (n : ℕ) (w uFree scale : List Float) (st l : List ℕ) (m y z work : List Float) : Type 0 where
   pub square : lists.Square w n
   pub motions : length uFree ≡ n
@@ -82,24 +84,26 @@ pub record TargetLent (n : ℕ) (w uFree scale : List Float) (st l : List ℕ) (
 -- r blocks a step by one of n rows, on a bound
 pub record Blocked (n : ℕ) (lo hi : List Float) (st : List ℕ) (r : Blocking) : Type 0 where
   pub row : r .row < n
-  pub los : length lo ≡ n
-  pub his : length hi ≡ n
+  pub lower : length lo ≡ n
+  pub upper : length hi ≡ n
   pub states : length st ≡ n
   pub byte : r .state < 256
 
+-- what a ray in the direction y of the free rows l is looked for in
 pub record RayLent (n : ℕ) (w lo hi scale : List Float) (st l : List ℕ) (y : List Float) (rows : List ℕ) : Type 0 where
   pub sized : lists.Sized n w lo hi scale
   pub states : length st ≡ n
   pub listed : Listed n l y
   pub list : n ≤ length rows
 
+-- what a step of the free rows l in the direction y is lent
 pub record StepLent (n : ℕ) (w lo hi scale : List Float) (st : List ℕ) (nu : List Float) (l : List ℕ) (y : List Float) (rows : List ℕ) : Type 0 where
   pub fit : Fit n w lo hi scale st nu
   pub listed : Listed n l y
   pub some : 0 < n
   pub list : n ≤ length rows
 
--- scratch of as many values as there are free rows
+-- the same before y is known, with scratch for as many rows as are free
 pub record FreeStepLent (n : ℕ) (w lo hi scale : List Float) (st : List ℕ) (nu : List Float) (l : List ℕ) (m y z : List Float) (rows : List ℕ) (work : List Float) : Type 0 where
   pub lent : StepLent n w lo hi scale st nu l y rows
   pub few : length l ≤ 32
@@ -107,7 +111,7 @@ pub record FreeStepLent (n : ℕ) (w lo hi scale : List Float) (st : List ℕ) (
   pub solution : length z ≡ length l
   pub workspace : 1120 ≤ length work
 
--- scratch for n free rows
+-- what a run and each of its steps are lent, with scratch for n rows
 pub record RunLent (n : ℕ) (w lo hi scale : List Float) (st : List ℕ) (nu m y z : List Float) (rows : List ℕ) (work : List Float) : Type 0 where
   pub fit : Fit n w lo hi scale st nu
   pub matrix : n * n ≤ length m
@@ -116,19 +120,20 @@ pub record RunLent (n : ℕ) (w lo hi scale : List Float) (st : List ℕ) (nu m 
   pub list : n ≤ length rows
   pub workspace : 1120 ≤ length work
 
+-- what a pass is lent
 pub record PassLent (n : ℕ) (w lo hi scale : List Float) (st : List ℕ) (nu : List Float) (rows : List ℕ) (work : List Float) : Type 0 where
   pub fit : Fit n w lo hi scale st nu
   pub list : n ≤ length rows
   pub workspace : 1120 ≤ length work
 
--- n rows, marked in the workspace and in `marks`
+-- what marks are made in: multipliers of n rows in the workspace, their states in `marks`
 pub record MarksLent (n : ℕ) (st : List ℕ) (work : List Float) (marks : List ℕ) : Type 0 where
   pub states : length st ≡ n
   pub few : n ≤ 32
   pub workspace : 1120 ≤ length work
   pub long : n ≤ length marks
 
--- n rows, at most k
+-- n rows are at most k, and so are the entries of their matrix
 pub record Small (n k : ℕ) : Type 0 where
   pub rows : n ≤ k
   pub entries : n * n ≤ k * k
@@ -166,12 +171,21 @@ part a k work = take k (drop a work)
 unfoldable pub verdict : Bool → Bool → ℕ
 verdict drop grow = cond drop 0 (cond grow 1 2)
 
--- of a walk over the first n rows: k rows, at the front of l, and their farthest
+-- the rows that a walk has, and their farthest; where it was stopped, none and 0
+abbrev pub rowsOf : walks.Walked → List ℕ
+rowsOf walks.none = []
+rowsOf (walks.these l far) = l
+
+abbrev pub farthestOf : walks.Walked → Float
+farthestOf walks.none = 0ᶠ
+farthestOf (walks.these l far) = far
+
+-- a walk over the first n rows has left k rows at the front of l, and their farthest
 pub record Collecting (c : walks.Walked) (n k : ℕ) (far : Float) (l : List ℕ) : Type 0 where
-  pub rows : walks.rowsOf c ≡ take k l
-  pub farthest : walks.farthestOf c ≡ far
+  pub rows : rowsOf c ≡ take k l
+  pub farthest : farthestOf c ≡ far
   pub few : k ≤ n
-  pub room : k ≤ length l
+  pub within : k ≤ length l
   pub below : Below n (take k l)
 
 -- the multipliers and states marked, of n rows

@@ -16,14 +16,6 @@ pub data Walked : Type 0 where
   none : Walked
   these : List ℕ → Float → Walked
 
-abbrev pub rowsOf : Walked → List ℕ
-rowsOf none = []
-rowsOf (these l far) = l
-
-abbrev pub farthestOf : Walked → Float
-farthestOf none = 0ᶠ
-farthestOf (these l far) = far
-
 -- how far row a moves along y, over its scale
 abbrev pub sizeAt : List Float → List Float → ℕ → Float
 sizeAt scale y a = rays.sizeOf (at y a) (at scale a)

@@ -1,6 +1,6 @@
 // The ratio test, and the step that it allows.
 ghost use mathlib.Core.Path.{_≡_};
-ghost use Prim.Native.Nat.{_≤_, _<_};
+ghost use Prim.Native.Nat.{_<_};
 ghost use lib.ListN.{length};
 ghost use Rattle.exact_pass.specs.Pass as def;
 ghost use Rattle.exact_pass.specs.Private as private;

@@ -1,13 +1,11 @@
 // One step of a pass, and the run of them.
 ghost use mathlib.Core.Path.{_≡_};
 ghost use mathlib.Core.List.{List};
-ghost use Prim.Native.Nat.{_*_, _≤_, _<_};
-ghost use lib.ListN.{length, drop, replicate};
+ghost use lib.ListN.{length, replicate};
 ghost use Rattle.floats.specs.Ops.{0ᶠ};
 ghost use Rattle.exact_pass.specs.Ray.{ray};
 ghost use lib.Ieee.{Float};
 ghost use Rattle.box_rows.specs.Rows as box;
-ghost use Rattle.box_rows.specs.Private as lists;
 ghost use Rattle.exact_pass.specs.Pass as def;
 ghost use Rattle.exact_pass.specs.Promise as promise;
 ghost use Rattle.exact_pass.specs.Private as private;
