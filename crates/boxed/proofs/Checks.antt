@@ -1,5 +1,5 @@
 -- The checkpoints, and the exact pass tried at one, from what the calls promise.
-use Prim.Native.Nat.{ℕ, _+_, _-_, _≤_, _<_}
+use Prim.Native.Nat.{ℕ, suc, _+_, _-_, _≤_, _<_}
 use mathlib.Core.Path.{_≡_, refl, sym, ap, _∙_}
 use mathlib.Core.Bool.{Bool, true, false, _||_}
 use mathlib.Core.List.{List, [], _∷_, _++_}
@@ -120,7 +120,7 @@ module _ (p : box.Problem) (st : List ℕ) (nu : List Float) (rows : List ℕ) (
   -- t is the copy of the multipliers that is kept
   pub attempted : (t : List Float) (g : Sweeping) (nu′ : List Float) → t ≡ nu → Left p st nu rows (keeping p work t) e st′ v rows′ work′
       → Settled e v (take (kept-to p - WORKSPACE) (drop WORKSPACE work′)) g nu′
-      → (c : Counts) → Worked (def.passed (def.iterate nu st c) (exactPass p st nu)) rows work g nu′ st′ (def.tried c) rows′ work′
+      → (c : Counts) → Worked (def.passed (def.iterate nu st c) (exactPass p st nu)) rows work g nu′ st′ c rows′ work′
   attempted t g nu′ s h k c =
       let few : box.size p ≤ 32 = z .lists .matrix .few in
       let long : USED ≤ length work = z .workspace in
@@ -141,11 +141,12 @@ module _ (cap : ℕ) (p : box.Problem) (nu : List Float) (st : List ℕ) (n : Co
       Counted (def.checked cap p (def.going (def.iterate nu st n))) rows work (n .sweeps) (n .passes + 1) (record { sweeping = g; counts = c }) nu′ st′ rows′ work′
 
   pub check-tried : (g : Sweeping) (nu′ : List Float) (st′ rows′ : List ℕ) (work′ : List Float) → b ≡ true
-      → ((c : Counts) → Worked (def.passed (def.iterate nu st c) (exactPass p st nu)) rows work g nu′ st′ (def.tried c) rows′ work′)
+      → ((c : Counts) → Worked (def.passed (def.iterate nu st c) (exactPass p st nu)) rows work g nu′ st′ c rows′ work′)
       → Checked g (def.counts (n .sweeps) (n .passes + 1) (n .stopped)) nu′ st′ rows′ work′
   unfolding def.checked
   check-tried g nu′ st′ rows′ work′ t h =
-      record { ran = rw (sym due ∙ t, add-one) (h n .ran); workspace = h n .workspace; sweeps = refl; passes = omega arith }
+      let w = h (def.counts (n .sweeps) (suc (n .passes)) (n .stopped)) in
+      record { ran = rw (sym due ∙ t, add-one) (w .ran); workspace = w .workspace; sweeps = refl; passes = omega arith }
 
   pub check-not : b ≡ false → Checked sweeping.Going n nu st rows work
   unfolding def.checked

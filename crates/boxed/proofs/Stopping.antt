@@ -1,13 +1,14 @@
 -- The rows that a sweep stops, as its loop counts them.
 use Prim.Native.Nat.{ℕ, _+_, _≤_}
 use mathlib.Core.Path.{_≡_}
-use mathlib.Core.Bool.{Bool, true, false}
+use mathlib.Core.Bool.{Bool, true, false, _||_}
 use mathlib.Core.List.{List}
 use native.Mathlib.Omega.{arith}
 use native.Mathlib.Numerals.{add-one}
 use lib.ListN.{length, set}
-use lib.Ieee.{Float}
-use Rattle.floats.specs.Ops.{at}
+use lib.Ieee.{Float, lt}
+use Rattle.floats.specs.Ops.{_⊖_, _⊘_, at}
+use Rattle.floats.proofs.Box.{stops-past}
 use Rattle.box_rows.specs.Rows as box
 use Rattle.box_rows.specs.Private.{isStopped}
 use Rattle.boxed.specs.Private.{SweptRow}
@@ -21,6 +22,11 @@ counted-within : (b : Bool) (k i q : ℕ) → q ≡ counted b k → k ≤ i → 
 unfolding counted
 counted-within true k i q e h = omega (arith, e)
 counted-within false k i q e h = omega (arith, e)
+
+-- an update is stopped where what it clamps is past a bound
+is-past : (v u d l h : Float) → isStopped (box.updateSide v u d l h) ≡ (lt (v ⊖ u ⊘ d) l || lt h (v ⊖ u ⊘ d))
+unfolding box.updateSide
+is-past v u d l h = stops-past (v ⊖ u ⊘ d) l h
 
 module _ (w uFree lo hi : List Float) (st : List ℕ) (i : ℕ) (nu : List Float) (k q : ℕ) (e : q ≡ box.state st i) (few : k ≤ i) where
   abbrev RowSwept : List Float → ℕ → Type 0
@@ -39,7 +45,7 @@ module _ (w uFree lo hi : List Float) (st : List ℕ) (i : ℕ) (nu : List Float
       let a = row-acts st i q e n in
       record {
         multipliers = rw (a, c₁, c₃, c₅, c₆, c₇, c₈, c₉, c₁₀, c₁₁);
-        stopped = rw (a, c₂, c₄, c₅, c₆, c₇, c₈, c₉, c₁₀, c₁₁);
+        stopped = rw (a, c₂, c₄, is-past v u d l h, c₅, c₆, c₇, c₈, c₉, c₁₀, c₁₁);
         within = counted-within _ k i k′ c₂ few;
       }
 
@@ -47,5 +53,5 @@ module _ (w uFree lo hi : List Float) (st : List ℕ) (nu : List Float) where
   -- v are the multipliers when the sweep comes to row i
   pub stopped-again : (i k k′ : ℕ) (v : List Float) → k ≡ def.stopped w uFree lo hi st nu i → v ≡ def.sweep w uFree lo hi st nu i → k′ ≡ counted (private.stops w uFree lo hi st i v) k
       → k′ ≡ def.stopped w uFree lo hi st nu (i + 1)
-  unfolding def.stopped private.stops turns
+  unfolding def.stopped private.stops counted turns
   stopped-again i k k′ v e f g = rw (add-one i, g, f, e)

@@ -64,12 +64,12 @@ front-length t y n e = rw (take-at t y n e) e
 
 -- ---- the change of the multipliers is the direction of the ray: y is the front of an array that z ends
 
-change-length : (nu before : List Float) (n : ℕ) → length (sweep.change nu before n) ≡ n
-unfolding sweep.change
+change-length : (nu before : List Float) (n : ℕ) → length (private.change nu before n) ≡ n
+unfolding private.change
 change-length nu before n = tab-length (private.changeAt nu before) n
 
-module _ (nu before y z : List Float) (n : ℕ) (e : y ≡ sweep.change nu before (length nu)) (h : length nu ≡ n) where
-  changed : y ≡ sweep.change nu before n
+module _ (nu before y z : List Float) (n : ℕ) (e : y ≡ private.change nu before (length nu)) (h : length nu ≡ n) where
+  changed : y ≡ private.change nu before n
   changed = rw (← h) e
 
   long : length y ≡ n
@@ -81,13 +81,13 @@ module _ (nu before y z : List Float) (n : ℕ) (e : y ≡ sweep.change nu befor
   pub changed-length : length (take n (y ++ z)) ≡ n
   changed-length = front-length y z n long
 
-  changed-front : take n (y ++ z) ≡ sweep.change nu before n
+  changed-front : take n (y ++ z) ≡ private.change nu before n
   changed-front = take-at y z n long ∙ changed
 
 module _ (p : box.Problem) (st : List ℕ) (nu before y z : List Float) (rows : List ℕ) (k : ℕ) (rows′ : List ℕ) (lent : TestLists p st nu before rows)
-    (e : y ≡ sweep.change nu before (length nu)) (f : Front (rayReply p st (take (box.size p) (y ++ z)) rows) rows k rows′) where
+    (e : y ≡ private.change nu before (length nu)) (f : Front (rayReply p st (take (box.size p) (y ++ z)) rows) rows k rows′) where
   abbrev fighting : List ℕ
-  fighting = ray p st (sweep.change nu before (box.size p))
+  fighting = ray p st (private.change nu before (box.size p))
 
   ray-front : Front fighting rows k rows′
   unfolding rayReply
@@ -115,6 +115,6 @@ module _ (p : box.Problem) (motion : List Float) (tolerance : Float) (nu before 
     unfolding def.tested
     has-converged g c = rw (← e, h, ← f, g) (record { answer = refl; reached = refl; listed = refl })
 
-    pub tries-ray : le r 1e-9 ≡ false → (q : Sweeping) (rows′ : List ℕ) → ((c : Counts) → Ran (def.unless cause.Sweep (iterate nu st c) (ray p st (sweep.change nu before (box.size p)))) rows q nu st c rows′) → (c : Counts) → Ran (def.tested p (watch motion tolerance) before (going (iterate nu st c))) rows q nu st c rows′
-    unfolding def.tested
+    pub tries-ray : le r 1e-9 ≡ false → (q : Sweeping) (rows′ : List ℕ) → ((c : Counts) → Ran (def.unless cause.Sweep (iterate nu st c) (ray p st (private.change nu before (box.size p)))) rows q nu st c rows′) → (c : Counts) → Ran (def.tested p (watch motion tolerance) before (going (iterate nu st c))) rows q nu st c rows′
+    unfolding def.tested private.change
     tries-ray g q rows′ m c = rw (← e, h, ← f, g) (m c)

@@ -2,15 +2,14 @@
 -- Definitions only.
 use Prim.Native.Nat.{ℕ, suc, _*_, _≤_, _<_}
 use mathlib.Core.Path.{_≡_}
-use mathlib.Core.Bool.{Bool, true, false, cond, _&&_}
+use mathlib.Core.Bool.{Bool, true, false, cond, _&&_, _||_}
 use mathlib.Core.List.{List, [], _∷_}
 use lib.ListN.{length, drop, set}
 use lib.Ieee.{Float, lt}
-use Rattle.loops.specs.Loops.{turns, counted, noted, fronted}
-use Rattle.floats.specs.Ops.{_⊕_, _⊖_, _⊗_, at, 0ᶠ, 1e6}
+use Rattle.loops.specs.Loops.{turns, tab, counted, noted, fronted}
+use Rattle.floats.specs.Ops.{_⊕_, _⊖_, _⊗_, _⊘_, at, 0ᶠ, 1e6}
 use Rattle.floats.specs.Helpers.{clamp, larger, abs, isFinite}
 use Rattle.box_rows.specs.Rows as box
-use Rattle.box_rows.specs.Private as lists
 use Rattle.exact_pass.specs.Pass.{Pass}
 use Rattle.exact_pass.specs.Promise.{Passed}
 use Rattle.exact_pass.specs.declared.Exact.{Exact}
@@ -22,7 +21,7 @@ use Rattle.boxed.specs.declared.BoxReport.{BoxReport}
 use Rattle.boxed.specs.declared.BoxAnswer.{BoxAnswer}
 use Rattle.boxed.specs.Sweep as sweep
 use Rattle.boxed.specs.Solve.{Run, going, ended, exact, converged, conflict}
-use Rattle.boxed.specs.Solve.{Iterate, iterate, tried, passed, Outcome, Result, result, answerOf}
+use Rattle.boxed.specs.Solve.{Iterate, iterate, passed, Outcome, Result, result, answerOf}
 
 abbrev pub isGoing : Sweeping → Bool
 isGoing sweeping.Going = true
@@ -192,7 +191,7 @@ pub record Counted (r : Run) (l₀ : List ℕ) (work₀ : List Float) (k m : ℕ
 abbrev pub Settled : Exact → List Float → List Float → Sweeping → List Float → Type 0
 Settled e v nu g nu′ =
     (st₀ : List ℕ) (c : Counts) (x : Pass) (l₀ st l : List ℕ) → Passed x l₀ e v st l
-    → Ran (passed (iterate nu st₀ c) x) l₀ g nu′ st (tried c) l
+    → Ran (passed (iterate nu st₀ c) x) l₀ g nu′ st c l
 
 -- a solve that is not refused ends with this result: its answer, and what it leaves in the multipliers, the states and the row list
 pub record Finished (x : Result) (r : BoxAnswer) (nu : List Float) (st l : List ℕ) : Type 0 where
@@ -228,7 +227,8 @@ sweepRow w uFree lo hi st i nu =
 unfoldable pub stops : List Float → List Float → List Float → List Float → List ℕ → ℕ → List Float → Bool
 stops w uFree lo hi st i nu =
     let r = box.row w (length uFree) i in
-    box.acts st i && lists.isStopped (box.updateSide (at nu i) (box.rowSum r (at uFree i) nu) (at r i) (at lo i) (at hi i))
+    let x = at nu i ⊖ box.rowSum r (at uFree i) nu ⊘ at r i in
+    box.acts st i && (lt x (at lo i) || lt (at hi i) x)
 
 unfoldable pub isGrown : Float → Float → Bool
 isGrown v s = lt (1e6 ⊗ s) (abs v)
@@ -244,6 +244,10 @@ coordinate r nu before i = turns i 0ᶠ λ i s. s ⊕ at r i ⊗ (at nu i ⊖ at
 
 abbrev pub changeAt : List Float → List Float → ℕ → Float
 changeAt nu before i = at nu i ⊖ at before i
+
+-- the direction in which a sweep moved the multipliers
+unfoldable pub change : List Float → List Float → ℕ → List Float
+change nu before i = tab (changeAt nu before) i
 
 unfoldable pub classifyRow : List Float → List Float → List Float → List Float → ℕ → List ℕ → List ℕ
 classifyRow lo hi scale nu i st = cond (box.acts st i) (set st i (box.stateOf (at lo i) (at hi i) (at scale i) (at nu i))) st

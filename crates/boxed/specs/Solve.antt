@@ -6,8 +6,8 @@ use mathlib.Core.List.{List, [], _∷_, _++_}
 use lib.Dec.{ltb, eqb}
 use lib.ListN.{length, take, drop}
 use lib.Ieee.{Float, lt, le}
-use Rattle.loops.specs.Loops.{turns, every, fronted}
-use Rattle.floats.specs.Ops.{at, 0ᶠ, 1e-9}
+use Rattle.loops.specs.Loops.{turns, tab, every, fronted}
+use Rattle.floats.specs.Ops.{_⊖_, at, 0ᶠ, 1e-9}
 use Rattle.floats.specs.Helpers.{isFinite}
 use Rattle.box_rows.specs.Rows as box
 use Rattle.exact_pass.specs.Ray.{ray}
@@ -57,19 +57,18 @@ unless c s (a ∷ l) = ended (conflict c (a ∷ l)) s
 
 -- ---- a sweep and its tests
 
--- one pass more
-abbrev pub tried : Counts → Counts
-tried c = counts (c .sweeps) (suc (c .passes)) (c .stopped)
-
+-- s counts the pass
 unfoldable pub passed : Iterate → pass.Pass → Run
-passed s (pass.moved t) = going (iterate (s .nu) (t .states) (tried (s .counts)))
-passed s (pass.failed t) = going (iterate (s .nu) (t .states) (tried (s .counts)))
-passed s (pass.found t) = ended exact (iterate (t .nu) (t .states) (tried (s .counts)))
-passed s (pass.infeasible l t) = ended (conflict cause.Pass l) (iterate (s .nu) (t .states) (tried (s .counts)))
+passed s (pass.moved t) = going (iterate (s .nu) (t .states) (s .counts))
+passed s (pass.failed t) = going (iterate (s .nu) (t .states) (s .counts))
+passed s (pass.found t) = ended exact (iterate (t .nu) (t .states) (s .counts))
+passed s (pass.infeasible l t) = ended (conflict cause.Pass l) (iterate (s .nu) (t .states) (s .counts))
 
 unfoldable pub checked : ℕ → box.Problem → Run → Run
 checked cap p (ended e s) = ended e s
-checked cap p (going s) = cond (checkpoint cap (s .counts .sweeps)) (passed s (pass.exactPass p (s .states) (s .nu))) (going s)
+checked cap p (going s) =
+    let c = counts (s .counts .sweeps) (suc (s .counts .passes)) (s .counts .stopped) in
+    cond (checkpoint cap (s .counts .sweeps)) (passed (iterate (s .nu) (s .states) c) (pass.exactPass p (s .states) (s .nu))) (going s)
 
 -- the motion that is watched: a row of values for each coordinate, and a tolerance
 pub record Watch : Type 0 where
@@ -79,13 +78,14 @@ pub record Watch : Type 0 where
 abbrev pub watch : List Float → Float → Watch
 watch motion tolerance = record { motion = motion; tolerance = tolerance }
 
--- `before` are the multipliers before the sweep
+-- `before` are the multipliers before the sweep, and y the direction in which it moved them
 unfoldable pub tested : box.Problem → Watch → List Float → Run → Run
 tested p m before (ended e s) = ended e s
 tested p m before (going s) =
+    let y = tab (λ (i : ℕ). at (s .nu) i ⊖ at before i) (box.size p) in
     cond (le (sweep.moved (m .motion) (s .nu) before (length (m .motion) / length (s .nu))) (m .tolerance))
     (cond (le (sweep.residual p (s .states) (s .nu) (box.size p)) 1e-9) (ended converged s)
-    (unless cause.Sweep s (ray p (s .states) (sweep.change (s .nu) before (box.size p)))))
+    (unless cause.Sweep s (ray p (s .states) y)))
     (going s)
 
 unfoldable pub turn : ℕ → box.Problem → Watch → ℕ → Run → Run

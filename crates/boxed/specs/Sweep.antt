@@ -1,13 +1,12 @@
 -- The start of a solve, one sweep, growth, and the tests after a sweep, by document 01 and boxed.rs. Definitions only. A loop's last argument is how far it has come.
 use Prim.Native.Nat.{ℕ, suc}
-use mathlib.Core.Bool.{not, cond, _&&_}
+use mathlib.Core.Bool.{cond, _&&_, _||_}
 use mathlib.Core.List.{List}
-use lib.Dec.{eqb}
 use lib.ListN.{set, length}
 use lib.Ieee.{Float, lt}
-use Rattle.loops.specs.Loops.{turns, those, counted, tab}
-use Rattle.floats.specs.Ops.{_⊕_, _⊖_, _⊗_, at, 0ᶠ, 1e6}
-use Rattle.floats.specs.Helpers.{clamp, none, larger, abs}
+use Rattle.loops.specs.Loops.{turns, those}
+use Rattle.floats.specs.Ops.{_⊕_, _⊖_, _⊗_, _⊘_, at, 0ᶠ, 1e6}
+use Rattle.floats.specs.Helpers.{clamp, larger, abs}
 use Rattle.box_rows.specs.Rows as box
 
 -- ---- the start: a row that cannot act is Idle, and every multiplier is clamped, that of an Idle row from 0
@@ -38,15 +37,15 @@ sweep w uFree lo hi st nu i =
     (set nu i (box.update (at nu i) (box.rowSum r (at uFree i) nu) (at r i) (at lo i) (at hi i)))
     nu
 
--- ---- the rows that a sweep stops at a bound: those of the first i that act and whose update, when the sweep comes to the row, is stopped
+-- ---- the rows that a sweep stops at a bound: those of the first i that act and whose update is clamped when the sweep comes to the row
 
 unfoldable pub stopped : List Float → List Float → List Float → List Float → List ℕ → List Float → ℕ → ℕ
 stopped w uFree lo hi st nu i =
     turns i 0 λ i k.
     let v = sweep w uFree lo hi st nu i in
     let r = box.row w (length uFree) i in
-    let s = box.updateSide (at v i) (box.rowSum r (at uFree i) v) (at r i) (at lo i) (at hi i) in
-    counted (box.acts st i && not (eqb s none)) k
+    let x = at v i ⊖ box.rowSum r (at uFree i) v ⊘ at r i in
+    cond (box.acts st i && (lt x (at lo i) || lt (at hi i) x)) (suc k) k
 
 -- ---- growth: the rows whose multiplier is above a million scales (DIVERGENCE), Idle rows included
 
@@ -65,10 +64,6 @@ moved motion nu before c =
     turns c 0ᶠ λ c worst.
     let r = box.row motion (length nu) c in
     larger worst (abs (turns (length nu) 0ᶠ λ i s. s ⊕ at r i ⊗ (at nu i ⊖ at before i)))
-
--- the direction in which a sweep moved the multipliers
-unfoldable pub change : List Float → List Float → ℕ → List Float
-change nu before i = tab (λ (i : ℕ). at nu i ⊖ at before i) i
 
 -- ---- the states that the multipliers show
 

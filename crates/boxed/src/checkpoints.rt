@@ -73,7 +73,7 @@ fn attempt(
         (box.problem (now (w .entry)) (now («u_free» .entry)) (now (lo .entry)) (now (hi .entry)) (now (scale .entry)))
         (now (states .entry)) (now (nu .entry))))
         (now (rows .entry)) (now (work .entry))
-        q (now (nu .exit)) (now (states .exit)) (def.tried c) (now (rows .exit)) (now (work .exit))) ⌝ }
+        q (now (nu .exit)) (now (states .exit)) c (now (rows .exit)) (now (work .exit))) ⌝ }
 {
     let e = exact_pass::WORKSPACE + u_free.len();
     read::copy(nu, &mut work[exact_pass::WORKSPACE..e]);

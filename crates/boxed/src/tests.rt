@@ -111,7 +111,8 @@ fn moved(motion: &[f64], nu: &[f64], before: &[f64]) -> f64
 // In y the direction in which the multipliers moved.
 fn change(nu: &[f64], before: &[f64], y: &mut [f64])
     requires { ⌜ private.Pair (length (now nu)) (now before) (now y) ⌝ }
-    ensures { λ q. ⌜ now (y .exit) ≡ def.change (now (nu .entry)) (now (before .entry)) (length (now (nu .entry))) ⌝ }
+    ensures { λ q. ⌜ now (y .exit) ≡ private.change (now (nu .entry)) (now (before .entry))
+        (length (now (nu .entry))) ⌝ }
 {
     let n = nu.len();
     let mut i = 0;
@@ -138,7 +139,8 @@ fn ray_test(
         (solve.unless cause.Sweep (solve.iterate (now (nu .entry)) (now (states .entry)) c)
         (ray
         (box.problem (now (w .entry)) (now («u_free» .entry)) (now (lo .entry)) (now (hi .entry)) (now (scale .entry)))
-        (now (states .entry)) (def.change (now (nu .entry)) (now (before .entry)) (length (now («u_free» .entry))))))
+        (now (states .entry))
+        (private.change (now (nu .entry)) (now (before .entry)) (length (now («u_free» .entry))))))
         (now (rows .entry)) q (now (nu .entry)) (now (states .entry)) c (now (rows .exit))) ⌝ }
 {
     let n = u_free.len();

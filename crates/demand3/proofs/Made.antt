@@ -17,7 +17,8 @@ use Rattle.exact_pass.specs.Ray.{ray}
 use Rattle.exact_pass.specs.Pass as pass
 use Rattle.exact_pass.specs.Pass.{Pass, exactPass}
 use Rattle.boxed.specs.Sweep as sweep
-use Rattle.boxed.specs.Solve.{converged, Iterate, iterate, counts, tried, Run, going, ended, unless, checkpoint, passed, checked, Watch, tested, turn, run, SWEEP_CAP}
+use Rattle.boxed.specs.Private as sweeps
+use Rattle.boxed.specs.Solve.{converged, Iterate, iterate, counts, Run, going, ended, unless, checkpoint, passed, checked, Watch, tested, turn, run, SWEEP_CAP}
 use Rattle.boxed.specs.declared.Cause.the-variants as cause
 use Rattle.boxed.specs.declared.Counts.{Counts}
 use Rattle.demand3.proofs.Sweeps.{stoppedOf}
@@ -29,7 +30,7 @@ abbrev countsOf : Run → Counts
 countsOf (going s) = s .counts
 countsOf (ended e s) = s .counts
 
-passed-counts : (s : Iterate) (x : Pass) → countsOf (passed s x) ≡ tried (s .counts)
+passed-counts : (s : Iterate) (x : Pass) → countsOf (passed s x) ≡ s .counts
 unfolding passed
 passed-counts s (pass.moved t) = refl
 passed-counts s (pass.failed t) = refl
@@ -41,16 +42,19 @@ checked-counts : (p : Problem) (s : Iterate)
 unfolding checked
 checked-counts p s = go (checkpoint SWEEP_CAP (s .counts .sweeps))
   where
-    go : (b : Bool) → countsOf (cond b (passed s (exactPass p (s .states) (s .nu))) (going s)) ≡ counts (s .counts .sweeps) (s .counts .passes + cond (b && true) 1 0) (s .counts .stopped)
-    go true = passed-counts s (exactPass p (s .states) (s .nu)) ∙ ap (λ (k : ℕ). counts (s .counts .sweeps) k (s .counts .stopped)) (omega arith)
+    tried : Iterate
+    tried = iterate (s .nu) (s .states) (counts (s .counts .sweeps) (suc (s .counts .passes)) (s .counts .stopped))
+
+    go : (b : Bool) → countsOf (cond b (passed tried (exactPass p (s .states) (s .nu))) (going s)) ≡ counts (s .counts .sweeps) (s .counts .passes + cond (b && true) 1 0) (s .counts .stopped)
+    go true = passed-counts tried (exactPass p (s .states) (s .nu)) ∙ ap (λ (k : ℕ). counts (s .counts .sweeps) k (s .counts .stopped)) (omega arith)
     go false = ap (λ (k : ℕ). counts (s .counts .sweeps) k (s .counts .stopped)) (omega arith)
 
 tested-counts : (p : Problem) (m : Watch) (before : List Float) (x : Run) → countsOf (tested p m before x) ≡ countsOf x
-unfolding tested unless
+unfolding tested sweeps.change unless
 tested-counts p m before (ended e s) = refl
 tested-counts p m before (going s) =
     go (le (sweep.moved (m .motion) (s .nu) before (length (m .motion) / length (s .nu))) (m .tolerance)) (le (sweep.residual p (s .states) (s .nu) (size p)) 1e-9)
-    (ray p (s .states) (sweep.change (s .nu) before (size p)))
+    (ray p (s .states) (sweeps.change (s .nu) before (size p)))
   where
     go : (a b : Bool) (l : List ℕ) → countsOf (cond a (cond b (ended converged s) (unless cause.Sweep s l)) (going s)) ≡ s .counts
     go true true l = refl

@@ -17,8 +17,9 @@ use Rattle.exact_pass.specs.Pass as pass
 use Rattle.exact_pass.specs.Pass.{trial, Pass, found, exactPass}
 use Rattle.boxed.specs.Sweep as sweep
 use Rattle.boxed.specs.Private as sweeps
-use Rattle.boxed.specs.Solve.{Ending, exact, converged, conflict, Iterate, iterate, counts, tried, Run, going, ended, unless, checkpoint, passed, checked, Watch, tested, turn, run, SWEEP_CAP}
+use Rattle.boxed.specs.Solve.{Ending, exact, converged, conflict, Iterate, iterate, counts, Run, going, ended, unless, checkpoint, passed, checked, Watch, tested, turn, run, SWEEP_CAP}
 use Rattle.boxed.specs.declared.Cause.the-variants as cause
+use Rattle.boxed.specs.declared.Counts.{Counts}
 use Rattle.demand3.specs.Claims.{notAbove, oneSweep, sweptTo, sweepsAlone, stoppedTo, stoppedByLast, firstTried, LastStep}
 use Rattle.demand3.proofs.Rays.{grown-gathered, ray-gathered, ActsUnlimited}
 use Rattle.demand3.proofs.Due.{due-next}
@@ -107,13 +108,17 @@ module _ (p : Problem) (m : Watch) (nu₀ : List Float) (k : ℕ) (few : k < 200
   due n b q e = ap notAbove q ∙ due-next k few ∙ ap (λ (b : Bool). cond b (suc (notAbove k)) (notAbove k)) (sym (ap (checkpoint SWEEP_CAP) q) ∙ e)
 
   module _ (s : Iterate) (q : s .counts .sweeps ≡ suc k) (h : Stands p nu₀ k s) where
-    -- the states that a pass left, and one pass more
+    -- one pass more
+    abbrev tried : Counts
+    tried = counts (s .counts .sweeps) (suc (s .counts .passes)) (s .counts .stopped)
+
+    -- the states that a pass left
     after-pass : (st : List ℕ) → Stated p st → checkpoint SWEEP_CAP (s .counts .sweeps) ≡ true
-        → Stands p nu₀ (s .counts .sweeps) (iterate (s .nu) st (tried (s .counts)))
+        → Stands p nu₀ (s .counts .sweeps) (iterate (s .nu) st tried)
     after-pass st g e = record { stated = g; boxed = h .boxed; passes = ap suc (h .passes) ∙ sym (due (s .counts .sweeps) true q e); alone = h .alone; stopped = h .stopped }
 
     passed-runs : (x : Pass) → exactPass p (s .states) (s .nu) ≡ x → checkpoint SWEEP_CAP (s .counts .sweeps) ≡ true
-        → Passing p (s .nu) (firstTried p (s .states) (s .nu)) x → Runs p nu₀ (suc k) (suc k) (passed s x)
+        → Passing p (s .nu) (firstTried p (s .states) (s .nu)) x → Runs p nu₀ (suc k) (suc k) (passed (iterate (s .nu) (s .states) tried) x)
     unfolding passed
     passed-runs (pass.moved t) r e g = (q, recount _ (s .counts .sweeps) (suc k) q (after-pass (t .states) (g .stated) e))
     passed-runs (pass.failed t) r e g = (q, recount _ (s .counts .sweeps) (suc k) q (after-pass (t .states) (g .stated) e))
@@ -138,7 +143,8 @@ module _ (p : Problem) (m : Watch) (nu₀ : List Float) (k : ℕ) (few : k < 200
   checked-runs (ended e s) h = h
   checked-runs (going s) h = go (checkpoint SWEEP_CAP (s .counts .sweeps)) refl
     where
-      go : (b : Bool) → checkpoint SWEEP_CAP (s .counts .sweeps) ≡ b → Runs p nu₀ (suc k) (suc k) (cond b (passed s (exactPass p (s .states) (s .nu))) (going s))
+      go : (b : Bool) → checkpoint SWEEP_CAP (s .counts .sweeps) ≡ b
+          → Runs p nu₀ (suc k) (suc k) (cond b (passed (iterate (s .nu) (s .states) (tried s (h .0) (h .1))) (exactPass p (s .states) (s .nu))) (going s))
       go true e = passed-runs s (h .0) (h .1) (exactPass p (s .states) (s .nu)) refl e (exact-passing p (s .states) (s .nu) (h .1 .stated) (h .1 .boxed .long))
       go false e = (
         h .0,
@@ -153,15 +159,15 @@ module _ (p : Problem) (m : Watch) (nu₀ : List Float) (k : ℕ) (few : k < 200
       (omega arith, omega arith, record { standing = recount s (suc k) (s .counts .sweeps) (sym q) h; rows = record { some = omega arith; these = g } })
 
   tested-runs : (before : List Float) (x : Run) → Runs p nu₀ (suc k) (suc k) x → Runs p nu₀ (suc k) (suc k) (tested p m before x)
-  unfolding tested
+  unfolding tested sweeps.change
   tested-runs before (ended e s) h = h
   tested-runs before (going s) h = go (le (sweep.moved (m .motion) (s .nu) before (length (m .motion) / length (s .nu))) (m .tolerance)) (le (sweep.residual p (s .states) (s .nu) (size p)) 1e-9) refl
     where
       y : List Float
-      y = sweep.change (s .nu) before (size p)
+      y = sweeps.change (s .nu) before (size p)
 
       go : (a b : Bool) → le (sweep.residual p (s .states) (s .nu) (size p)) 1e-9 ≡ b
-          → Runs p nu₀ (suc k) (suc k) (cond a (cond b (ended converged s) (unless cause.Sweep s (ray p (s .states) (sweep.change (s .nu) before (size p))))) (going s))
+          → Runs p nu₀ (suc k) (suc k) (cond a (cond b (ended converged s) (unless cause.Sweep s (ray p (s .states) y))) (going s))
       go true true e =
           let q = h .0 in
           (omega arith, omega arith, record { standing = recount s (suc k) (s .counts .sweeps) (sym q) (h .1); small = e })

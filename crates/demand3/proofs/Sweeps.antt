@@ -11,12 +11,11 @@ use lib.ListN.{length, set, length-set}
 use lib.Seq.{getD-set-other}
 use lib.Ieee.{Float, nan}
 use borrow.Author.Tests.{eqb-true, eqb-false}
-use Rattle.loops.specs.Loops.{turns, counted}
+use Rattle.loops.specs.Loops.{turns}
 use Rattle.floats.specs.Ops.{at, _⊖_, _⊘_, 0ᶠ}
 use Rattle.floats.specs.Helpers.{clamp}
-use Rattle.floats.proofs.Box.{stops-past}
 use Rattle.box_rows.specs.Private.{rowOf}
-use Rattle.box_rows.specs.Rows.{Problem, size, acts, rowSum, update, updateSide}
+use Rattle.box_rows.specs.Rows.{Problem, size, acts, rowSum, update}
 use Rattle.boxed.specs.Sweep as sweep
 use Rattle.boxed.specs.Private as sweeps
 use Rattle.demand3.specs.Claims.{within, acting, NoneActs, clampedTo, unclamped, updatedAt, sweptTo, isStoppedAt, stoppedTo, sweepsAlone, stoppedByLast}
@@ -146,13 +145,10 @@ module _ (p : Problem) where
     -- ---- the rows that it stops
 
     stops-is : (nu : List Float) → length nu ≡ size p → (i : ℕ) → i < size p → sweeps.stops (p .w) (p .uFree) (p .lo) (p .hi) st i nu ≡ isStoppedAt p nu i
-    unfolding sweeps.stops updateSide
-    stops-is nu l i h =
-        rw (acts-is i h, unclamped-is nu l i h)
-        (ap (λ (b : Bool). acting p i && b) (stops-past (unclamped p nu i) (at (p .lo) i) (at (p .hi) i)))
+    unfolding sweeps.stops
+    stops-is nu l i h = rw (acts-is i h, unclamped-is nu l i h)
 
-    counted-is : (b : Bool) (k : ℕ) → counted b k ≡ k + cond b 1 0
-    unfolding counted
+    counted-is : (b : Bool) (k : ℕ) → cond b (suc k) k ≡ k + cond b 1 0
     counted-is true k = omega arith
     counted-is false k = omega arith
 

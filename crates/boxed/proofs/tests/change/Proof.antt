@@ -4,7 +4,6 @@ use mathlib.Core.Path.{_≡_}
 use native.Mathlib.Omega.{arith}
 use lib.ListN.{drop, length}
 use borrow.Author.Needs.{needs}
-use Rattle.boxed.specs.Sweep as def
 use Rattle.boxed.specs.Private as private
 use Rattle.loops.specs.Loops.{tab}
 use Rattle.box_rows.proofs.Matrix.{tab-filled}
@@ -28,7 +27,7 @@ loop-again c =
     (search needs, search needs, search needs, rw (at-put .put .ensures, at-at .at .ensures, at-at2 .at2 .ensures) (tab-again _ _ _ _ (at-loop .loop .inv .3) (at-loop .loop .inv .2) (omega (arith, at-pre .pre .second, at-loop .loop .inv .2))))
 
 returns : tie.Need-returns Inv-loop μ-loop
-unfolding def.change
+unfolding private.change
 returns c = search (tab-filled, needs)
 
 pub change-spec : {M : Type 1} → statement M
