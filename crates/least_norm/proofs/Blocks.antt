@@ -19,8 +19,10 @@ use Rattle.floats.specs.Ops.{_⊕_, _⊖_, _⊗_, _⊘_, at, 0ᶠ, 2ᶠ}
 use Rattle.floats.specs.Sums.{gathered}
 use Rattle.floats.proofs.Sums.{gathered-ext}
 use Rattle.floats.proofs.Commute.{product-comm}
-use Rattle.least_norm.specs.Reflector.{less, factor, reflect}
+use Rattle.least_norm.specs.Reflector.{reflect}
 use Rattle.least_norm.specs.LeastNorm as def
+use Rattle.least_norm.specs.Private as private
+use Rattle.least_norm.specs.Private.{less, factor}
 use Rattle.least_norm.specs.Blocks.{squares, products, lessRows}
 
 -- ---- norms and products
@@ -96,14 +98,14 @@ module _ (m n j : ℕ) (v : List Float) (vtv : Float) (low : j < m) where
   share q a = factor (j * n + q) (λ row. row * n + q) (at v j) (λ row. at v row) vtv (suc j) m a
 
   column : ℕ → List Float → List Float
-  column q a = def.reflectColumn m n j (at v j) (λ row. at v row) vtv q a
+  column q a = private.reflectColumn m n j (at v j) (λ row. at v row) vtv q a
 
   -- column q less f times v, from row j down
   lessened : ℕ → Float → List Float → List Float
   lessened q f a = updated nan (λ row. row * n + q) (λ row x. x ⊖ f ⊗ at v row) j m a
 
   column-is : (q : ℕ) (a : List Float) → column q a ≡ lessened q (share q a) a
-  unfolding column lessened share def.reflectColumn reflect less updated
+  unfolding column lessened share private.reflectColumn reflect factor updated
   column-is q a = sym (between-first a _ j m low)
 
   module _ (c : ℕ) (A : List Float) where
@@ -221,6 +223,6 @@ pub block-is : (m n j c k : ℕ) (v : List Float) (vtv : Float) (A f R : List Fl
     → ((t : ℕ) → t < k
     → at f t ≡ factor (j * n + (c + t)) (λ row. row * n + (c + t)) (at v j) (λ row. at v row) vtv (suc j) m A)
     → j < m → c + k ≤ n → 0 < k → length A ≡ m * n
-    → R ≡ between c (c + k) A (def.reflectColumn m n j (at v j) (λ row. at v row) vtv)
+    → R ≡ between c (c + k) A (private.reflectColumn m n j (at v j) (λ row. at v row) vtv)
 unfolding lessRows less share column rows
 block-is m n j c k v vtv A f R e s low fits some sized = e ∙ same m n j v vtv low c A k f fits sized s some ∙ sym (done-is m n j v vtv low c A k fits)

@@ -34,24 +34,24 @@ use Rattle.least_norm.proofs.Blocks.{norms-are}
 module _ (first : ℕ) (π ρ : ℕ → ℕ) (v0 : Float) (v w : ℕ → Float) (vtv : Float) (lo hi : ℕ) (z : List Float)
     (some : lo ≤ hi) (places : (t : ℕ) → lo ≤ t → t < hi → π t ≡ ρ t) (entries : (t : ℕ) → lo ≤ t → t < hi → v t ≡ w t)
   where
-    factor-ext : H.factor first π v0 v vtv lo hi z ≡ H.factor first ρ v0 w vtv lo hi z
-    unfolding H.factor
+    factor-ext : private.factor first π v0 v vtv lo hi z ≡ private.factor first ρ v0 w vtv lo hi z
+    unfolding private.factor
     factor-ext =
         ap (λ (x : Float). 2ᶠ ⊗ x ⊘ vtv)
         (gathered-ext (add binary64) (v0 ⊗ at z first) _ lo _ hi some λ t l u. rw (places t l u, entries t l u))
 
     pub reflect-ext : H.reflect first π v0 v vtv lo hi z ≡ H.reflect first ρ v0 w vtv lo hi z
-    unfolding H.reflect H.less updated
+    unfolding H.reflect private.factor updated
     reflect-ext = rw factor-ext (between-ext _ _ _ lo hi some λ t x l u. rw (places t l u, entries t l u))
 
 -- u0's product comes first, then those of u, whose entries are one place apart
 pub reflect-run : (first p k : ℕ) (u0 : Float) (u : List Float) (q : ℕ) (utu : Float) (lo hi : ℕ) (z z1 r : List Float)
     (s : Float)
-    → r ≡ H.less (λ (t : ℕ). p + t * k) (2ᶠ ⊗ s ⊘ utu) (λ (t : ℕ). at u (q + t)) lo hi z1
+    → r ≡ private.less (λ (t : ℕ). p + t * k) (2ᶠ ⊗ s ⊘ utu) (λ (t : ℕ). at u (q + t)) lo hi z1
     → z1 ≡ set z first (at z first ⊖ 2ᶠ ⊗ s ⊘ utu ⊗ u0)
     → s ≡ sum (u0 ⊗ at z first) (λ (t : ℕ). at u (q + t * 1) ⊗ at z (p + t * k)) lo hi → lo ≤ hi
     → r ≡ H.reflect first (λ (t : ℕ). p + t * k) u0 (λ (t : ℕ). at u (q + t)) utu lo hi z
-unfolding H.reflect H.factor
+unfolding H.reflect private.factor private.less
 reflect-run first p k u0 u q utu lo hi z z1 r s e w f h =
     let g : s ≡ sum (u0 ⊗ at z first) (λ (t : ℕ). at u (q + t) ⊗ at z (p + t * k)) lo hi =
     f ∙ gathered-ext (add binary64) (u0 ⊗ at z first) _ lo _ hi h (λ t l m. rw (mul-one t)) in
@@ -72,27 +72,27 @@ no-norm (suc (suc (suc zero))) h = refl
 no-norm (suc (suc (suc (suc t)))) h = absurd (omega arith)
 
 pub four-picked : (a : List Float) (m n j c : ℕ) (best r : Pivot) (s : List Float)
-    → r ≡ between 0 4 best (λ (t : ℕ) (p : Pivot). def.picked (c + t) (at s t) p) → s ≡ squares a n c 4 zeros j m
-    → j ≤ m → r ≡ between c (c + 4) best (def.better a m n j)
-unfolding def.better
+    → r ≡ between 0 4 best (λ (t : ℕ) (p : Pivot). private.picked (c + t) (at s t) p) → s ≡ squares a n c 4 zeros j m
+    → j ≤ m → r ≡ between c (c + 4) best (private.better a m n j)
+unfolding private.better
 four-picked a m n j c best r s e f h =
     e ∙ rw f
     (between-ext best _ _ 0 4 (omega arith)
     λ t p l u. rw (norms-are a n j m c 4 zeros (omega arith) h t u (no-norm t u))) ∙ sym (between-shift best _ c 4)
 
-pub one-picked : (a : List Float) (m n j c k : ℕ) (best p r : Pivot) (norm : Float) → r ≡ def.picked k norm p
-    → norm ≡ def.norm2 a n k j m → p ≡ between c k best (def.better a m n j) → c ≤ k
-    → r ≡ between c (k + 1) best (def.better a m n j)
-unfolding def.better
+pub one-picked : (a : List Float) (m n j c k : ℕ) (best p r : Pivot) (norm : Float) → r ≡ private.picked k norm p
+    → norm ≡ def.norm2 a n k j m → p ≡ between c k best (private.better a m n j) → c ≤ k
+    → r ≡ between c (k + 1) best (private.better a m n j)
+unfolding private.better
 one-picked a m n j c k best p r norm e f g h = between-again best _ c k p r h g (rw f at e)
 
 pub find-run : (a : List Float) (m n j : ℕ) (norm : Float) (e : Scan) (g : Pivot)
-    → g ≡ between (e .next) n (e .best) (def.better a m n j)
+    → g ≡ between (e .next) n (e .best) (private.better a m n j)
     → private.Scanned a m n j (j + 1) (record { col = j; norm = norm }) e → norm ≡ def.norm2 a n j j m
     → g ≡ def.pivot a m n j
-unfolding def.pivot
+unfolding def.pivot private.better private.picked
 find-run a m n j norm e g eg se en =
-    let x : e .best ≡ between (suc j) (e .next) (record { col = j; norm = def.norm2 a n j j m }) (def.better a m n j) =
+    let x : e .best ≡ between (suc j) (e .next) (record { col = j; norm = def.norm2 a n j j m }) (private.better a m n j) =
     rw (add-one, en) at (se .pivot) in
     between-more _ _ (suc j) (e .next) n (e .best) g eg x (omega (arith, se .from)) (se .to)
 
@@ -101,8 +101,8 @@ unfolding def.brought
 brought-still m n j c a b p e = rw (eq-eqb c j e)
 
 pub brought-run : (m n j c : ℕ) (a b : List Float) (p : List ℕ) (a1 : List Float) (p1 : List ℕ) → p1 ≡ swap 0 p j c
-    → a1 ≡ def.swapColumns n j c a m → (c ≡ j → ⊥) → def.factors a1 b p1 ≡ def.brought m n j c (def.factors a b p)
-unfolding def.brought
+    → a1 ≡ private.swapColumns n j c a m → (c ≡ j → ⊥) → def.factors a1 b p1 ≡ def.brought m n j c (def.factors a b p)
+unfolding def.brought private.swapColumns
 brought-run m n j c a b p a1 p1 ep ea e = rw (ne-eqb c j e, ep, ea)
 
 -- ---- a column's reflector
@@ -122,8 +122,8 @@ module _ (a : List Float) (m n j : ℕ) (v v1 : List Float) (sigma beta : Float)
   unfolding def.norm2
   sigma-is = sums ∙ rw add-one (gathered-ext (add binary64) 0ᶠ _ (suc j) _ m low λ t l u. rw (mul-one t, zero-add t, entry t (omega arith) u))
 
-  parts : record { beta = beta; v0 = at v1 j ⊖ beta; vtv = (at v1 j ⊖ beta) ⊗ (at v1 j ⊖ beta) ⊕ sigma } ≡ def.householder a m n j
-  unfolding def.householder
+  parts : record { beta = beta; v0 = at v1 j ⊖ beta; vtv = (at v1 j ⊖ beta) ⊗ (at v1 j ⊖ beta) ⊕ sigma } ≡ private.householder a m n j
+  unfolding private.householder
   parts = rw (signed, sigma-is, entry j (omega arith) low)
 
   pub householder-run : private.Reflects a m n j
@@ -138,8 +138,8 @@ module _ (a : List Float) (m n j : ℕ) (v v1 : List Float) (sigma beta : Float)
 
 pub reflect-column-run : (m n j : ℕ) (v : List Float) (vtv : Float) (c first : ℕ) (a r : List Float)
     → r ≡ H.reflect first (λ (t : ℕ). c + t * n) (at v j) (λ (t : ℕ). at v (0 + t)) vtv (j + 1) m a → first ≡ j * n + c
-    → j < m → r ≡ def.reflectColumn m n j (at v j) (λ row. at v row) vtv c a
-unfolding def.reflectColumn
+    → j < m → r ≡ private.reflectColumn m n j (at v j) (λ row. at v row) vtv c a
+unfolding private.reflectColumn
 reflect-column-run m n j v vtv c first a r e f h =
     e ∙ rw (f, add-one)
     (reflect-ext (j * n + c) (λ t. c + t * n) (λ row. row * n + c) (at v j) (λ t. at v (0 + t)) (λ row. at v row) vtv
@@ -151,9 +151,9 @@ columns-run n j c f a a1 a2 e2 e1 h1 h2 = let x : a1 ≡ between (suc j) c a f =
     between-more a f (suc j) c n a1 a2 e2 x (omega arith) h2
 
 module _ (m n j : ℕ) (a b v : List Float) (h : Householder) (refl-of : private.Reflects a m n j h v) (low : j < m) (small : j < n) where
-  columns-same : between (suc j) n a (def.reflectColumn m n j (at v j) (λ row. at v row) (h .vtv))
-      ≡ between (suc j) n a (def.reflectColumn m n j (h .v0) (λ row. at a (row * n + j)) (h .vtv))
-  unfolding def.reflectColumn
+  columns-same : between (suc j) n a (private.reflectColumn m n j (at v j) (λ row. at v row) (h .vtv))
+      ≡ between (suc j) n a (private.reflectColumn m n j (h .v0) (λ row. at a (row * n + j)) (h .vtv))
+  unfolding private.reflectColumn
   columns-same =
       between-ext a _ _ (suc j) n small λ c x l u.
       rw (refl-of .first)
@@ -166,12 +166,12 @@ module _ (m n j : ℕ) (a b v : List Float) (h : Householder) (refl-of : private
       reflect-ext j (λ t. 0 + t * 1) (λ row. row) (h .v0) (λ t. at v (0 + t)) (λ row. at a (row * n + j)) (h .vtv)
       (suc j) m b low (λ t l u. rw (mul-one t, zero-add t)) (λ t l u. rw (zero-add t) (refl-of .below t l u))
 
-  pub eliminated-run : (p : List ℕ) (a1 a2 a3 b1 : List Float) → a3 ≡ def.zeroBelow n j a2 m
+  pub eliminated-run : (p : List ℕ) (a1 a2 a3 b1 : List Float) → a3 ≡ private.zeroBelow n j a2 m
       → a2 ≡ set a1 (j * n + j) (h .beta)
       → b1 ≡ H.reflect j (λ (t : ℕ). 0 + t * 1) (h .v0) (λ (t : ℕ). at v (0 + t)) (h .vtv) (j + 1) m b
-      → a1 ≡ between (suc j) n a (def.reflectColumn m n j (at v j) (λ row. at v row) (h .vtv))
+      → a1 ≡ between (suc j) n a (private.reflectColumn m n j (at v j) (λ row. at v row) (h .vtv))
       → def.factors a3 b1 p ≡ def.eliminated m n j (def.factors a b p)
-  unfolding def.eliminated
+  unfolding def.eliminated private.householder private.reflectColumn private.zeroBelow
   eliminated-run p a1 a2 a3 b1 e3 e2 eb e1 =
       let x : b1 ≡ H.reflect j (λ (t : ℕ). 0 + t * 1) (h .v0) (λ (t : ℕ). at v (0 + t)) (h .vtv) (suc j) m b = rw add-one at eb in
       rw (e3, e2, x, e1, columns-same, side-same, refl-of .parts)
@@ -225,27 +225,27 @@ reduced-done m n a b j k s e g h =
 -- ---- the rank
 
 pub leads-run : (n : ℕ) (a : List Float) (i : ℕ) (x y v w : Float) → x ≡ abs v → y ≡ abs w → v ≡ at a (0 * n + 0)
-    → w ≡ at a (i * n + i) → lt (1e-11 ⊗ x) y ≡ def.leads n a i
-unfolding def.leads
+    → w ≡ at a (i * n + i) → lt (1e-11 ⊗ x) y ≡ private.leads n a i
+unfolding private.leads
 leads-run n a i x y v w ex ey ev ew = let q : 0 * n + 0 ≡ 0 = omega arith in rw (ex, ey, ev, ew, q)
 
 -- all of the first i lead; the next does too, or it ends the count
-module _ (n : ℕ) (a : List Float) (i : ℕ) (all : i ≡ def.leading n a i) (l : Bool) (this : l ≡ def.leads n a i) where
+module _ (n : ℕ) (a : List Float) (i : ℕ) (all : i ≡ def.leading n a i) (l : Bool) (this : l ≡ private.leads n a i) where
   pub leading-again : l ≡ true → i + 1 ≡ def.leading n a (i + 1)
-  unfolding def.leading def.counted turns
-  leading-again t = let u : def.leads n a i ≡ true = sym this ∙ t in rw (add-one, ← all, eq-eqb i i refl, u)
+  unfolding def.leading private.counted private.leads turns
+  leading-again t = let u : private.leads n a i ≡ true = sym this ∙ t in rw (add-one, ← all, eq-eqb i i refl, u)
 
   leading-here : l ≡ false → def.leading n a (suc i) ≡ i
-  unfolding def.leading def.counted turns
-  leading-here t = let u : def.leads n a i ≡ false = sym this ∙ t in rw (← all, eq-eqb i i refl, u)
+  unfolding def.leading private.counted private.leads turns
+  leading-here t = let u : private.leads n a i ≡ false = sym this ∙ t in rw (← all, eq-eqb i i refl, u)
 
-  counted-still : (j : ℕ) → i < j → def.counted n a j i ≡ i
-  unfolding def.counted
+  counted-still : (j : ℕ) → i < j → private.counted n a j i ≡ i
+  unfolding private.counted
   counted-still j h = rw (ne-eqb i j (λ e. omega arith))
 
   pub leading-ended : (k : ℕ) → l ≡ false → i < k → i ≡ def.leading n a k
-  unfolding def.leading
-  leading-ended k t h = sym (stays (def.counted n a) 0 i (suc i) (leading-here t) (λ j b. counted-still j (omega arith)) k h)
+  unfolding def.leading private.counted private.leads
+  leading-ended k t h = sym (stays (private.counted n a) 0 i (suc i) (leading-here t) (λ j b. counted-still j (omega arith)) k h)
 
 pub leading-done : (n : ℕ) (a : List Float) (i k : ℕ) → i ≡ def.leading n a i → i ≤ k → k ≤ i → k ≡ def.leading n a k
 leading-done n a i k e g h = let q : i ≡ k = omega arith in rw q at e
@@ -257,26 +257,26 @@ module _ (n rank i : ℕ) (p : ℕ) (start : p ≡ i * n + 0) where
   row = omega arith
 
   pub row-norm-run : (a : List Float) (s r : Float) → r ≡ sum s (λ (t : ℕ). at a (p + t * 1) ⊗ at a (p + t * 1)) rank n
-      → rank ≤ n → r ≡ def.rowNorm2 n rank i a s
-  unfolding def.rowNorm2
+      → rank ≤ n → r ≡ private.rowNorm2 n rank i a s
+  unfolding private.rowNorm2
   row-norm-run a s r e h = e ∙ rw row (gathered-ext (add binary64) s _ rank _ n h λ t l u. rw (mul-one t))
 
   pub kept-run : (q : ℕ) (a right right1 : List Float)
       → right1 ≡ updated nan (λ (t : ℕ). q + t) (λ (t : ℕ) (v : Float). at a (p + t)) rank n right → q ≡ i * n + 0
-      → right1 ≡ def.keptRow n rank i a right
-  unfolding def.keptRow
+      → right1 ≡ private.keptRow n rank i a right
+  unfolding private.keptRow
   kept-run q a right right1 e f = let g : q ≡ i * n = omega arith in rw (row, g) at e
 
   pub known-run : (a b y : List Float) (r : Float)
       → r ≡ difference (at b i) (λ (t : ℕ). at a (p + t) ⊗ at y (0 + t)) (i + 1) rank → i < rank
-      → r ≡ def.known n rank a b y i
-  unfolding def.known
+      → r ≡ private.known n rank a b y i
+  unfolding private.known
   known-run a b y r e h = e ∙ rw (add-one, row) (gathered-ext (sub binary64) (at b i) _ (suc i) _ rank h λ t l u. rw (zero-add t))
 
   pub reflect-row-run : (right : List Float) (u0 utu : Float) (k q first : ℕ) (a a1 : List Float)
       → a1 ≡ H.reflect first (λ (t : ℕ). q + t * 1) u0 (λ (t : ℕ). at right (p + t)) utu rank n a → q ≡ k * n + 0
-      → first ≡ k * n + i → rank ≤ n → a1 ≡ def.reflectRow n rank i right u0 utu k a
-  unfolding def.reflectRow
+      → first ≡ k * n + i → rank ≤ n → a1 ≡ private.reflectRow n rank i right u0 utu k a
+  unfolding private.reflectRow
   reflect-row-run right u0 utu k q first a a1 e f g h =
       let r : q ≡ k * n = omega arith in
       e ∙ rw (row, r, g)
@@ -285,54 +285,54 @@ module _ (n rank i : ℕ) (p : ℕ) (start : p ≡ i * n + 0) where
 
   pub turn-run : (right y y1 : List Float) (u0 utu : Float)
       → y1 ≡ H.reflect i (λ (t : ℕ). 0 + t * 1) u0 (λ (t : ℕ). at right (p + t)) utu rank n y → eq utu 0ᶠ ≡ false
-      → utu ≡ def.rowNorm2 n rank i right (u0 ⊗ u0) → u0 ≡ at right (i * n + i) → rank ≤ n
-      → y1 ≡ def.turn n rank right i y
-  unfolding def.turn
+      → utu ≡ private.rowNorm2 n rank i right (u0 ⊗ u0) → u0 ≡ at right (i * n + i) → rank ≤ n
+      → y1 ≡ private.turn n rank right i y
+  unfolding private.turn
   turn-run right y y1 u0 utu e h d u l =
-      let q : eq (def.rowNorm2 n rank i right (at right (i * n + i) ⊗ at right (i * n + i))) 0ᶠ ≡ false = rw (← u, ← d) h in
+      let q : eq (private.rowNorm2 n rank i right (at right (i * n + i) ⊗ at right (i * n + i))) 0ᶠ ≡ false = rw (← u, ← d) h in
       e ∙ rw (row, q, ← u, ← d)
       (reflect-ext i (λ t. 0 + t * 1) (λ t. t) u0 (λ t. at right (i * n + t)) (λ t. at right (i * n + t)) utu rank n y l
       (λ t l u. rw (mul-one t, zero-add t)) (λ t l u. refl))
 
 pub turn-still : (n rank : ℕ) (right : List Float) (i : ℕ) (y : List Float) (utu u0 : Float) → eq utu 0ᶠ ≡ true
-    → utu ≡ def.rowNorm2 n rank i right (u0 ⊗ u0) → u0 ≡ at right (i * n + i) → y ≡ def.turn n rank right i y
-unfolding def.turn
+    → utu ≡ private.rowNorm2 n rank i right (u0 ⊗ u0) → u0 ≡ at right (i * n + i) → y ≡ private.turn n rank right i y
+unfolding private.turn
 turn-still n rank right i y utu u0 h d u =
-    let q : eq (def.rowNorm2 n rank i right (at right (i * n + i) ⊗ at right (i * n + i))) 0ᶠ ≡ true =
+    let q : eq (private.rowNorm2 n rank i right (at right (i * n + i) ⊗ at right (i * n + i))) 0ᶠ ≡ true =
     rw (← u, ← d) h in
     rw q
 
-module _ (n rank i : ℕ) (a right : List Float) (alpha sigma : Float) (sums : sigma ≡ def.rowNorm2 n rank i a 0ᶠ) where
-  pub clear-still : eq sigma 0ᶠ ≡ true → def.trapezoid a right ≡ def.clear n rank i (def.trapezoid a right)
-  unfolding def.clear
-  clear-still h = let q : eq (def.rowNorm2 n rank i a 0ᶠ) 0ᶠ ≡ true = rw (← sums) h in rw q
+module _ (n rank i : ℕ) (a right : List Float) (alpha sigma : Float) (sums : sigma ≡ private.rowNorm2 n rank i a 0ᶠ) where
+  pub clear-still : eq sigma 0ᶠ ≡ true → def.trapezoid a right ≡ private.clear n rank i (def.trapezoid a right)
+  unfolding private.clear
+  clear-still h = let q : eq (private.rowNorm2 n rank i a 0ᶠ) 0ᶠ ≡ true = rw (← sums) h in rw q
 
   pub clear-run : (a1 u u1 : List Float) (g : Float)
-      → a1 ≡ def.reflectRows n rank i u (alpha ⊖ g) ((alpha ⊖ g) ⊗ (alpha ⊖ g) ⊕ sigma) a (suc i)
-      → u ≡ def.keptRow n rank i a u1 → u1 ≡ set right (i * n + i) (alpha ⊖ g) → g ≡ H.beta alpha sigma
-      → eq sigma 0ᶠ ≡ false → alpha ≡ at a (i * n + i) → def.trapezoid a1 u ≡ def.clear n rank i (def.trapezoid a right)
-  unfolding def.clear
-  clear-run a1 u u1 g ea eu e1 eg h el = let q : eq (def.rowNorm2 n rank i a 0ᶠ) 0ᶠ ≡ false = rw (← sums) h in rw (q, ea, eu, e1, eg, sums, el)
+      → a1 ≡ private.reflectRows n rank i u (alpha ⊖ g) ((alpha ⊖ g) ⊗ (alpha ⊖ g) ⊕ sigma) a (suc i)
+      → u ≡ private.keptRow n rank i a u1 → u1 ≡ set right (i * n + i) (alpha ⊖ g) → g ≡ H.beta alpha sigma
+      → eq sigma 0ᶠ ≡ false → alpha ≡ at a (i * n + i) → def.trapezoid a1 u ≡ private.clear n rank i (def.trapezoid a right)
+  unfolding private.clear
+  clear-run a1 u u1 g ea eu e1 eg h el = let q : eq (private.rowNorm2 n rank i a 0ᶠ) 0ᶠ ≡ false = rw (← sums) h in rw (q, ea, eu, e1, eg, sums, el)
 
 pub cleared-some : (n rank : ℕ) (a : List Float) (t : def.Trapezoid) → t ≡ def.cleared n rank a 0 → rank < n
-    → t ≡ def.cleared n rank a (def.lastCleared n rank)
-unfolding def.lastCleared
+    → t ≡ def.cleared n rank a (private.lastCleared n rank)
+unfolding private.lastCleared
 cleared-some n rank a t e h = rw (lt-ltb rank n h) e
 
 pub cleared-none : (n rank : ℕ) (a right : List Float) (k : ℕ) → right ≡ replicate k 0ᶠ → k ≡ rank * n → n ≤ rank
-    → def.trapezoid a right ≡ def.cleared n rank a (def.lastCleared n rank)
-unfolding def.lastCleared def.cleared
+    → def.trapezoid a right ≡ def.cleared n rank a (private.lastCleared n rank)
+unfolding private.lastCleared def.cleared
 cleared-none n rank a right k e q h = rw (le-ltb rank n h, e, q) (downward-from _ _ rank)
 
 -- ---- the solution
 
 pub turned-some : (n rank : ℕ) (right y z : List Float) → z ≡ def.turned n rank right y rank → rank < n
-    → z ≡ def.turned n rank right y (def.firstTurned n rank)
-unfolding def.firstTurned
+    → z ≡ def.turned n rank right y (private.firstTurned n rank)
+unfolding private.firstTurned
 turned-some n rank right y z e h = rw (lt-ltb rank n h) e
 
-pub turned-none : (n rank : ℕ) (right y : List Float) → n ≤ rank → y ≡ def.turned n rank right y (def.firstTurned n rank)
-unfolding def.firstTurned def.turned
+pub turned-none : (n rank : ℕ) (right y : List Float) → n ≤ rank → y ≡ def.turned n rank right y (private.firstTurned n rank)
+unfolding private.firstTurned def.turned
 turned-none n rank right y h = rw (le-ltb rank n h) (turns-from _ _)
 
 pub replicate-at : (s : List Float) (v : Float) (k l : ℕ) → s ≡ replicate k v → k ≡ l → s ≡ replicate l v
@@ -343,10 +343,10 @@ tab-at s k l e q = rw (← q) e
 
 pub solved-run : (n rank : ℕ) (a b : List Float) (perm : List ℕ) (x z y u a1 : List Float)
     → x ≡ def.unpermuted (length perm) perm z (length perm) → length perm ≡ n
-    → z ≡ def.turned n rank u y (def.firstTurned n rank) → y ≡ def.substituted n rank a1 b 0
-    → def.trapezoid a1 u ≡ def.cleared n rank a (def.lastCleared n rank) → 0 < rank
+    → z ≡ def.turned n rank u y (private.firstTurned n rank) → y ≡ def.substituted n rank a1 b 0
+    → def.trapezoid a1 u ≡ def.cleared n rank a (private.lastCleared n rank) → 0 < rank
     → def.solution rank a1 b x ≡ def.solved n (def.factors a b perm) rank
-unfolding def.solved
+unfolding def.solved private.lastCleared private.firstTurned
 solved-run n zero a b perm x z y u a1 ex q ez ey et h = absurd (not-suc-le-zero h)
 solved-run n (suc r) a b perm x z y u a1 ex q ez ey et h = rw (← et, ex, q, ez, ey)
 
@@ -367,7 +367,7 @@ pub least-run : (m n : ℕ) (a b : List Float) (k c rank : ℕ) (s : def.Factors
     → def.solution rank a2 (s .b) x ≡ def.solved n s rank → rank ≡ def.leading n (s .a) c
     → private.Stopped k (def.reduced m n a b k) c s → k ≡ min m n
     → def.solution rank a2 (s .b) x ≡ def.leastNorm m n a b
-unfolding def.leastNorm def.ranked
+unfolding def.leastNorm
 least-run m n a b k c rank s x a2 ea er es ek = rw (← ek, ← es .factors, ← es .columns, ← er) ea
 
 -- ---- the public call

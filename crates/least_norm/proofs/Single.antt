@@ -23,26 +23,29 @@ reduced-one : (alpha y : Float) → def.reduced 1 1 (alpha ∷ []) (y ∷ []) 1 
     cond (eq (0ᶠ ⊕ alpha ⊗ alpha) 0ᶠ) (def.ended 0 (def.factors (alpha ∷ []) (y ∷ []) (0 ∷ [])))
     (def.going (def.factors (H.beta alpha 0ᶠ ∷ []) (left alpha (H.beta alpha 0ᶠ) y ∷ []) (0 ∷ [])))
 unfolding
-    def.reduced def.reduce def.pivot def.norm2 def.brought def.eliminated def.householder def.zeroBelow H.reflect
-    H.factor H.less turns between tab updated gathered
+    def.reduced def.reduce def.pivot def.norm2 def.brought def.eliminated H.reflect turns between tab updated gathered
 reduced-one alpha y = refl
 
+-- the solution after the reduction of k columns, or fewer
+abbrev ranked : ℕ → ℕ → def.Reduced → def.Solution
+ranked n k r = def.solved n (def.left r) (def.leading n (def.left r .a) (def.columns k r))
+
 ranked-ended : (alpha y : Float)
-    → def.ranked 1 1 (def.ended 0 (def.factors (alpha ∷ []) (y ∷ []) (0 ∷ [])))
+    → ranked 1 1 (def.ended 0 (def.factors (alpha ∷ []) (y ∷ []) (0 ∷ [])))
     ≡ def.solution 0 (alpha ∷ []) (y ∷ []) (0ᶠ ∷ [])
-unfolding def.ranked def.solved def.leading turns
+unfolding def.solved def.leading turns
 ranked-ended alpha y = refl
 
 -- the one entry of R leads, or the rank is 0
 solved-one : (beta y : Float) (b : Bool) → def.solved 1 (def.factors (beta ∷ []) (y ∷ []) (0 ∷ [])) (cond b 1 0) ≡
     cond b (def.solution 1 (beta ∷ []) (y ∷ []) (y ⊘ beta ∷ [])) (def.solution 0 (beta ∷ []) (y ∷ []) (0ᶠ ∷ []))
-unfolding def.solved def.cleared def.lastCleared def.substituted def.known def.turned def.firstTurned def.unpermuted turns between downward gathered
+unfolding def.solved def.cleared def.substituted def.turned def.unpermuted turns between downward gathered
 solved-one beta y true = refl
 solved-one beta y false = refl
 
-ranked-going : (beta y : Float) → def.ranked 1 1 (def.going (def.factors (beta ∷ []) (y ∷ []) (0 ∷ []))) ≡
+ranked-going : (beta y : Float) → ranked 1 1 (def.going (def.factors (beta ∷ []) (y ∷ []) (0 ∷ []))) ≡
     cond (lt (1e-11 ⊗ abs beta) (abs beta)) (def.solution 1 (beta ∷ []) (y ∷ []) (y ⊘ beta ∷ [])) (def.solution 0 (beta ∷ []) (y ∷ []) (0ᶠ ∷ []))
-unfolding def.ranked def.leading def.counted def.leads turns
+unfolding def.leading turns
 ranked-going beta y = solved-one beta y (lt (1e-11 ⊗ abs beta) (abs beta))
 
 -- ---- lists of one entry
@@ -60,7 +63,7 @@ single-set (u ∷ w ∷ l) v h = absurd (omega arith)
 -- ---- the three ways to end
 
 module _ (a b x : List Float) (one-a : length a ≡ 1) (one-b : length b ≡ 1) (one-x : length x ≡ 1) where
-  whole : def.leastNorm 1 1 a b ≡ def.ranked 1 1 (def.reduced 1 1 (at a 0 ∷ []) (at b 0 ∷ []) 1)
+  whole : def.leastNorm 1 1 a b ≡ ranked 1 1 (def.reduced 1 1 (at a 0 ∷ []) (at b 0 ∷ []) 1)
   unfolding def.leastNorm
   whole = rw (single a one-a, single b one-b)
 

@@ -69,7 +69,7 @@ module _ (perm : List ℕ) (y x z : List Float) (same : length x ≡ length z) w
 
 module _ (n : ℕ) (a b x z : List Float) (lx : length x ≡ n) (lz : length z ≡ n) where
   entry : List Float → ℕ → Float
-  entry y i = def.known n n a b y i ⊘ at a (i * n + i)
+  entry y i = private.known n n a b y i ⊘ at a (i * n + i)
 
   fill : ℕ → List Float → List Float
   fill t y = set y (n - suc t) (entry y (n - suc t))
@@ -80,7 +80,7 @@ module _ (n : ℕ) (a b x z : List Float) (lx : length x ≡ n) (lz : length z �
   fill-long l (suc d) = rw length-set (fill-long l d)
 
   entry-same : (u v : List Float) (i : ℕ) → i < n → ((p : ℕ) → suc i ≤ p → p < n → at u p ≡ at v p) → entry u i ≡ entry v i
-  unfolding entry def.known
+  unfolding entry private.known
   entry-same u v i h e =
       ap (λ (s : Float). s ⊘ at a (i * n + i))
       (gathered-ext (sub binary64) (at b i) _ (suc i) _ n h
@@ -120,7 +120,7 @@ module _ (n : ℕ) (a b x z : List Float) (lx : length x ≡ n) (lz : length z �
 
 pub zeros-substituted : (n rank : ℕ) (a b y z : List Float) → y ≡ starts.substituted z n rank a b 0 → z ≡ replicate n 0ᶠ
     → y ≡ def.substituted n rank a b 0
-unfolding starts.substituted def.substituted
+unfolding starts.substituted def.substituted private.known
 zeros-substituted n rank a b y z e q = rw (e, q)
 
 zeros-unpermuted : (n k : ℕ) (perm : List ℕ) (y x z : List Float) → x ≡ starts.unpermuted z perm y k
@@ -181,8 +181,8 @@ module _ (n j c : ℕ) (l : List ℕ) (j-in : j < n) (c-in : c < n) (fine : Fine
   swapped-fine = (swapped-long, swapped-onto)
 
 module _ (a : List Float) (m n j : ℕ) where
-  better-in : (c : ℕ) (p : Pivot) → c < n → p .col < n → def.better a m n j c p .col < n
-  unfolding def.better def.picked
+  better-in : (c : ℕ) (p : Pivot) → c < n → p .col < n → private.better a m n j c p .col < n
+  unfolding private.better private.picked
   better-in c p h k = go (lt (p .norm) (def.norm2 a n c j m))
     where
       go : (b : Bool) → cond b (record { col = c; norm = def.norm2 a n c j m }) p .col < n
@@ -190,17 +190,17 @@ module _ (a : List Float) (m n j : ℕ) where
       go false = k
 
   pivot-in : j < n → def.pivot a m n j .col < n
-  unfolding def.pivot between
+  unfolding def.pivot private.better private.picked between
   pivot-in h =
-      turns-keep (λ t. def.better a m n j (suc j + t)) (record { col = j; norm = def.norm2 a n j j m })
+      turns-keep (λ t. private.better a m n j (suc j + t)) (record { col = j; norm = def.norm2 a n j j m })
       (λ t p. p .col < n) (n - suc j) h (λ i p l k. better-in (suc j + i) p (omega arith) k)
 
 module _ (m n j : ℕ) (h : j < n) where
   brought-fine : (c : ℕ) (s : def.Factors) → c < n → Fine n (s .perm) → Fine n (def.brought m n j c s .perm)
-  unfolding def.brought
+  unfolding def.brought private.swapColumns
   brought-fine c s k f = go (eqb c j)
     where
-      go : (b : Bool) → Fine n (cond b s (def.factors (def.swapColumns n j c (s .a) m) (s .b) (swap 0 (s .perm) j c)) .perm)
+      go : (b : Bool) → Fine n (cond b s (def.factors (private.swapColumns n j c (s .a) m) (s .b) (swap 0 (s .perm) j c)) .perm)
       go true = f
       go false = swapped-fine n j c (s .perm) h k f
 

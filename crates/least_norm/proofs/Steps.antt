@@ -10,9 +10,10 @@ use Rattle.loops.specs.Updates.{updated}
 use Rattle.loops.proofs.Turns.{between-from, between-again, between-done, downward-from, downward-again, downward-done, turns-from, turns-again, turns-done}
 use Rattle.loops.proofs.Updates.{updated-start, updated-again, updated-done}
 use Rattle.floats.specs.Ops.{_⊕_, _⊗_, _⊘_, at, 0ᶠ}
-use Rattle.least_norm.specs.Reflector.{less}
 use Rattle.least_norm.specs.LeastNorm as def
 use Rattle.least_norm.specs.Starts as starts
+use Rattle.least_norm.specs.Private as private
+use Rattle.least_norm.specs.Private.{less}
 use Rattle.least_norm.specs.Blocks.{squares, products, lessRows}
 
 -- p is the place of row i and column c
@@ -65,17 +66,17 @@ module _ (n c k : ℕ) (v f a₀ : List Float) (j : ℕ) where
   lessRows-done i m s g h e = between-done _ _ j i m s g h e
 
 module _ (n j : ℕ) (a : List Float) where
-  pub zeroBelow-start : a ≡ def.zeroBelow n j a (j + 1)
-  unfolding def.zeroBelow
+  pub zeroBelow-start : a ≡ private.zeroBelow n j a (j + 1)
+  unfolding private.zeroBelow
   zeroBelow-start = rw add-one (updated-start nan _ _ (suc j) a)
 
-  pub zeroBelow-again : (i : ℕ) (s x : List Float) → x ≡ set s (i * n + j) 0ᶠ → s ≡ def.zeroBelow n j a i → suc j ≤ i
-      → x ≡ def.zeroBelow n j a (i + 1)
-  unfolding def.zeroBelow
+  pub zeroBelow-again : (i : ℕ) (s x : List Float) → x ≡ set s (i * n + j) 0ᶠ → s ≡ private.zeroBelow n j a i → suc j ≤ i
+      → x ≡ private.zeroBelow n j a (i + 1)
+  unfolding private.zeroBelow
   zeroBelow-again i s x g e h = g ∙ updated-again nan _ _ (suc j) a i (i * n + j) s 0ᶠ h e refl refl
 
-  pub zeroBelow-done : (i m : ℕ) (s : List Float) → i ≤ m → m ≤ i → s ≡ def.zeroBelow n j a i → s ≡ def.zeroBelow n j a m
-  unfolding def.zeroBelow
+  pub zeroBelow-done : (i m : ℕ) (s : List Float) → i ≤ m → m ≤ i → s ≡ private.zeroBelow n j a i → s ≡ private.zeroBelow n j a m
+  unfolding private.zeroBelow
   zeroBelow-done i m s g h e = updated-done nan _ _ (suc j) a i m s g h e
 
 pub cleared-from : (n rank : ℕ) (a right : List Float) → right ≡ replicate (rank * n) 0ᶠ → def.trapezoid a right ≡ def.cleared n rank a rank
@@ -88,7 +89,7 @@ module _ (y₀ : List Float) (n rank : ℕ) (a b : List Float) where
   substituted-from = downward-from _ _ rank
 
   pub substituted-again : (i : ℕ) (y : List Float) (u v : Float) → 0 < i → i ≤ rank
-      → y ≡ starts.substituted y₀ n rank a b i → u ≡ def.known n rank a b y (i - 1) → v ≡ at a ((i - 1) * n + (i - 1))
+      → y ≡ starts.substituted y₀ n rank a b i → u ≡ private.known n rank a b y (i - 1) → v ≡ at a ((i - 1) * n + (i - 1))
       → set y (i - 1) (u ⊘ v) ≡ starts.substituted y₀ n rank a b (i - 1)
   unfolding starts.substituted
   substituted-again i y u v h g e f p = downward-again _ _ rank i y (set y (i - 1) (u ⊘ v)) h g e (rw (f, p))

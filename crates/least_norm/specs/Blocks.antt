@@ -7,7 +7,7 @@ use lib.Ieee.{Float, nan}
 use Rattle.loops.specs.Loops.{between}
 use Rattle.loops.specs.Updates.{updated}
 use Rattle.floats.specs.Ops.{_⊕_, _⊗_, at, 0ᶠ}
-use Rattle.least_norm.specs.Reflector.{less}
+use Rattle.least_norm.specs.Private.{less}
 use Rattle.least_norm.specs.declared.Four.{Four}
 
 -- four entries as a list, and four zeros

@@ -13,7 +13,7 @@ use Rattle.floats.specs.Ops.{0ᶠ}
 use Rattle.floats.specs.Helpers.{abs}
 use Rattle.floats.specs.Sums.{gathered}
 use Rattle.floats.specs.Sqrt.{sqrt, nearestRoot, wholeRoot}
-use Rattle.least_norm.specs.Reflector.{beta, less, factor, reflect}
+use Rattle.least_norm.specs.Reflector.{beta, reflect}
 use Rattle.least_norm.specs.LeastNorm as def
 use Rattle.least_norm.specs.Promise.{Reply, refused, answered, reply, replyNumber}
 
@@ -185,9 +185,7 @@ cases-hold : all cases ≡ true
 unfolding
     same answers solves refuses all cases reply
     add sub mul div ofBits toBits lt le eq ne neg
-    turns between downward tab swap updated gathered abs sqrt nearestRoot wholeRoot beta less factor reflect
-    def.norm2 def.picked def.better def.pivot def.swapColumns def.brought def.householder def.reflectColumn def.zeroBelow
-    def.eliminated def.reduce def.reduced def.leads def.counted def.leading def.rowNorm2 def.keptRow def.reflectRow
-    def.reflectRows def.clear def.cleared def.lastCleared def.known def.substituted def.turn def.turned def.firstTurned
-    def.unpermuted def.solved def.ranked def.leastNorm
+    turns between downward tab swap updated gathered abs sqrt nearestRoot wholeRoot beta reflect
+    def.norm2 def.pivot def.brought def.eliminated def.reduce def.reduced def.leading def.cleared def.substituted
+    def.turned def.unpermuted def.solved def.leastNorm
 cases-hold = refl

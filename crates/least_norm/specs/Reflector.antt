@@ -13,16 +13,9 @@ use Rattle.floats.specs.Sqrt.{sqrt}
 unfoldable pub beta : Float → Float → Float
 beta alpha sigma = let norm = sqrt (alpha ⊗ alpha ⊕ sigma) in cond (le 0ᶠ alpha) (neg norm) norm
 
--- z, each place π t less f times v t, for t from lo up to hi
-unfoldable pub less : (ℕ → ℕ) → Float → (ℕ → Float) → ℕ → ℕ → List Float → List Float
-less π f v lo hi z = updated nan π (λ t x. x ⊖ f ⊗ v t) lo hi z
-
 -- H applied to z. v has v0 at z's place `first` and v t at place π t, for t from lo up to hi; vtv is its square. (Where
 -- the Rust writes a product the other way round, it is the same.)
-unfoldable pub factor : ℕ → (ℕ → ℕ) → Float → (ℕ → Float) → Float → ℕ → ℕ → List Float → Float
-factor first π v0 v vtv lo hi z = 2ᶠ ⊗ sum (v0 ⊗ at z first) (λ t. v t ⊗ at z (π t)) lo hi ⊘ vtv
-
 unfoldable pub reflect : ℕ → (ℕ → ℕ) → Float → (ℕ → Float) → Float → ℕ → ℕ → List Float → List Float
 reflect first π v0 v vtv lo hi z =
-    let f = factor first π v0 v vtv lo hi z in
-    less π f v lo hi (set z first (at z first ⊖ f ⊗ v0))
+    let f = 2ᶠ ⊗ sum (v0 ⊗ at z first) (λ t. v t ⊗ at z (π t)) lo hi ⊘ vtv in
+    updated nan π (λ t x. x ⊖ f ⊗ v t) lo hi (set z first (at z first ⊖ f ⊗ v0))

@@ -7,7 +7,7 @@ use lib.ListN.{getD, set}
 use lib.Ieee.{Float}
 use Rattle.loops.specs.Loops.{turns, downward}
 use Rattle.floats.specs.Ops.{_⊘_, at}
-use Rattle.least_norm.specs.LeastNorm.{known}
+use Rattle.least_norm.specs.Private.{known}
 
 unfoldable pub substituted : List Float → ℕ → ℕ → List Float → List Float → ℕ → List Float
 substituted y n rank a b i = downward rank i y λ i y. set y i (known n rank a b y i ⊘ at a (i * n + i))

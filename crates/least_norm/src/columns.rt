@@ -8,9 +8,9 @@ ghost use lib.Ieee.{Float, nan};
 ghost use Rattle.loops.specs.Loops.{between};
 ghost use Rattle.loops.specs.Updates.{updated};
 ghost use Rattle.floats.specs.Ops.{at};
-ghost use Rattle.least_norm.specs.Reflector.{factor};
 ghost use Rattle.least_norm.specs.LeastNorm as def;
 ghost use Rattle.least_norm.specs.Blocks as blocks;
+ghost use Rattle.least_norm.specs.Private as private;
 ghost use Rattle.least_norm.specs.Private.{Matrix, Reflects};
 use crate::Four;
 use crate::Householder;
@@ -72,7 +72,7 @@ fn column_factors(a: &[f64], m: usize, n: usize, j: usize, c: usize, v: &[f64], 
     requires { ⌜ Matrix (now a) m n × (j < m) × (c + 4 ≤ n) × (m ≤ length (now v)) ⌝ }
     ensures { λ r. ⌜ ((t : ℕ) → t < 4
         → at (blocks.lanes r) t
-        ≡ factor (j * n + (c + t)) (λ (row : ℕ). row * n + (c + t)) (at (now (v .entry)) j)
+        ≡ private.factor (j * n + (c + t)) (λ (row : ℕ). row * n + (c + t)) (at (now (v .entry)) j)
         (λ (row : ℕ). at (now (v .entry)) row) vtv (suc j) m (now (a .entry))) ⌝ }
 {
     let p = place::place(m, n, j, c);
@@ -99,7 +99,7 @@ fn reflect_four(a: &mut [f64], m: usize, n: usize, j: usize, c: usize, v: &[f64]
     requires { ⌜ Matrix (now a) m n × (j < m) × (c + 4 ≤ n) × (m ≤ length (now v)) ⌝ }
     ensures { λ r. ⌜ now (a .exit)
         ≡ between c (c + 4) (now (a .entry))
-        (def.reflectColumn m n j (at (now (v .entry)) j) (λ (row : ℕ). at (now (v .entry)) row) vtv) ⌝ }
+        (private.reflectColumn m n j (at (now (v .entry)) j) (λ (row : ℕ). at (now (v .entry)) row) vtv) ⌝ }
 {
     let f = column_factors(a, m, n, j, c, v, vtv);
     less_rows(a, m, n, j, c, v, f);
@@ -118,7 +118,7 @@ fn reflect_fours(
     requires { ⌜ Matrix (now a) m n × (j < m) × (c ≤ n) × (m ≤ length (now v)) ⌝ }
     ensures { λ r. ⌜ (now (a .exit)
         ≡ between c r (now (a .entry))
-        (def.reflectColumn m n j (at (now (v .entry)) j) (λ (row : ℕ). at (now (v .entry)) row) vtv))
+        (private.reflectColumn m n j (at (now (v .entry)) j) (λ (row : ℕ). at (now (v .entry)) row) vtv))
         × (c ≤ r) × (r ≤ n) ⌝ }
 {
     let mut next = c;
@@ -133,7 +133,7 @@ fn reflect_fours(
 fn reflect_column(a: &mut [f64], m: usize, n: usize, j: usize, c: usize, v: &[f64], vtv: f64)
     requires { ⌜ Matrix (now a) m n × (j < m) × (c < n) × (m ≤ length (now v)) ⌝ }
     ensures { λ r. ⌜ now (a .exit)
-        ≡ def.reflectColumn m n j (at (now (v .entry)) j) (λ (row : ℕ). at (now (v .entry)) row) vtv c
+        ≡ private.reflectColumn m n j (at (now (v .entry)) j) (λ (row : ℕ). at (now (v .entry)) row) vtv c
         (now (a .entry)) ⌝ }
 {
     let first = place::place(m, n, j, c);
@@ -145,7 +145,7 @@ fn reflect_each(a: &mut [f64], m: usize, n: usize, j: usize, c: usize, v: &[f64]
     requires { ⌜ Matrix (now a) m n × (j < m) × (c ≤ n) × (m ≤ length (now v)) ⌝ }
     ensures { λ r. ⌜ now (a .exit)
         ≡ between c n (now (a .entry))
-        (def.reflectColumn m n j (at (now (v .entry)) j) (λ (row : ℕ). at (now (v .entry)) row) vtv) ⌝ }
+        (private.reflectColumn m n j (at (now (v .entry)) j) (λ (row : ℕ). at (now (v .entry)) row) vtv) ⌝ }
 {
     let mut next = c;
     while next < n {
@@ -159,7 +159,7 @@ fn reflect_columns(a: &mut [f64], m: usize, n: usize, j: usize, v: &[f64], vtv: 
     requires { ⌜ Matrix (now a) m n × (j < m) × (j < n) × (m ≤ length (now v)) ⌝ }
     ensures { λ r. ⌜ now (a .exit)
         ≡ between (suc j) n (now (a .entry))
-        (def.reflectColumn m n j (at (now (v .entry)) j) (λ (row : ℕ). at (now (v .entry)) row) vtv) ⌝ }
+        (private.reflectColumn m n j (at (now (v .entry)) j) (λ (row : ℕ). at (now (v .entry)) row) vtv) ⌝ }
 {
     let c = reflect_fours(a, m, n, j, j + 1, v, vtv);
     reflect_each(a, m, n, j, c, v, vtv);
@@ -167,7 +167,7 @@ fn reflect_columns(a: &mut [f64], m: usize, n: usize, j: usize, v: &[f64], vtv: 
 
 fn zero_below(a: &mut [f64], m: usize, n: usize, j: usize)
     requires { ⌜ Matrix (now a) m n × (j < m) × (j < n) ⌝ }
-    ensures { λ r. ⌜ now (a .exit) ≡ def.zeroBelow n j (now (a .entry)) m ⌝ }
+    ensures { λ r. ⌜ now (a .exit) ≡ private.zeroBelow n j (now (a .entry)) m ⌝ }
 {
     let mut row = j + 1;
     while row < m {

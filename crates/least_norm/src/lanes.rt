@@ -6,8 +6,8 @@ ghost use lib.ListN.{length};
 ghost use lib.Ieee.{Float, nan};
 ghost use Rattle.loops.specs.Updates.{updated};
 ghost use Rattle.floats.specs.Ops.{at, 2ᶠ, _⊕_, _⊗_, _⊘_};
-ghost use Rattle.least_norm.specs.Reflector.{less};
 ghost use Rattle.least_norm.specs.Blocks.{lanes, zeros};
+ghost use Rattle.least_norm.specs.Private.{less};
 use crate::Four;
 use crate::vector;
 

@@ -9,6 +9,7 @@ ghost use Rattle.loops.specs.Loops.{between, swap};
 ghost use Rattle.floats.specs.Ops.{at};
 ghost use Rattle.least_norm.specs.LeastNorm as def;
 ghost use Rattle.least_norm.specs.Blocks.{lanes, zeros, squares};
+ghost use Rattle.least_norm.specs.Private as private;
 ghost use Rattle.least_norm.specs.Private.{Matrix, Scanned};
 use crate::Four;
 use crate::Pivot;
@@ -43,7 +44,7 @@ fn column_norms(a: &[f64], m: usize, n: usize, c: usize, j: usize) -> Four
 // The better of the pivot so far and column c, whose norm is given; the first of equals.
 fn picked(c: usize, norm: f64, best: Pivot) -> Pivot
     requires { ⌜ best .col < c ⌝ }
-    ensures { λ r. ⌜ (r ≡ def.picked c norm best) × (r .col ≤ c) ⌝ }
+    ensures { λ r. ⌜ (r ≡ private.picked c norm best) × (r .col ≤ c) ⌝ }
 {
     if norm > best.norm {
         Pivot { col: c, norm: norm }
@@ -55,7 +56,7 @@ fn picked(c: usize, norm: f64, best: Pivot) -> Pivot
 // The same for four columns from column c on, whose norms s has.
 fn pick_lanes(c: usize, s: Four, best: Pivot) -> Pivot
     requires { ⌜ (c + 4 ≤ 32) × (best .col < c) ⌝ }
-    ensures { λ r. ⌜ (r ≡ between 0 4 best (λ (t : ℕ) (p : Pivot). def.picked (c + t) (at (lanes s) t) p))
+    ensures { λ r. ⌜ (r ≡ between 0 4 best (λ (t : ℕ) (p : Pivot). private.picked (c + t) (at (lanes s) t) p))
         × (r .col < c + 4) ⌝ }
 {
     let p = picked(c, s.a, best);
@@ -85,7 +86,7 @@ fn pick_fours(a: &[f64], m: usize, n: usize, j: usize, c: usize, best: Pivot) ->
 // The same for all columns from column c on, one by one.
 fn pick_each(a: &[f64], m: usize, n: usize, j: usize, c: usize, best: Pivot) -> Pivot
     requires { ⌜ Matrix (now a) m n × (j ≤ m) × (c ≤ n) × (best .col < c) ⌝ }
-    ensures { λ r. ⌜ (r ≡ between c n best (def.better (now (a .entry)) m n j)) × (r .col < n) ⌝ }
+    ensures { λ r. ⌜ (r ≡ between c n best (private.better (now (a .entry)) m n j)) × (r .col < n) ⌝ }
 {
     let mut p = best;
     let mut next = c;
@@ -119,7 +120,7 @@ fn swap_cells(a: &mut [f64], m: usize, n: usize, row: usize, j: usize, c: usize)
 
 fn swap_columns(a: &mut [f64], m: usize, n: usize, j: usize, c: usize)
     requires { ⌜ Matrix (now a) m n × (j < n) × (c < n) ⌝ }
-    ensures { λ r. ⌜ now (a .exit) ≡ def.swapColumns n j c (now (a .entry)) m ⌝ }
+    ensures { λ r. ⌜ now (a .exit) ≡ private.swapColumns n j c (now (a .entry)) m ⌝ }
 {
     let mut row = 0;
     while row < m {

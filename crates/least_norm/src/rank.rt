@@ -2,12 +2,13 @@
 ghost use mathlib.Core.Path.{_≡_};
 ghost use Prim.Native.Nat.{_+_, _≤_, _<_};
 ghost use Rattle.least_norm.specs.LeastNorm as def;
+ghost use Rattle.least_norm.specs.Private as private;
 ghost use Rattle.least_norm.specs.Private.{Matrix};
 use crate::place;
 
 fn leads(a: &[f64], m: usize, n: usize, i: usize) -> bool
     requires { ⌜ Matrix (now a) m n × (i < m) × (i < n) ⌝ }
-    ensures { λ s. ⌜ s ≡ def.leads n (now (a .entry)) i ⌝ }
+    ensures { λ s. ⌜ s ≡ private.leads n (now (a .entry)) i ⌝ }
 {
     let largest = floats::abs(place::cell(a, m, n, 0, 0));
     let this = floats::abs(place::cell(a, m, n, i, i));

@@ -4,6 +4,7 @@ ghost use Prim.Native.Nat.{_+_, _*_, _≤_, _<_};
 ghost use lib.ListN.{length, set};
 ghost use Rattle.least_norm.specs.LeastNorm as def;
 ghost use Rattle.least_norm.specs.Starts as starts;
+ghost use Rattle.least_norm.specs.Private as private;
 ghost use Rattle.least_norm.specs.Private.{Matrix, Turning};
 use crate::place;
 use crate::reflect;
@@ -14,7 +15,7 @@ use crate::vector;
 fn known(a: &[f64], m: usize, n: usize, rank: usize, b: &[f64], y: &[f64], i: usize) -> f64
     requires { ⌜ Matrix (now a) m n × (rank ≤ m) × (rank ≤ n) × (i < rank) × (length (now b) ≡ m)
         × (length (now y) ≡ n) ⌝ }
-    ensures { λ r. ⌜ r ≡ def.known n rank (now (a .entry)) (now (b .entry)) (now (y .entry)) i ⌝ }
+    ensures { λ r. ⌜ r ≡ private.known n rank (now (a .entry)) (now (b .entry)) (now (y .entry)) i ⌝ }
 {
     let p = place::place(m, n, i, 0);
     vector::less_dot(b[i], a, p, y, 0, i + 1, rank)
@@ -35,7 +36,7 @@ pub fn substitute(a: &[f64], m: usize, n: usize, rank: usize, b: &[f64], y: &mut
 // Reflector i applied to y.
 fn turn(right: &[f64], n: usize, rank: usize, i: usize, y: &mut [f64])
     requires { ⌜ Turning (now right) n rank (now y) × (i < rank) ⌝ }
-    ensures { λ r. ⌜ now (y .exit) ≡ def.turn n rank (now (right .entry)) i (now (y .entry)) ⌝ }
+    ensures { λ r. ⌜ now (y .exit) ≡ private.turn n rank (now (right .entry)) i (now (y .entry)) ⌝ }
 {
     let u0 = place::cell(right, rank, n, i, i);
     let utu = trapezoid::row_norm2(right, rank, n, rank, i, u0 * u0);
@@ -61,7 +62,7 @@ fn turn_each(right: &[f64], n: usize, rank: usize, y: &mut [f64])
 pub fn turn_back(right: &[f64], n: usize, rank: usize, y: &mut [f64])
     requires { ⌜ Turning (now right) n rank (now y) ⌝ }
     ensures { λ r. ⌜ now (y .exit)
-        ≡ def.turned n rank (now (right .entry)) (now (y .entry)) (def.firstTurned n rank) ⌝ }
+        ≡ def.turned n rank (now (right .entry)) (now (y .entry)) (private.firstTurned n rank) ⌝ }
 {
     if rank < n {
         turn_each(right, n, rank, y);

@@ -5,6 +5,7 @@ ghost use Prim.Native.Nat.{suc, _+_, _*_, _≤_, _<_};
 ghost use lib.ListN.{length, replicate};
 ghost use Rattle.floats.specs.Ops.{0ᶠ};
 ghost use Rattle.least_norm.specs.LeastNorm as def;
+ghost use Rattle.least_norm.specs.Private as private;
 ghost use Rattle.least_norm.specs.Private.{Trapezoidal};
 use crate::place;
 use crate::reflect;
@@ -23,7 +24,7 @@ fn reflect_row(
     row: usize,
 )
     requires { ⌜ Trapezoidal (now a) m n rank (now right) × (i < rank) × (row ≤ i) ⌝ }
-    ensures { λ r. ⌜ now (a .exit) ≡ def.reflectRow n rank i (now (right .entry)) u0 utu row (now (a .entry)) ⌝ }
+    ensures { λ r. ⌜ now (a .exit) ≡ private.reflectRow n rank i (now (right .entry)) u0 utu row (now (a .entry)) ⌝ }
 {
     let first = place::place(m, n, row, i);
     let p = place::place(m, n, row, 0);
@@ -42,7 +43,8 @@ fn reflect_rows(
     utu: f64,
 )
     requires { ⌜ Trapezoidal (now a) m n rank (now right) × (i < rank) ⌝ }
-    ensures { λ r. ⌜ now (a .exit) ≡ def.reflectRows n rank i (now (right .entry)) u0 utu (now (a .entry)) (suc i) ⌝ }
+    ensures { λ r. ⌜ now (a .exit)
+        ≡ private.reflectRows n rank i (now (right .entry)) u0 utu (now (a .entry)) (suc i) ⌝ }
 {
     let mut row = 0;
     while row <= i {
@@ -54,7 +56,7 @@ fn reflect_rows(
 // s plus the squares of row i past the rank.
 pub fn row_norm2(a: &[f64], m: usize, n: usize, rank: usize, i: usize, s: f64) -> f64
     requires { ⌜ (length (now a) ≡ m * n) × (m ≤ 32) × (n ≤ 32) × (rank ≤ n) × (i < m) ⌝ }
-    ensures { λ r. ⌜ r ≡ def.rowNorm2 n rank i (now (a .entry)) s ⌝ }
+    ensures { λ r. ⌜ r ≡ private.rowNorm2 n rank i (now (a .entry)) s ⌝ }
 {
     let p = place::place(m, n, i, 0);
     vector::dot(s, a, p, 1, a, p, 1, rank, n)
@@ -63,7 +65,7 @@ pub fn row_norm2(a: &[f64], m: usize, n: usize, rank: usize, i: usize, s: f64) -
 // Keeps in `right` row i past the rank.
 fn keep_row(a: &[f64], m: usize, n: usize, rank: usize, i: usize, right: &mut [f64])
     requires { ⌜ Trapezoidal (now a) m n rank (now right) × (i < rank) ⌝ }
-    ensures { λ r. ⌜ now (right .exit) ≡ def.keptRow n rank i (now (a .entry)) (now (right .entry)) ⌝ }
+    ensures { λ r. ⌜ now (right .exit) ≡ private.keptRow n rank i (now (a .entry)) (now (right .entry)) ⌝ }
 {
     let p = place::place(m, n, i, 0);
     let q = place::place(rank, n, i, 0);
@@ -74,7 +76,7 @@ fn keep_row(a: &[f64], m: usize, n: usize, rank: usize, i: usize, right: &mut [f
 fn clear_row(a: &mut [f64], m: usize, n: usize, rank: usize, i: usize, right: &mut [f64])
     requires { ⌜ Trapezoidal (now a) m n rank (now right) × (i < rank) ⌝ }
     ensures { λ r. ⌜ def.trapezoid (now (a .exit)) (now (right .exit))
-        ≡ def.clear n rank i (def.trapezoid (now (a .entry)) (now (right .entry))) ⌝ }
+        ≡ private.clear n rank i (def.trapezoid (now (a .entry)) (now (right .entry))) ⌝ }
 {
     let alpha = place::cell(a, m, n, i, i);
     let sigma = row_norm2(a, m, n, rank, i, 0.0);
@@ -102,7 +104,7 @@ fn clear_rows(a: &mut [f64], m: usize, n: usize, rank: usize, right: &mut [f64])
 pub fn clear(a: &mut [f64], m: usize, n: usize, rank: usize, right: &mut [f64])
     requires { ⌜ Trapezoidal (now a) m n rank (now right) ⌝ }
     ensures { λ r. ⌜ def.trapezoid (now (a .exit)) (now (right .exit))
-        ≡ def.cleared n rank (now (a .entry)) (def.lastCleared n rank) ⌝ }
+        ≡ def.cleared n rank (now (a .entry)) (private.lastCleared n rank) ⌝ }
 {
     vector::zero(right);
     if rank < n {

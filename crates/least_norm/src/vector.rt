@@ -7,8 +7,7 @@ ghost use lib.Ieee.{Float, nan};
 ghost use Rattle.loops.specs.Updates.{updated};
 ghost use Rattle.floats.specs.Ops.{at, 0ᶠ, _⊖_, _⊗_};
 ghost use Rattle.floats.specs.Sums.{sum, difference};
-ghost use Rattle.least_norm.specs.Reflector.{less};
-ghost use Rattle.least_norm.specs.Private.{Part, Strided};
+ghost use Rattle.least_norm.specs.Private.{Part, Strided, less};
 
 // s + x[p + lo * k] * y[q + lo * l] + ..
 pub fn dot(

@@ -5,7 +5,7 @@ use lib.ListN.{length}
 use mathlib.Core.Path.{_≡_, _∙_, refl}
 use native.Mathlib.Omega.{arith}
 use Rattle.floats.specs.Ops.{at}
-use Rattle.least_norm.specs.LeastNorm.{reflectColumn}
+use Rattle.least_norm.specs.Private.{reflectColumn}
 use Rattle.loops.proofs.Turns.{between-from, between-more}
 use Rattle.loops.specs.Loops.{between}
 use Rattle.least_norm.proofs.columns.reflect_fours.Statement.{statement}

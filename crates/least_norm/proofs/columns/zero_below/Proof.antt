@@ -5,7 +5,7 @@ use borrow.Author.Needs.{needs}
 use lib.ListN.{length}
 use mathlib.Core.Path.{_≡_, refl}
 use Rattle.least_norm.proofs.Steps.{zeroBelow-start, zeroBelow-again, zeroBelow-done}
-use Rattle.least_norm.specs.LeastNorm.{zeroBelow}
+use Rattle.least_norm.specs.Private.{zeroBelow}
 use Rattle.least_norm.proofs.columns.zero_below.Statement.{statement}
 use Rattle.least_norm.proofs.columns.zero_below.Tie as tie
 

@@ -2,7 +2,7 @@
 use borrow.Author.Needs.{needs}
 use native.Mathlib.Omega.{arith}
 use native.Mathlib.Nat.{add-zero}
-use Rattle.least_norm.specs.Reflector.{less}
+use Rattle.least_norm.specs.Private.{less}
 use Rattle.loops.specs.Loops.{turns, between}
 use Rattle.loops.specs.Updates.{updated}
 use Rattle.least_norm.proofs.lanes.less_lanes.Statement.{statement}

@@ -1,6 +1,6 @@
 -- `least_norm::pivoting::picked` meets its contract. Assumes nothing.
 use native.Mathlib.Omega.{arith}
-use Rattle.least_norm.specs.LeastNorm.{picked}
+use Rattle.least_norm.specs.Private.{picked}
 use Rattle.least_norm.proofs.pivoting.picked.Statement.{statement}
 use Rattle.least_norm.proofs.pivoting.picked.Tie as tie
 

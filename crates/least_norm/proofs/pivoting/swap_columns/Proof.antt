@@ -4,7 +4,7 @@ use Prim.Native.Nat.{_-_, _≤_}
 use borrow.Author.Needs.{needs}
 use lib.ListN.{length}
 use mathlib.Core.Path.{_≡_, refl}
-use Rattle.least_norm.specs.LeastNorm.{swapColumns}
+use Rattle.least_norm.specs.Private.{swapColumns}
 use Rattle.loops.proofs.Turns.{turns-from, turns-again, turns-done}
 use Rattle.least_norm.proofs.pivoting.swap_columns.Statement.{statement}
 use Rattle.least_norm.proofs.pivoting.swap_columns.Tie as tie

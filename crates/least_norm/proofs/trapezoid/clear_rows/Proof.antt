@@ -6,6 +6,7 @@ use lib.ListN.{length}
 use mathlib.Core.Path.{_≡_, refl}
 use Rattle.least_norm.proofs.Steps.{cleared-from}
 use Rattle.least_norm.specs.LeastNorm.{trapezoid, cleared}
+use Rattle.least_norm.specs.Private.{rowNorm2, keptRow, reflectRow, reflectRows, clear}
 use Rattle.loops.proofs.Turns.{downward-again, downward-done}
 use Rattle.least_norm.proofs.trapezoid.clear_rows.Statement.{statement}
 use Rattle.least_norm.proofs.trapezoid.clear_rows.Tie as tie
@@ -18,11 +19,11 @@ abbrev μ-loop : tie.MeasureT-loop
 μ-loop a₀ m n rank right₀ i₀ a right i = i
 
 loop-again : tie.Need-loop-again Inv-loop μ-loop
-unfolding cleared
+unfolding cleared clear rowNorm2 keptRow reflectRows reflectRow
 loop-again c = search (downward-again, needs)
 
 returns : tie.Need-returns Inv-loop μ-loop
-unfolding cleared
+unfolding cleared clear rowNorm2 keptRow reflectRows reflectRow
 returns c = search (downward-done, needs)
 
 pub clear-rows-spec : {M : Type 1} → statement M

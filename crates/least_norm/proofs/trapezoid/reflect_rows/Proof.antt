@@ -4,7 +4,7 @@ use Prim.Native.Nat.{suc, _-_, _≤_}
 use borrow.Author.Needs.{needs}
 use lib.ListN.{length}
 use mathlib.Core.Path.{_≡_, refl}
-use Rattle.least_norm.specs.LeastNorm.{reflectRows}
+use Rattle.least_norm.specs.Private.{reflectRows}
 use Rattle.loops.proofs.Turns.{turns-from, turns-again, turns-done}
 use Rattle.least_norm.proofs.trapezoid.reflect_rows.Statement.{statement}
 use Rattle.least_norm.proofs.trapezoid.reflect_rows.Tie as tie

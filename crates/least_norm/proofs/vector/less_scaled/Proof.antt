@@ -6,7 +6,7 @@ use lib.ListN.{length}
 use mathlib.Core.Path.{_≡_, refl}
 use native.Mathlib.Omega.{arith}
 use Rattle.floats.specs.Ops.{at, _⊖_, _⊗_}
-use Rattle.least_norm.specs.Reflector.{less}
+use Rattle.least_norm.specs.Private.{less}
 use Rattle.loops.proofs.Index.{row-end}
 use Rattle.loops.proofs.Updates.{updated-start, updated-again, updated-done}
 use Rattle.loops.specs.Updates.{updated}
