@@ -122,9 +122,9 @@ mirrored t i nu s l room =
 
 unfoldable pub passes : Case → Bool
 unfolding
-    loops.turns loops.between loops.downward loops.swap loops.tab loops.those loops.every loops.noted loops.counted
+    loops.turns loops.between loops.downward loops.swap loops.tab loops.those loops.every loops.noted
     updates.updated
-    helpers.clamp helpers.side helpers.larger helpers.abs helpers.isNaN helpers.isFinite
+    helpers.clamp helpers.larger helpers.abs helpers.isNaN helpers.isFinite
     root.wholeRoot root.nearestRoot root.sqrt
     sums.gathered
     reflector.beta reflector.reflect

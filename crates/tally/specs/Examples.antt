@@ -302,9 +302,9 @@ takings =
 
 table : allPass cases && allTaken takings ≡ true
 unfolding
-    loops.turns loops.between loops.downward loops.swap loops.tab loops.those loops.every loops.noted loops.counted
+    loops.turns loops.between loops.downward loops.swap loops.tab loops.those loops.every loops.noted
     updates.updated
-    helpers.clamp helpers.side helpers.larger helpers.abs helpers.isNaN helpers.isFinite
+    helpers.clamp helpers.larger helpers.abs helpers.isNaN helpers.isFinite
     root.wholeRoot root.nearestRoot root.sqrt
     sums.gathered
     reflector.beta reflector.reflect
