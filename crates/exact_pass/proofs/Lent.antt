@@ -1,11 +1,10 @@
 -- What the functions of a step are lent, from what it is lent itself.
-use lib.ListN.{replicate, length-replicate}
+use lib.ListN.{replicate, length-replicate, length-drop}
 use Rattle.floats.specs.Ops.{0ᶠ}
-use Rattle.loops.proofs.Common.{ℕ, _*_, _≤_, _<_, _≡_, sym, ap, _∙_, List, arith, length, take, Float}
+use Rattle.loops.proofs.Common.{ℕ, _+_, _*_, _≤_, _<_, _≡_, sym, ap, _∙_, List, arith, length, take, drop, Float}
 use native.Mathlib.Nat.{mul-le-mul}
-use Rattle.loops.proofs.Index.{product}
 use lib.Seq.{length-take-le}
-use Rattle.exact_pass.specs.Private.{Free, Fit, Listed, RatioLent, DirectionLent, TargetLent, Blocked, RayLent, StepLent, FreeStepLent, RunLent, Small}
+use Rattle.exact_pass.specs.Private.{part, Free, Fit, Listed, RatioLent, DirectionLent, SystemLent, TargetLent, Scratch, Blocked, RayLent, StepLent, FreeStepLent, RunLent, Small}
 use Rattle.exact_pass.specs.declared.Blocking.{Blocking}
 
 module _ {n : ℕ} {w lo hi scale : List Float} {st : List ℕ} {nu : List Float} (f : Fit n w lo hi scale st nu) where
@@ -42,40 +41,52 @@ module _ {n : ℕ} {w lo hi scale : List Float} {st l : List ℕ} {y : List Floa
 
 -- ---- a step of the free rows
 
-module _ {n : ℕ} {w lo hi scale : List Float} {st : List ℕ} {nu : List Float} {l : List ℕ} {m y z : List Float} {rows : List ℕ} {work : List Float}
-    (f : FreeStepLent n w lo hi scale st nu l m y z rows work) where
-  pub target-lent : {uFree : List Float} → length uFree ≡ n → TargetLent (length nu) w uFree scale st l m y z work
-  target-lent e =
-      let s = f .lent in
-      rw (s .fit .values) (record {
-        square = (s .fit .sized .0, s .fit .sized .1);
+module _ {n : ℕ} {w lo hi scale : List Float} {st : List ℕ} {nu : List Float} {l rows : List ℕ} {work : List Float} (f : FreeStepLent n w lo hi scale st nu l rows work) where
+  pub system-lent : {uFree : List Float} → length uFree ≡ n → SystemLent (length nu) w uFree scale st l work
+  system-lent e =
+      rw (f .fit .values) (record {
+        square = (f .fit .sized .0, f .fit .sized .1);
         motions = e;
-        scales = s .fit .sized .4;
-        states = s .fit .states;
-        listed = s .listed;
+        scales = f .fit .sized .4;
+        states = f .fit .states;
+        below = f .below;
         few = f .few;
-        matrix = f .matrix;
-        solution = f .solution;
         workspace = f .workspace;
       })
 
-  module _ {y′ : List Float} (kept : length y′ ≡ length y) where
-    relisted : Listed n l y′
-    relisted = record { below = f .lent .listed .below; long = kept ∙ f .lent .listed .long }
+  pub step-lent : {y : List Float} → length y ≡ length l → StepLent n w lo hi scale st nu l y rows
+  step-lent e = record { fit = f .fit; listed = record { below = f .below; long = e }; some = f .some; list = f .list }
 
-    pub direction-lent : {z′ : List Float} → length z′ ≡ length z → DirectionLent (length nu) scale l z′ y′
-    direction-lent e = rw (f .lent .fit .values) (record { listed = relisted; scales = f .lent .fit .sized .4; solution = e ∙ f .solution })
+-- ---- the direction of the free rows, in scratch
 
-    pub step-lent : StepLent n w lo hi scale st nu l y′ rows
-    step-lent = record { fit = f .lent .fit; listed = relisted; some = f .lent .some; list = f .lent .list }
+module _ {n : ℕ} {w uFree scale : List Float} {st l : List ℕ} {m y z work : List Float} where
+  pub direction-lent : {y′ z′ : List Float} → TargetLent n w uFree scale st l m y z work → length y′ ≡ length y → length z′ ≡ length z → DirectionLent n scale l z′ y′
+  direction-lent t e f = record { listed = record { below = t .system .below; long = e ∙ t .direction }; scales = t .system .scales; solution = f ∙ t .solution }
+
+  pub target-lent : SystemLent n w uFree scale st l work → Scratch (length l) m y z → TargetLent n w uFree scale st l (take (length l * length l) m) (take (length l) y) (take (length l) z) work
+  target-lent s h =
+      record {
+        system = s;
+        matrix = length-take-le (length l * length l) m (h .matrix);
+        direction = length-take-le (length l) y (h .direction);
+        solution = length-take-le (length l) z (h .solution);
+      }
+
+pub square-few : {n : ℕ} {w uFree scale : List Float} {st l : List ℕ} {work : List Float} → SystemLent n w uFree scale st l work → length l * length l ≤ 1024
+square-few s = mul-le-mul (s .few) (s .few)
+
+pub part-long : (a k : ℕ) (v : List Float) {q : List Float} → q ≡ part a k v → a + k ≤ length v → length q ≡ k
+part-long a k v e h = rw e (length-take-le k (drop a v) (omega (arith, length-drop a v)))
+
+pub small : {k j : ℕ} → k ≤ j → Small k j
+small h = record { rows = h; entries = mul-le-mul h h }
 
 -- ---- a step, by its k free rows
 
-pub states-few : {n : ℕ} {w lo hi scale : List Float} {st : List ℕ} {nu m y z : List Float} {rows : List ℕ} {work : List Float}
-    → RunLent n w lo hi scale st nu m y z rows work → length st ≤ 32
+pub states-few : {n : ℕ} {w lo hi scale : List Float} {st : List ℕ} {nu : List Float} {rows : List ℕ} {work : List Float} → RunLent n w lo hi scale st nu rows work → length st ≤ 32
 states-few r = rw (r .fit .states) (r .fit .sized .0)
 
-module _ {n : ℕ} {w lo hi scale : List Float} {st : List ℕ} {nu m y z : List Float} {rows : List ℕ} {work : List Float} (r : RunLent n w lo hi scale st nu m y z rows work)
+module _ {n : ℕ} {w lo hi scale : List Float} {st : List ℕ} {nu : List Float} {rows : List ℕ} {work : List Float} (r : RunLent n w lo hi scale st nu rows work)
     {f : List ℕ} {k : ℕ} {free : List ℕ} (g : Free f (length st) k free) where
   few : k ≤ n
   few = rw (r .fit .states) at (g .few)
@@ -83,51 +94,23 @@ module _ {n : ℕ} {w lo hi scale : List Float} {st : List ℕ} {nu m y z : List
   pub free-few : k ≤ 32
   free-few = omega (arith, few, r .fit .sized .0)
 
-  pub square-few : k * k ≤ 1024
-  square-few = product k k free-few free-few
-
-  pub matrix-few : k * k ≤ length m
-  matrix-few = omega (arith, mul-le-mul few few, r .matrix)
-
-  pub direction-few : k ≤ length y
-  direction-few = omega (arith, few, r .direction)
-
-  pub solution-few : k ≤ length z
-  solution-few = omega (arith, few, r .solution)
-
-  pub free-step-lent : (k ≡ 0 → ⊥) → FreeStepLent n w lo hi scale st nu (take k free) (take (k * k) m) (take k y) (take k z) rows work
+  pub free-step-lent : (k ≡ 0 → ⊥) → FreeStepLent n w lo hi scale st nu (take k free) rows work
   free-step-lent h =
       let e : length (take k free) ≡ k = rw (g .front) (sym (g .count)) in
       record {
-        lent = record {
-          fit = r .fit;
-          listed = record { below = rw (g .front, ← r .fit .states) (g .below); long = rw e (length-take-le k y direction-few) };
-          some = omega (arith, few, h);
-          list = r .list;
-        };
+        fit = r .fit;
+        below = rw (g .front, ← r .fit .states) (g .below);
         few = rw e free-few;
-        matrix = rw e (length-take-le (k * k) m matrix-few);
-        solution = rw e (length-take-le k z solution-few);
+        some = omega (arith, few, h);
+        list = r .list;
         workspace = r .workspace;
       }
 
 -- ---- a step keeps the lengths of what it is lent, in the order of its parameters
 
-abbrev pub Kept : List ℕ → List Float → List Float → List Float → List Float → List ℕ → List Float → List ℕ → List Float → List Float → List Float → List Float → List ℕ → List Float → Type 0
-Kept st nu m y z q work st′ nu′ m′ y′ z′ q′ work′ =
-    (length st′ ≡ length st) × ((length nu′ ≡ length nu) × ((length m′ ≡ length m) × ((length y′ ≡ length y) × ((length z′ ≡ length z) × ((length q′ ≡ length q) × ((length work′ ≡ length work) × Unit))))))
+abbrev pub Kept : List ℕ → List Float → List ℕ → List Float → List ℕ → List Float → List ℕ → List Float → Type 0
+Kept st nu q work st′ nu′ q′ work′ = (length st′ ≡ length st) × ((length nu′ ≡ length nu) × ((length q′ ≡ length q) × ((length work′ ≡ length work) × Unit)))
 
-pub relent : {n : ℕ} {w lo hi scale : List Float} {st : List ℕ} {nu m y z : List Float} {q : List ℕ} {work : List Float} → RunLent n w lo hi scale st nu m y z q work
-    → {st′ : List ℕ} {nu′ m′ y′ z′ : List Float} {q′ : List ℕ} {work′ : List Float} (work₁ : List Float) → Kept st nu m y z q work st′ nu′ m′ y′ z′ q′ work₁ → length work′ ≡ length work₁ → RunLent n w lo hi scale st′ nu′ m′ y′ z′ q′ work′
-relent r work₁ h e =
-    record {
-      fit = refit (r .fit) (h .0) (h .1 .0);
-      matrix = rw (h .1 .1 .0) (r .matrix);
-      direction = rw (h .1 .1 .1 .0) (r .direction);
-      solution = rw (h .1 .1 .1 .1 .0) (r .solution);
-      list = rw (h .1 .1 .1 .1 .1 .0) (r .list);
-      workspace = rw (e, h .1 .1 .1 .1 .1 .1 .0) (r .workspace);
-    }
-
-pub small : {n k : ℕ} → n ≤ k → Small n k
-small h = record { rows = h; entries = mul-le-mul h h }
+pub relent : {n : ℕ} {w lo hi scale : List Float} {st : List ℕ} {nu : List Float} {q : List ℕ} {work : List Float} → RunLent n w lo hi scale st nu q work
+    → {st′ : List ℕ} {nu′ : List Float} {q′ : List ℕ} {work′ : List Float} (work₁ : List Float) → Kept st nu q work st′ nu′ q′ work₁ → length work′ ≡ length work₁ → RunLent n w lo hi scale st′ nu′ q′ work′
+relent r work₁ h e = record { fit = refit (r .fit) (h .0) (h .1 .0); list = rw (h .1 .1 .0) (r .list); workspace = rw (e, h .1 .1 .1 .0) (r .workspace) }

@@ -52,17 +52,14 @@ marked-new p nu m st k e f = rw (e, f) (steps-start p (trial nu st))
 pub record Now : Type 0 where
   pub st : List ℕ
   pub nu : List Float
-  pub m : List Float
-  pub y : List Float
-  pub z : List Float
   pub q : List ℕ
   pub work : List Float
   pub marks : List ℕ
   pub mark : Mark
   pub left : ℕ
 
-abbrev pub now : List ℕ → List Float → List Float → List Float → List Float → List ℕ → List Float → List ℕ → Mark → ℕ → Now
-now st nu m y z q work marks mark left = record { st = st; nu = nu; m = m; y = y; z = z; q = q; work = work; marks = marks; mark = mark; left = left }
+abbrev pub now : List ℕ → List Float → List ℕ → List Float → List ℕ → Mark → ℕ → Now
+now st nu q work marks mark left = record { st = st; nu = nu; q = q; work = work; marks = marks; mark = mark; left = left }
 
 abbrev at : Now → Trial
 at n = trial (n .nu) (n .st)
@@ -75,10 +72,7 @@ pub record Going (p : box.Problem) (most : ℕ) (b n : Now) : Type 0 where
   pub few : n .left ≤ most
   pub since : n .mark .since + n .left ≤ most
   pub span : n .mark .span ≤ 528
-  pub lent : RunLent (box.size p) (p .w) (p .lo) (p .hi) (p .scale) (n .st) (n .nu) (n .m) (n .y) (n .z) (n .q) (n .work)
-  pub matrix : length (n .m) ≡ length (b .m)
-  pub direction : length (n .y) ≡ length (b .y)
-  pub solution : length (n .z) ≡ length (b .z)
+  pub lent : RunLent (box.size p) (p .w) (p .lo) (p .hi) (p .scale) (n .st) (n .nu) (n .q) (n .work)
   pub workspace : length (n .work) ≡ length (b .work)
   pub marks-long : length (n .marks) ≡ 32
   pub steps : def.steps p (at b) most ≡ def.steps p (at n) (n .left)
@@ -87,27 +81,17 @@ pub record Going (p : box.Problem) (most : ℕ) (b n : Now) : Type 0 where
   pub beyond : drop 1120 (n .work) ≡ drop 1120 (b .work)
 
 -- it begins: st₀ and nu₀ are those that the pass was lent, st and nu those after its start
-module _ {p : box.Problem} {st₀ : List ℕ} {nu₀ m y z : List Float} {q : List ℕ} {work₀ : List Float} (r : RunLent (box.size p) (p .w) (p .lo) (p .hi) (p .scale) st₀ nu₀ m y z q work₀)
+module _ {p : box.Problem} {st₀ : List ℕ} {nu₀ : List Float} {q : List ℕ} {work₀ : List Float} (r : RunLent (box.size p) (p .w) (p .lo) (p .hi) (p .scale) st₀ nu₀ q work₀)
     {st : List ℕ} {nu work : List Float} where
   pub going-start : {marks : List ℕ} {most : ℕ} → length st ≡ length st₀ → length nu ≡ length nu₀ → length work ≡ length work₀ → Copied nu 1088 work₀ work → take (length st) marks ≡ st → length marks ≡ 32 → most ≤ 264
-      → let n = now st nu m y z q work marks (record { since = 0; span = 2 }) most in Going p most n n
+      → let n = now st nu q work marks (record { since = 0; span = 2 }) most in Going p most n n
   going-start kept-st kept-nu kept-work copied noted long bounded =
       record {
         bounded = bounded;
         few = omega arith;
         since = omega arith;
         span = omega arith;
-        lent = record {
-          fit = refit (r .fit) kept-st kept-nu;
-          matrix = r .matrix;
-          direction = r .direction;
-          solution = r .solution;
-          list = r .list;
-          workspace = rw kept-work (r .workspace);
-        };
-        matrix = refl;
-        direction = refl;
-        solution = refl;
+        lent = record { fit = refit (r .fit) kept-st kept-nu; list = r .list; workspace = rw kept-work (r .workspace) };
         workspace = refl;
         marks-long = long;
         steps = refl;
@@ -142,10 +126,10 @@ module _ {p : box.Problem} {most : ℕ} {b n : Now} (g : Going p most b n) where
         (rw (← g .listed, x, o .1) (s .passed), beyond-step)
 
     -- the pass goes on with fewer steps, and may be marked anew
-    pub going-again : {m y z work′ : List Float} {marks : List ℕ} {mark : Mark} {left : ℕ} → isMoved e ≡ true → Kept (n .st) (n .nu) (n .m) (n .y) (n .z) (n .q) (n .work) st nu m y z q work
+    pub going-again : {work′ : List Float} {marks : List ℕ} {mark : Mark} {left : ℕ} → isMoved e ≡ true → Kept (n .st) (n .nu) (n .q) (n .work) st nu q work
         → ((p : box.Problem) → def.steps p (private.marked (length nu) work (n .marks)) (n .mark .since + 1) ≡ moved (trial nu st) → def.steps p (trial nu st) (n .left - 1) ≡ def.steps p (trial nu st) left) × (left ≤ n .left - 1)
         → private.Marked nu st work (n .marks) (n .mark .since + 1) work′ marks (mark .since) × (mark .since ≤ n .mark .since + 1) × (mark .span ≤ 528) × (drop 1120 work′ ≡ drop 1120 work)
-        → length work′ ≡ length work → length marks ≡ length (n .marks) → Going p most b (now st nu m y z q work′ marks mark left)
+        → length work′ ≡ length work → length marks ≡ length (n .marks) → Going p most b (now st nu q work′ marks mark left)
     going-again f h l a kept-work kept-marks =
         let o = going-on (next p (at n)) (n .q) e nu st q (s .passed) f in
         let one : def.steps p (at n) 1 ≡ moved (trial nu st) = steps-one p (at n) ∙ o .0 in
@@ -159,10 +143,7 @@ module _ {p : box.Problem} {most : ℕ} {b n : Now} (g : Going p most b n) where
           since = omega (arith, a .1, l .1, g .since, more-left);
           span = a .2;
           lent = relent (g .lent) work h kept-work;
-          matrix = h .1 .1 .0 ∙ g .matrix;
-          direction = h .1 .1 .1 .0 ∙ g .direction;
-          solution = h .1 .1 .1 .1 .0 ∙ g .solution;
-          workspace = kept-work ∙ h .1 .1 .1 .1 .1 .1 .0 ∙ g .workspace;
+          workspace = kept-work ∙ h .1 .1 .1 .0 ∙ g .workspace;
           marks-long = kept-marks ∙ g .marks-long;
           steps = g .steps ∙ more ∙ l .0 p round;
           round = a .0 p round;

@@ -80,10 +80,10 @@ module _ (p : box.Problem) (nu : List Float) (st l : List ℕ) (y : List Float) 
 
 -- ---- a step of the free rows
 
-pub free-step-run : (p : box.Problem) (nu : List Float) (st l : List ℕ) (z y₁ y : List Float) (b : Bool) (rows : List ℕ) (e : Exact) (nu′ : List Float) (st′ rows′ : List ℕ) → Passed (private.takeStep p (trial nu st) l y b) rows e nu′ st′ rows′ → y ≡ def.direction b (p .scale) l z nu y₁
-    → private.targeted z y₁ b ≡ def.target (p .w) (p .uFree) (p .scale) st nu l → Passed (private.freeStep p (trial nu st) l) rows e nu′ st′ rows′
+pub free-step-run : (p : box.Problem) (nu : List Float) (st l : List ℕ) (y : List Float) (b : Bool) (rows : List ℕ) (work : List Float) (e : Exact) (nu′ : List Float) (st′ rows′ : List ℕ) (work′ : List Float) → private.Directed (def.target (p .w) (p .uFree) (p .scale) st nu l) (p .scale) l nu work b work′
+    → y ≡ private.part 1056 (length l) work′ → Passed (private.takeStep p (trial nu st) l y b) rows e nu′ st′ rows′ → private.Stepped (private.freeStep p (trial nu st) l) rows work e nu′ st′ rows′ work′
 unfolding private.freeStep
-free-step-run p nu st l z y₁ y b rows e nu′ st′ rows′ h f g = rw (← g, ← f) h
+free-step-run p nu st l y b rows work e nu′ st′ rows′ work′ d f h = record { passed = rw (f ∙ d .direction, d .targetless) at h; workspace = d .workspace }
 
 -- ---- a step, where l lists the free rows
 

@@ -130,3 +130,14 @@ module _ (w uFree scale : List Float) (st : List ℕ) (nu : List Float) (l : Lis
     target-run m z y b e f g h =
         let zed : z ≡ leastNorm (length l) (length l) (def.matrix w scale l (length l)) (def.rightHandSide w uFree st nu l (length l)) .x = rw (side-length, e, sided) at f in
         record { target = rw (g, h, side-kept, zed); workspace = target-work }
+
+-- ---- the direction, from what its calls leave: y₁ and z are the target's, y₂ the direction
+
+pub directed-run : {t : def.Target} {scale : List Float} {l : List ℕ} {nu work₀ work₁ work₂ y₁ y₂ z : List Float} {b : Bool} → private.Targeted t work₀ b y₁ z work₁ → y₂ ≡ def.direction b scale l z nu y₁
+    → Copied y₂ 1056 work₁ work₂ → length y₂ ≡ length l → length l ≤ 32 → private.Directed t scale l nu work₀ b work₂
+directed-run {t = t} {scale = scale} {l = l} {nu = nu} {work₀ = work₀} {work₁ = work₁} {work₂ = work₂} {y₂ = y₂} {b = b} g e copied long few =
+    record {
+      direction = rw (← g .target) (rw (← long) (copied .part) ∙ e);
+      targetless = rw (← g .target);
+      workspace = later (1056 + length y₂) 1088 work₂ work₁ (omega (arith, long, few)) (copied .after) ∙ g .workspace;
+    }

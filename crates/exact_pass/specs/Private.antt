@@ -69,17 +69,33 @@ pub record DirectionLent (n : ℕ) (scale : List Float) (l : List ℕ) (z y : Li
   pub scales : length scale ≡ n
   pub solution : length z ≡ length l
 
--- what the system of the free rows l is made from, and its scratch
-pub record TargetLent (n : ℕ) (w uFree scale : List Float) (st l : List ℕ) (m y z work : List Float) : Type 0 where
+-- what the system of the free rows l is made from
+pub record SystemLent (n : ℕ) (w uFree scale : List Float) (st l : List ℕ) (work : List Float) : Type 0 where
   pub square : lists.Square w n
   pub motions : length uFree ≡ n
   pub scales : length scale ≡ n
   pub states : length st ≡ n
-  pub listed : Listed n l y
+  pub below : Below n l
   pub few : length l ≤ 32
-  pub matrix : length m ≡ length l * length l
-  pub solution : length z ≡ length l
   pub workspace : 1120 ≤ length work
+
+-- the same, with scratch for as many rows as l lists
+pub record TargetLent (n : ℕ) (w uFree scale : List Float) (st l : List ℕ) (m y z work : List Float) : Type 0 where
+  pub system : SystemLent n w uFree scale st l work
+  pub matrix : length m ≡ length l * length l
+  pub direction : length y ≡ length l
+  pub solution : length z ≡ length l
+
+-- scratch for k rows or more
+pub record Scratch (k : ℕ) (m y z : List Float) : Type 0 where
+  pub matrix : k * k ≤ length m
+  pub direction : k ≤ length y
+  pub solution : k ≤ length z
+
+-- k rows are at most j, and so are the entries of their matrix
+pub record Small (k j : ℕ) : Type 0 where
+  pub rows : k ≤ j
+  pub entries : k * k ≤ j * j
 
 -- r blocks a step by one of n rows, on a bound
 pub record Blocked (n : ℕ) (lo hi : List Float) (st : List ℕ) (r : Blocking) : Type 0 where
@@ -103,25 +119,17 @@ pub record StepLent (n : ℕ) (w lo hi scale : List Float) (st : List ℕ) (nu :
   pub some : 0 < n
   pub list : n ≤ length rows
 
--- the same before y is known, with scratch for as many rows as are free
-pub record FreeStepLent (n : ℕ) (w lo hi scale : List Float) (st : List ℕ) (nu : List Float) (l : List ℕ) (m y z : List Float) (rows : List ℕ) (work : List Float) : Type 0 where
-  pub lent : StepLent n w lo hi scale st nu l y rows
-  pub few : length l ≤ 32
-  pub matrix : length m ≡ length l * length l
-  pub solution : length z ≡ length l
-  pub workspace : 1120 ≤ length work
-
--- what a run and each of its steps are lent, with scratch for n rows
-pub record RunLent (n : ℕ) (w lo hi scale : List Float) (st : List ℕ) (nu m y z : List Float) (rows : List ℕ) (work : List Float) : Type 0 where
+-- the same before y is known
+pub record FreeStepLent (n : ℕ) (w lo hi scale : List Float) (st : List ℕ) (nu : List Float) (l rows : List ℕ) (work : List Float) : Type 0 where
   pub fit : Fit n w lo hi scale st nu
-  pub matrix : n * n ≤ length m
-  pub direction : n ≤ length y
-  pub solution : n ≤ length z
+  pub below : Below n l
+  pub few : length l ≤ 32
+  pub some : 0 < n
   pub list : n ≤ length rows
   pub workspace : 1120 ≤ length work
 
--- what a pass is lent
-pub record PassLent (n : ℕ) (w lo hi scale : List Float) (st : List ℕ) (nu : List Float) (rows : List ℕ) (work : List Float) : Type 0 where
+-- what a run and each of its steps are lent
+pub record RunLent (n : ℕ) (w lo hi scale : List Float) (st : List ℕ) (nu : List Float) (rows : List ℕ) (work : List Float) : Type 0 where
   pub fit : Fit n w lo hi scale st nu
   pub list : n ≤ length rows
   pub workspace : 1120 ≤ length work
@@ -132,11 +140,6 @@ pub record MarksLent (n : ℕ) (st : List ℕ) (work : List Float) (marks : List
   pub few : n ≤ 32
   pub workspace : 1120 ≤ length work
   pub long : n ≤ length marks
-
--- n rows are at most k, and so are the entries of their matrix
-pub record Small (n k : ℕ) : Type 0 where
-  pub rows : n ≤ k
-  pub entries : n * n ≤ k * k
 
 -- ---- what they leave
 
@@ -166,6 +169,12 @@ columnTaken w n l j v k rhs =
 -- k values from place a on
 abbrev pub part : ℕ → ℕ → List Float → List Float
 part a k work = take k (drop a work)
+
+-- after the direction of the free rows l is found, for the target t of their system: it is in the workspace
+pub record Directed (t : def.Target) (scale : List Float) (l : List ℕ) (nu work : List Float) (inconsistent : Bool) (work′ : List Float) : Type 0 where
+  pub direction : part 1056 (length l) work′ ≡ def.direction (t .inconsistent) scale l (t .z) nu (t .y)
+  pub targetless : inconsistent ≡ t .inconsistent
+  pub workspace : drop 1088 work′ ≡ drop 1088 work
 
 -- a row that is dropped is 0, one taken 1, one that ends the collecting 2
 unfoldable pub verdict : Bool → Bool → ℕ

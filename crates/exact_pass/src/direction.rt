@@ -4,6 +4,7 @@ ghost use lib.ListN.{length};
 ghost use Rattle.exact_pass.specs.Pass as def;
 ghost use Rattle.exact_pass.specs.Private as private;
 use crate::read;
+use crate::system;
 
 fn to_target(scale: &[f64], free: &[u8], z: &[f64], nu: &[f64], y: &mut [f64])
     requires { ⌜ private.DirectionLent (length (now nu)) (now scale) (now free) (now z) (now y) ⌝ }
@@ -20,14 +21,7 @@ fn to_target(scale: &[f64], free: &[u8], z: &[f64], nu: &[f64], y: &mut [f64])
     }
 }
 
-pub fn direction(
-    inconsistent: bool,
-    scale: &[f64],
-    free: &[u8],
-    z: &[f64],
-    nu: &[f64],
-    y: &mut [f64],
-)
+fn direction(inconsistent: bool, scale: &[f64], free: &[u8], z: &[f64], nu: &[f64], y: &mut [f64])
     requires { ⌜ private.DirectionLent (length (now nu)) (now scale) (now free) (now z) (now y) ⌝ }
     ensures { λ q. ⌜ now (y .exit)
         ≡ def.direction inconsistent (now (scale .entry)) (now (free .entry)) (now (z .entry)) (now (nu .entry))
@@ -37,6 +31,199 @@ pub fn direction(
         return;
     }
     to_target(scale, free, z, nu, y);
+}
+
+// The direction of the free rows by the target of their system, left in the workspace; whether there is no target. m, y
+// and z are scratch for as many rows as are free.
+fn from_system(
+    w: &[f64],
+    u_free: &[f64],
+    scale: &[f64],
+    states: &[u8],
+    nu: &[f64],
+    free: &[u8],
+    m: &mut [f64],
+    y: &mut [f64],
+    z: &mut [f64],
+    work: &mut [f64],
+) -> bool
+    requires { ⌜ private.TargetLent (length (now nu)) (now w) (now «u_free») (now scale) (now states) (now free)
+        (now m) (now y) (now z) (now work) ⌝ }
+    ensures { λ q. ⌜ private.Directed
+        (def.target (now (w .entry)) (now («u_free» .entry)) (now (scale .entry)) (now (states .entry))
+        (now (nu .entry)) (now (free .entry)))
+        (now (scale .entry)) (now (free .entry)) (now (nu .entry)) (now (work .entry)) q (now (work .exit)) ⌝ }
+{
+    let inconsistent = system::target(w, u_free, scale, states, nu, free, m, y, z, work);
+    direction(inconsistent, scale, free, z, nu, y);
+    read::copy(y, work, crate::DIRECTION);
+    inconsistent
+}
+
+// The same in scratch for as many rows or more.
+fn in_scratch(
+    w: &[f64],
+    u_free: &[f64],
+    scale: &[f64],
+    states: &[u8],
+    nu: &[f64],
+    free: &[u8],
+    m: &mut [f64],
+    y: &mut [f64],
+    z: &mut [f64],
+    work: &mut [f64],
+) -> bool
+    requires { ⌜ private.SystemLent (length (now nu)) (now w) (now «u_free») (now scale) (now states) (now free)
+        (now work)
+        × private.Scratch (length (now free)) (now m) (now y) (now z) ⌝ }
+    ensures { λ q. ⌜ private.Directed
+        (def.target (now (w .entry)) (now («u_free» .entry)) (now (scale .entry)) (now (states .entry))
+        (now (nu .entry)) (now (free .entry)))
+        (now (scale .entry)) (now (free .entry)) (now (nu .entry)) (now (work .entry)) q (now (work .exit)) ⌝ }
+{
+    let k = free.len();
+    let kk = k * k;
+    from_system(
+        w,
+        u_free,
+        scale,
+        states,
+        nu,
+        free,
+        &mut m[..kk],
+        &mut y[..k],
+        &mut z[..k],
+        work,
+    )
+}
+
+fn of_at_most_2(
+    w: &[f64],
+    u_free: &[f64],
+    scale: &[f64],
+    states: &[u8],
+    nu: &[f64],
+    free: &[u8],
+    work: &mut [f64],
+) -> bool
+    requires { ⌜ private.SystemLent (length (now nu)) (now w) (now «u_free») (now scale) (now states) (now free)
+        (now work)
+        × private.Small (length (now free)) 2 ⌝ }
+    ensures { λ q. ⌜ private.Directed
+        (def.target (now (w .entry)) (now («u_free» .entry)) (now (scale .entry)) (now (states .entry))
+        (now (nu .entry)) (now (free .entry)))
+        (now (scale .entry)) (now (free .entry)) (now (nu .entry)) (now (work .entry)) q (now (work .exit)) ⌝ }
+{
+    let mut m = [0.0f64; 4];
+    let mut y = [0.0f64; 2];
+    let mut z = [0.0f64; 2];
+    in_scratch(
+        w,
+        u_free,
+        scale,
+        states,
+        nu,
+        free,
+        &mut m,
+        &mut y,
+        &mut z,
+        work,
+    )
+}
+
+fn of_at_most_8(
+    w: &[f64],
+    u_free: &[f64],
+    scale: &[f64],
+    states: &[u8],
+    nu: &[f64],
+    free: &[u8],
+    work: &mut [f64],
+) -> bool
+    requires { ⌜ private.SystemLent (length (now nu)) (now w) (now «u_free») (now scale) (now states) (now free)
+        (now work)
+        × private.Small (length (now free)) 8 ⌝ }
+    ensures { λ q. ⌜ private.Directed
+        (def.target (now (w .entry)) (now («u_free» .entry)) (now (scale .entry)) (now (states .entry))
+        (now (nu .entry)) (now (free .entry)))
+        (now (scale .entry)) (now (free .entry)) (now (nu .entry)) (now (work .entry)) q (now (work .exit)) ⌝ }
+{
+    let mut m = [0.0f64; 64];
+    let mut y = [0.0f64; 8];
+    let mut z = [0.0f64; 8];
+    in_scratch(
+        w,
+        u_free,
+        scale,
+        states,
+        nu,
+        free,
+        &mut m,
+        &mut y,
+        &mut z,
+        work,
+    )
+}
+
+fn of_at_most_32(
+    w: &[f64],
+    u_free: &[f64],
+    scale: &[f64],
+    states: &[u8],
+    nu: &[f64],
+    free: &[u8],
+    work: &mut [f64],
+) -> bool
+    requires { ⌜ private.SystemLent (length (now nu)) (now w) (now «u_free») (now scale) (now states) (now free)
+        (now work)
+        × private.Small (length (now free)) 32 ⌝ }
+    ensures { λ q. ⌜ private.Directed
+        (def.target (now (w .entry)) (now («u_free» .entry)) (now (scale .entry)) (now (states .entry))
+        (now (nu .entry)) (now (free .entry)))
+        (now (scale .entry)) (now (free .entry)) (now (nu .entry)) (now (work .entry)) q (now (work .exit)) ⌝ }
+{
+    let mut m = [0.0f64; 1024];
+    let mut y = [0.0f64; 32];
+    let mut z = [0.0f64; 32];
+    in_scratch(
+        w,
+        u_free,
+        scale,
+        states,
+        nu,
+        free,
+        &mut m,
+        &mut y,
+        &mut z,
+        work,
+    )
+}
+
+// The scratch has one of three sizes, so that few free rows do not clear nine kilobytes.
+pub fn of_free_rows(
+    w: &[f64],
+    u_free: &[f64],
+    scale: &[f64],
+    states: &[u8],
+    nu: &[f64],
+    free: &[u8],
+    work: &mut [f64],
+) -> bool
+    requires { ⌜ private.SystemLent (length (now nu)) (now w) (now «u_free») (now scale) (now states) (now free)
+        (now work) ⌝ }
+    ensures { λ q. ⌜ private.Directed
+        (def.target (now (w .entry)) (now («u_free» .entry)) (now (scale .entry)) (now (states .entry))
+        (now (nu .entry)) (now (free .entry)))
+        (now (scale .entry)) (now (free .entry)) (now (nu .entry)) (now (work .entry)) q (now (work .exit)) ⌝ }
+{
+    let k = free.len();
+    if k <= 2 {
+        return of_at_most_2(w, u_free, scale, states, nu, free, work);
+    }
+    if k > 8 {
+        return of_at_most_32(w, u_free, scale, states, nu, free, work);
+    }
+    of_at_most_8(w, u_free, scale, states, nu, free, work)
 }
 
 // The longest step: to the target, or without end.

@@ -25,9 +25,11 @@ pub const EXACT_RESIDUAL: f64 = 1e-9;
 // How many times its row's scale a multiplier may grow before no motion counts as meeting every row.
 pub const DIVERGENCE: f64 = 1e6;
 
-// The workspace of a pass: least norm's 1,056 values, the right-hand side of the free rows, and the multipliers marked
-// to find a cycle.
+// The workspace of a pass: least norm's 1,056 values, the right-hand side of the free rows, whose place their direction
+// takes once it is known, and the multipliers marked to find a cycle.
 pub const RIGHT_HAND_SIDE: usize = 1056;
+
+pub const DIRECTION: usize = 1056;
 
 pub const MARKED: usize = 1088;
 
@@ -123,7 +125,7 @@ pub fn exact_pass(
         nu.len(),
         rows.len(),
     ) {
-        return steps::pass(w, u_free, lo, hi, scale, states, nu, rows, workspace);
+        return steps::run(w, u_free, lo, hi, scale, states, nu, rows, workspace);
     }
     Exact::Failed
 }

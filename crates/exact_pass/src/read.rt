@@ -73,6 +73,15 @@ pub fn row(w: &[f64], n: usize, i: usize) -> &[f64]
     &w[a..e]
 }
 
+// k values from place a on.
+pub fn part(v: &[f64], a: usize, k: usize) -> &[f64]
+    requires { ⌜ a + k ≤ length (now v) ⌝ }
+    ensures { λ q. ⌜ now q ≡ private.part a k (now (v .entry)) ⌝ }
+{
+    let e = a + k;
+    &v[a..e]
+}
+
 // A copy of `from` in `to`, from place a on.
 pub fn copy(from: &[f64], to: &mut [f64], a: usize)
     requires { ⌜ (a + length (now from) ≤ length (now to)) ⌝ }

@@ -20,7 +20,6 @@ use crate::rays;
 use crate::read;
 use crate::release;
 use crate::start;
-use crate::system;
 
 fn scatter(free: &[u8], y: &[f64], d: &mut [f64])
     requires { ⌜ private.Listed (length (now d)) (now free) (now y) ⌝ }
@@ -158,14 +157,11 @@ fn free_step(
     states: &mut [u8],
     nu: &mut [f64],
     free: &[u8],
-    m: &mut [f64],
-    y: &mut [f64],
-    z: &mut [f64],
     rows: &mut [usize],
     work: &mut [f64],
 ) -> Exact
     requires { ⌜ private.FreeStepLent (length (now «u_free»)) (now w) (now lo) (now hi) (now scale) (now states) (now nu)
-        (now free) (now m) (now y) (now z) (now rows) (now work) ⌝ }
+        (now free) (now rows) (now work) ⌝ }
     ensures { λ q. ⌜ private.Stepped
         (private.freeStep
         (box.problem (now (w .entry)) (now («u_free» .entry)) (now (lo .entry)) (now (hi .entry))
@@ -174,8 +170,8 @@ fn free_step(
         (now (rows .entry)) (now (work .entry)) q (now (nu .exit)) (now (states .exit)) (now (rows .exit))
         (now (work .exit)) ⌝ }
 {
-    let inconsistent = system::target(w, u_free, scale, states, nu, free, m, y, z, work);
-    direction::direction(inconsistent, scale, free, z, nu, y);
+    let inconsistent = direction::of_free_rows(w, u_free, scale, states, nu, free, work);
+    let y = read::part(work, crate::DIRECTION, free.len());
     take_step(
         w,
         u_free,
@@ -199,14 +195,11 @@ fn step(
     scale: &[f64],
     states: &mut [u8],
     nu: &mut [f64],
-    m: &mut [f64],
-    y: &mut [f64],
-    z: &mut [f64],
     rows: &mut [usize],
     work: &mut [f64],
 ) -> Exact
     requires { ⌜ private.RunLent (length (now «u_free»)) (now w) (now lo) (now hi) (now scale) (now states) (now nu)
-        (now m) (now y) (now z) (now rows) (now work) ⌝ }
+        (now rows) (now work) ⌝ }
     ensures { λ q. ⌜ private.Stepped
         (def.stepOf
         (box.problem (now (w .entry)) (now («u_free» .entry)) (now (lo .entry)) (now (hi .entry))
@@ -221,22 +214,7 @@ fn step(
     if k == 0 {
         return release::release(w, u_free, lo, hi, scale, states, nu);
     }
-    let kk = k * k;
-    free_step(
-        w,
-        u_free,
-        lo,
-        hi,
-        scale,
-        states,
-        nu,
-        &free[..k],
-        &mut m[..kk],
-        &mut y[..k],
-        &mut z[..k],
-        rows,
-        work,
-    )
+    free_step(w, u_free, lo, hi, scale, states, nu, &free[..k], rows, work)
 }
 
 fn moved(e: Exact) -> bool
@@ -252,7 +230,7 @@ fn moved(e: Exact) -> bool
 
 // A pass makes at most 8 steps for each row that acts, and 8. Each is compared with the multipliers and states marked,
 // so that a cycle is found.
-fn run(
+pub fn run(
     w: &[f64],
     u_free: &[f64],
     lo: &[f64],
@@ -260,14 +238,11 @@ fn run(
     scale: &[f64],
     states: &mut [u8],
     nu: &mut [f64],
-    matrix: &mut [f64],
-    y: &mut [f64],
-    z: &mut [f64],
     rows: &mut [usize],
     work: &mut [f64],
 ) -> Exact
     requires { ⌜ private.RunLent (length (now «u_free»)) (now w) (now lo) (now hi) (now scale) (now states) (now nu)
-        (now matrix) (now y) (now z) (now rows) (now work) ⌝ }
+        (now rows) (now work) ⌝ }
     ensures { λ q. ⌜ private.Ran
         (box.problem (now (w .entry)) (now («u_free» .entry)) (now (lo .entry)) (now (hi .entry))
         (now (scale .entry)))
@@ -282,20 +257,7 @@ fn run(
     let mut m = Mark { since: 0, span: 2 };
     let mut left = most;
     while left > 0 {
-        let e = step(
-            w,
-            u_free,
-            lo,
-            hi,
-            scale,
-            states,
-            nu,
-            matrix,
-            y,
-            z,
-            rows,
-            work,
-        );
+        let e = step(w, u_free, lo, hi, scale, states, nu, rows, work);
         if !moved(e) {
             return e;
         }
@@ -305,148 +267,4 @@ fn run(
         m = cycles::mark(nu, states, work, &mut marks, Mark { since, span });
     }
     Exact::Failed
-}
-
-fn pass_2(
-    w: &[f64],
-    u_free: &[f64],
-    lo: &[f64],
-    hi: &[f64],
-    scale: &[f64],
-    states: &mut [u8],
-    nu: &mut [f64],
-    rows: &mut [usize],
-    work: &mut [f64],
-) -> Exact
-    requires { ⌜ private.PassLent (length (now «u_free»)) (now w) (now lo) (now hi) (now scale) (now states) (now nu)
-        (now rows) (now work) × private.Small (length (now «u_free»)) 2 ⌝ }
-    ensures { λ q. ⌜ private.Ran
-        (box.problem (now (w .entry)) (now («u_free» .entry)) (now (lo .entry)) (now (hi .entry))
-        (now (scale .entry)))
-        (now (states .entry)) (now (nu .entry)) (now (rows .entry)) (now (work .entry)) q (now (nu .exit))
-        (now (states .exit)) (now (rows .exit)) (now (work .exit)) ⌝ }
-{
-    let mut m = [0.0f64; 4];
-    let mut y = [0.0f64; 2];
-    let mut z = [0.0f64; 2];
-    run(
-        w,
-        u_free,
-        lo,
-        hi,
-        scale,
-        states,
-        nu,
-        &mut m,
-        &mut y,
-        &mut z,
-        rows,
-        work,
-    )
-}
-
-fn pass_8(
-    w: &[f64],
-    u_free: &[f64],
-    lo: &[f64],
-    hi: &[f64],
-    scale: &[f64],
-    states: &mut [u8],
-    nu: &mut [f64],
-    rows: &mut [usize],
-    work: &mut [f64],
-) -> Exact
-    requires { ⌜ private.PassLent (length (now «u_free»)) (now w) (now lo) (now hi) (now scale) (now states) (now nu)
-        (now rows) (now work) × private.Small (length (now «u_free»)) 8 ⌝ }
-    ensures { λ q. ⌜ private.Ran
-        (box.problem (now (w .entry)) (now («u_free» .entry)) (now (lo .entry)) (now (hi .entry))
-        (now (scale .entry)))
-        (now (states .entry)) (now (nu .entry)) (now (rows .entry)) (now (work .entry)) q (now (nu .exit))
-        (now (states .exit)) (now (rows .exit)) (now (work .exit)) ⌝ }
-{
-    let mut m = [0.0f64; 64];
-    let mut y = [0.0f64; 8];
-    let mut z = [0.0f64; 8];
-    run(
-        w,
-        u_free,
-        lo,
-        hi,
-        scale,
-        states,
-        nu,
-        &mut m,
-        &mut y,
-        &mut z,
-        rows,
-        work,
-    )
-}
-
-fn pass_32(
-    w: &[f64],
-    u_free: &[f64],
-    lo: &[f64],
-    hi: &[f64],
-    scale: &[f64],
-    states: &mut [u8],
-    nu: &mut [f64],
-    rows: &mut [usize],
-    work: &mut [f64],
-) -> Exact
-    requires { ⌜ private.PassLent (length (now «u_free»)) (now w) (now lo) (now hi) (now scale) (now states) (now nu)
-        (now rows) (now work) × private.Small (length (now «u_free»)) 32 ⌝ }
-    ensures { λ q. ⌜ private.Ran
-        (box.problem (now (w .entry)) (now («u_free» .entry)) (now (lo .entry)) (now (hi .entry))
-        (now (scale .entry)))
-        (now (states .entry)) (now (nu .entry)) (now (rows .entry)) (now (work .entry)) q (now (nu .exit))
-        (now (states .exit)) (now (rows .exit)) (now (work .exit)) ⌝ }
-{
-    let mut m = [0.0f64; 1024];
-    let mut y = [0.0f64; 32];
-    let mut z = [0.0f64; 32];
-    run(
-        w,
-        u_free,
-        lo,
-        hi,
-        scale,
-        states,
-        nu,
-        &mut m,
-        &mut y,
-        &mut z,
-        rows,
-        work,
-    )
-}
-
-// The scratch of a pass has one of three sizes, so that a small problem does not clear nine kilobytes.
-pub fn pass(
-    w: &[f64],
-    u_free: &[f64],
-    lo: &[f64],
-    hi: &[f64],
-    scale: &[f64],
-    states: &mut [u8],
-    nu: &mut [f64],
-    rows: &mut [usize],
-    work: &mut [f64],
-) -> Exact
-    requires { ⌜ private.PassLent (length (now «u_free»)) (now w) (now lo) (now hi) (now scale) (now states) (now nu)
-        (now rows) (now work) ⌝ }
-    ensures { λ q. ⌜ private.Ran
-        (box.problem (now (w .entry)) (now («u_free» .entry)) (now (lo .entry)) (now (hi .entry))
-        (now (scale .entry)))
-        (now (states .entry)) (now (nu .entry)) (now (rows .entry)) (now (work .entry)) q (now (nu .exit))
-        (now (states .exit)) (now (rows .exit)) (now (work .exit)) ⌝ }
-{
-    let n = u_free.len();
-    if n <= 2 {
-        return pass_2(w, u_free, lo, hi, scale, states, nu, rows, work);
-    }
-    if n > 8 {
-        return pass_32(w, u_free, lo, hi, scale, states, nu, rows, work);
-    }
-    pass_8(w, u_free, lo, hi, scale, states, nu, rows, work)
 }

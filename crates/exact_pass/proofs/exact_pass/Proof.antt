@@ -4,24 +4,24 @@ use Rattle.exact_pass.proofs.Replies.{fits-lengths, left-short, left-un
 use Rattle.exact_pass.proofs.exact_pass as this
 use this.Tie as tie
 
-pass-requires : tie.Need-pass-requires
-pass-requires c κs =
+run-requires : tie.Need-run-requires
+run-requires c κs =
     let at-if2 = c .before .before .before .before in
     let at-fits2 = at-if2 .before in
     let at-if1 = at-fits2 .before in
     let at-args = at-if1 .before .before .before .before .before .before .before .before .before .before in
     let g = fits-lengths (box.problem (at-args .args .w .now) (at-args .args .u-free .now) (at-args .args .lo .now) (at-args .args .hi .now) (at-args .args .scale .now)) (at-args .args .states .now) (at-args .args .nu .now) (at-args .args .rows .now) (sym (at-fits2 .fits2 .ensures) ∙ at-if2 .if2 .taken) in record { fit = g .0; list = g .1; workspace = at-if1 .if1 .left }
 
-abbrev to-pass : tie.After-slice-known8 → tie.After-pass
-to-pass c = c .before .before .before .before .before .before .before .before
+abbrev to-run : tie.After-slice-known8 → tie.After-run
+to-run c = c .before .before .before .before .before .before .before .before
 
 returns-2 : tie.Need-returns-2
 returns-2 c =
-    let at-pass = c .before .before .before .before .before .before .before .before in
-    let at-if2 = at-pass .before .before .before .before .before in
+    let at-run = c .before .before .before .before .before .before .before .before in
+    let at-if2 = at-run .before .before .before .before .before in
     let at-fits2 = at-if2 .before in
     let at-if1 = at-fits2 .before in
-    left-passed _ _ _ _ _ _ _ _ _ _ _ (at-if1 .if1 .left) (at-fits2 .fits2 .ensures) (at-if2 .if2 .taken) (at-pass .pass .ensures)
+    left-passed _ _ _ _ _ _ _ _ _ _ _ (at-if1 .if1 .left) (at-fits2 .fits2 .ensures) (at-if2 .if2 .taken) (at-run .run .ensures)
 
 pub exact-pass-spec : {M : Type 1} → this.Statement.statement M
 exact-pass-spec =
@@ -29,10 +29,10 @@ exact-pass-spec =
     (tie.spec
     (λ c. left-short _ _ _ _ _ (c .if1 .taken))
     (λ c κs. tt)
-    pass-requires
-    (λ c. to-pass c .pass .kept .1 .1 .1 .1 .1 .0)
-    (λ c. to-pass c .pass .kept .1 .1 .1 .1 .1 .1 .0)
-    (λ c. to-pass c .pass .kept .1 .1 .1 .1 .1 .1 .1 .0)
-    (λ c. to-pass c .pass .kept .1 .1 .1 .1 .1 .1 .1 .1 .0)
+    run-requires
+    (λ c. to-run c .run .kept .1 .1 .1 .1 .1 .0)
+    (λ c. to-run c .run .kept .1 .1 .1 .1 .1 .1 .0)
+    (λ c. to-run c .run .kept .1 .1 .1 .1 .1 .1 .1 .0)
+    (λ c. to-run c .run .kept .1 .1 .1 .1 .1 .1 .1 .1 .0)
     returns-2
     (λ c. left-unfit _ _ _ _ _ _ (c .before .before .if1 .left) (c .before .fits2 .ensures) (c .if2 .left)))
