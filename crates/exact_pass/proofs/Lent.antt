@@ -4,7 +4,7 @@ use Rattle.floats.specs.Ops.{0ᶠ}
 use Rattle.loops.proofs.Common.{ℕ, _+_, _*_, _≤_, _<_, _≡_, sym, ap, _∙_, List, arith, length, take, drop, Float}
 use native.Mathlib.Nat.{mul-le-mul}
 use lib.Seq.{length-take-le}
-use Rattle.exact_pass.specs.Private.{part, Free, Fit, Listed, RatioLent, DirectionLent, SystemLent, TargetLent, Scratch, Blocked, RayLent, StepLent, FreeStepLent, RunLent, Small}
+use Rattle.exact_pass.specs.Private.{part, Free, Fit, Listed, RatioLent, DirectionLent, SystemLent, TargetLent, Scratch, Blocked, RayLent, StepLent, FreeStepLent, RunLent}
 use Rattle.exact_pass.specs.declared.Blocking.{Blocking}
 
 module _ {n : ℕ} {w lo hi scale : List Float} {st : List ℕ} {nu : List Float} (f : Fit n w lo hi scale st nu) where
@@ -78,8 +78,8 @@ square-few s = mul-le-mul (s .few) (s .few)
 pub part-long : (a k : ℕ) (v : List Float) {q : List Float} → q ≡ part a k v → a + k ≤ length v → length q ≡ k
 part-long a k v e h = rw e (length-take-le k (drop a v) (omega (arith, length-drop a v)))
 
-pub small : {k j : ℕ} → k ≤ j → Small k j
-small h = record { rows = h; entries = mul-le-mul h h }
+pub scratch : {k j : ℕ} → k ≤ j → Scratch k (replicate (j * j) 0ᶠ) (replicate j 0ᶠ) (replicate j 0ᶠ)
+scratch {j = j} h = let e = length-replicate j 0ᶠ in record { matrix = rw (length-replicate (j * j) 0ᶠ) (mul-le-mul h h); direction = rw e h; solution = rw e h }
 
 -- ---- a step, by its k free rows
 

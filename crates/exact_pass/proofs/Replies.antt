@@ -13,9 +13,9 @@ both : (a b : Bool) → (a && b) ≡ true → (a ≡ true) × (b ≡ true)
 both true b e = (refl, e)
 both false b e = absurd (true≢false (sym e))
 
-pub fits-lengths : (p : box.Problem) (st : List ℕ) (v : List Float) (rows : List ℕ) → fits p st v rows ≡ true → Fit (box.size p) (p .w) (p .lo) (p .hi) (p .scale) st v × (box.size p ≤ length rows)
-fits-lengths p st v rows e =
-    let g = both _ _ e in
+pub fits-lengths : (p : box.Problem) (st : List ℕ) (v : List Float) (rows : List ℕ) {b : Bool} → b ≡ fits p st v rows → b ≡ true → Fit (box.size p) (p .w) (p .lo) (p .hi) (p .scale) st v × (box.size p ≤ length rows)
+fits-lengths p st v rows h e =
+    let g = both _ _ (sym h ∙ e) in
     let f = both _ _ (g .0) in
     let s = both _ _ (f .0) in
     let d = both _ _ (s .0) in

@@ -92,11 +92,6 @@ pub record Scratch (k : ℕ) (m y z : List Float) : Type 0 where
   pub direction : k ≤ length y
   pub solution : k ≤ length z
 
--- k rows are at most j, and so are the entries of their matrix
-pub record Small (k j : ℕ) : Type 0 where
-  pub rows : k ≤ j
-  pub entries : k * k ≤ j * j
-
 -- r blocks a step by one of n rows, on a bound
 pub record Blocked (n : ℕ) (lo hi : List Float) (st : List ℕ) (r : Blocking) : Type 0 where
   pub row : r .row < n

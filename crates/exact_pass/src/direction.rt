@@ -1,5 +1,6 @@
 // The direction of a step: to the target or, where there is none, what its solution leaves.
 ghost use mathlib.Core.Path.{_≡_};
+ghost use Prim.Native.Nat.{_≤_};
 ghost use lib.ListN.{length};
 ghost use Rattle.exact_pass.specs.Pass as def;
 ghost use Rattle.exact_pass.specs.Private as private;
@@ -108,7 +109,7 @@ fn of_at_most_2(
 ) -> bool
     requires { ⌜ private.SystemLent (length (now nu)) (now w) (now «u_free») (now scale) (now states) (now free)
         (now work)
-        × private.Small (length (now free)) 2 ⌝ }
+        × (length (now free) ≤ 2) ⌝ }
     ensures { λ q. ⌜ private.Directed
         (def.target (now (w .entry)) (now («u_free» .entry)) (now (scale .entry)) (now (states .entry))
         (now (nu .entry)) (now (free .entry)))
@@ -142,7 +143,7 @@ fn of_at_most_8(
 ) -> bool
     requires { ⌜ private.SystemLent (length (now nu)) (now w) (now «u_free») (now scale) (now states) (now free)
         (now work)
-        × private.Small (length (now free)) 8 ⌝ }
+        × (length (now free) ≤ 8) ⌝ }
     ensures { λ q. ⌜ private.Directed
         (def.target (now (w .entry)) (now («u_free» .entry)) (now (scale .entry)) (now (states .entry))
         (now (nu .entry)) (now (free .entry)))
@@ -176,7 +177,7 @@ fn of_at_most_32(
 ) -> bool
     requires { ⌜ private.SystemLent (length (now nu)) (now w) (now «u_free») (now scale) (now states) (now free)
         (now work)
-        × private.Small (length (now free)) 32 ⌝ }
+        × (length (now free) ≤ 32) ⌝ }
     ensures { λ q. ⌜ private.Directed
         (def.target (now (w .entry)) (now («u_free» .entry)) (now (scale .entry)) (now (states .entry))
         (now (nu .entry)) (now (free .entry)))

@@ -1,5 +1,4 @@
 use Rattle.box_rows.specs.Rows as box
-use mathlib.Core.Path.{sym, _∙_}
 use Rattle.exact_pass.proofs.Replies.{fits-lengths, left-short, left-unfit, left-passed}
 use Rattle.exact_pass.proofs.exact_pass as this
 use this.Tie as tie
@@ -10,7 +9,7 @@ run-requires c κs =
     let at-fits2 = at-if2 .before in
     let at-if1 = at-fits2 .before in
     let at-args = at-if1 .before .before .before .before .before .before .before .before .before .before in
-    let g = fits-lengths (box.problem (at-args .args .w .now) (at-args .args .u-free .now) (at-args .args .lo .now) (at-args .args .hi .now) (at-args .args .scale .now)) (at-args .args .states .now) (at-args .args .nu .now) (at-args .args .rows .now) (sym (at-fits2 .fits2 .ensures) ∙ at-if2 .if2 .taken) in record { fit = g .0; list = g .1; workspace = at-if1 .if1 .left }
+    let g = fits-lengths (box.problem (at-args .args .w .now) (at-args .args .u-free .now) (at-args .args .lo .now) (at-args .args .hi .now) (at-args .args .scale .now)) (at-args .args .states .now) (at-args .args .nu .now) (at-args .args .rows .now) (at-fits2 .fits2 .ensures) (at-if2 .if2 .taken) in record { fit = g .0; list = g .1; workspace = at-if1 .if1 .left }
 
 abbrev to-run : tie.After-slice-known8 → tie.After-run
 to-run c = c .before .before .before .before .before .before .before .before

@@ -1,5 +1,4 @@
 use Rattle.box_rows.specs.Rows as box
-use mathlib.Core.Path.{sym, _∙_}
 use Rattle.exact_pass.proofs.Replies.{fits-lengths, ray-fits, ray-unfit}
 use Rattle.exact_pass.proofs.ray as this
 use this.Tie as tie
@@ -9,7 +8,7 @@ ray-requires c κs =
     let at-if1 = c .before in
     let at-fits2 = at-if1 .before in
     let at-args = at-fits2 .before .before .before .before .before .before .before .before .before in
-    let g = fits-lengths (box.problem (at-args .args .w .now) (at-args .args .u-free .now) (at-args .args .lo .now) (at-args .args .hi .now) (at-args .args .scale .now)) (at-args .args .states .now) (at-args .args .y .now) (at-args .args .rows .now) (sym (at-fits2 .fits2 .ensures) ∙ at-if1 .if1 .taken) in g
+    fits-lengths (box.problem (at-args .args .w .now) (at-args .args .u-free .now) (at-args .args .lo .now) (at-args .args .hi .now) (at-args .args .scale .now)) (at-args .args .states .now) (at-args .args .y .now) (at-args .args .rows .now) (at-fits2 .fits2 .ensures) (at-if1 .if1 .taken)
 
 returns : tie.Need-returns
 returns c =
