@@ -112,7 +112,7 @@ module _ (k : ℕ) (a b x : List Float) (work : List Float) (f : k ≤ 32) (p : 
   pub solved-work : (work′ : List Float) → drop (least.used (least.reply k k a b x (length work))) work′ ≡ drop (least.used (least.reply k k a b x (length work))) work → drop 1056 work′ ≡ drop 1056 work
   solved-work work′ e = rw (replied k a b x (length work) f p q r s) at e
 
--- ---- the calls of `target`: y₁ is the right-hand side, y₂ and m₁ are what the least-norm call was lent
+-- ---- the calls of `from_system`: y₁ is the right-hand side, z and y₂ are the target's, y₃ is the direction
 
 module _ (w uFree scale : List Float) (st : List ℕ) (nu : List Float) (l : List ℕ) (y₁ work₀ work₁ work₂ : List Float) where
   module _ (sided : y₁ ≡ def.rightHandSide w uFree st nu l (length l)) (copied : Copied y₁ 1056 work₀ work₁) (few : length l ≤ 32) (solved : drop 1056 work₂ ≡ drop 1056 work₁) where
@@ -122,22 +122,21 @@ module _ (w uFree scale : List Float) (st : List ℕ) (nu : List Float) (l : Lis
     side-kept : part 1056 (length l) work₂ ≡ def.rightHandSide w uFree st nu l (length l)
     side-kept = rw (solved, ← side-length) (copied .part) ∙ sided
 
-    target-work : drop 1088 work₂ ≡ drop 1088 work₀
-    target-work = later 1056 1088 work₂ work₁ (omega arith) solved ∙ later (1056 + length y₁) 1088 work₁ work₀ (omega (arith, side-length, few)) (copied .after)
+    side-work : drop 1088 work₂ ≡ drop 1088 work₀
+    side-work = later 1056 1088 work₂ work₁ (omega arith) solved ∙ later (1056 + length y₁) 1088 work₁ work₀ (omega (arith, side-length, few)) (copied .after)
 
-    pub target-run : (m z y : List Float) (b : Bool) → m ≡ def.matrix w scale l (length l) → z ≡ leastNorm (length y₁) (length y₁) m y₁ .x → y ≡ private.downhill w scale l (part 1056 (length l) work₂) z (length l) → b ≡ private.inconsistent w scale l (part 1056 (length l) work₂) z (length l) → private.Targeted (def.target w uFree scale st nu l) work₀ b y z work₂
-    unfolding def.target private.tooLarge
-    target-run m z y b e f g h =
-        let zed : z ≡ leastNorm (length l) (length l) (def.matrix w scale l (length l)) (def.rightHandSide w uFree st nu l (length l)) .x = rw (side-length, e, sided) at f in
-        record { target = rw (g, h, side-kept, zed); workspace = target-work }
+    module _ (m z y₂ : List Float) (b : Bool) (e : m ≡ def.matrix w scale l (length l)) (f : z ≡ leastNorm (length y₁) (length y₁) m y₁ .x) (g : y₂ ≡ private.downhill w scale l (part 1056 (length l) work₂) z (length l))
+        (h : b ≡ private.inconsistent w scale l (part 1056 (length l) work₂) z (length l)) where
+      target : private.targeted z y₂ b ≡ def.target w uFree scale st nu l
+      unfolding def.target private.tooLarge
+      target =
+          let zed : z ≡ leastNorm (length l) (length l) (def.matrix w scale l (length l)) (def.rightHandSide w uFree st nu l (length l)) .x = rw (side-length, e, sided) at f in
+          rw (g, h, side-kept, zed)
 
--- ---- the direction, from what its calls leave: y₁ and z are the target's, y₂ the direction
-
-pub directed-run : {t : def.Target} {scale : List Float} {l : List ℕ} {nu work₀ work₁ work₂ y₁ y₂ z : List Float} {b : Bool} → private.Targeted t work₀ b y₁ z work₁ → y₂ ≡ def.direction b scale l z nu y₁
-    → Copied y₂ 1056 work₁ work₂ → length y₂ ≡ length l → length l ≤ 32 → private.Directed t scale l nu work₀ b work₂
-directed-run {t = t} {scale = scale} {l = l} {nu = nu} {work₀ = work₀} {work₁ = work₁} {work₂ = work₂} {y₂ = y₂} {b = b} g e copied long few =
-    record {
-      direction = rw (← g .target) (rw (← long) (copied .part) ∙ e);
-      targetless = rw (← g .target);
-      workspace = later (1056 + length y₂) 1088 work₂ work₁ (omega (arith, long, few)) (copied .after) ∙ g .workspace;
-    }
+      pub directed-run : (y₃ work₃ : List Float) → y₃ ≡ def.direction b scale l z nu y₂ → Copied y₃ 1056 work₂ work₃ → length y₃ ≡ length l → private.Directed (def.target w uFree scale st nu l) scale l nu work₀ b work₃
+      directed-run y₃ work₃ d laid long =
+          record {
+            direction = rw (← target) (rw (← long) (laid .part) ∙ d);
+            targetless = rw (← target);
+            workspace = later (1056 + length y₃) 1088 work₃ work₂ (omega (arith, long, few)) (laid .after) ∙ side-work;
+          }

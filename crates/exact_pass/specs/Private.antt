@@ -141,11 +141,6 @@ pub record MarksLent (n : ℕ) (st : List ℕ) (work : List Float) (marks : List
 abbrev pub targeted : List Float → List Float → Bool → def.Target
 targeted z y b = record { z = z; y = y; inconsistent = b }
 
--- after the system of the free rows is solved
-pub record Targeted (t : def.Target) (work : List Float) (b : Bool) (y z work′ : List Float) : Type 0 where
-  pub target : targeted z y b ≡ t
-  pub workspace : drop 1088 work′ ≡ drop 1088 work
-
 -- after a step: what is marked in the workspace stays
 pub record Stepped (p : def.Pass) (rows : List ℕ) (work : List Float) (e : Exact) (nu : List Float) (st rows′ : List ℕ) (work′ : List Float) : Type 0 where
   pub passed : Passed p rows e nu st rows′

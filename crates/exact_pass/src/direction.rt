@@ -7,21 +7,7 @@ ghost use Rattle.exact_pass.specs.Private as private;
 use crate::read;
 use crate::system;
 
-fn to_target(scale: &[f64], free: &[u8], z: &[f64], nu: &[f64], y: &mut [f64])
-    requires { ⌜ private.DirectionLent (length (now nu)) (now scale) (now free) (now z) (now y) ⌝ }
-    ensures { λ q. ⌜ now (y .exit)
-        ≡ private.toTarget (now (scale .entry)) (now (free .entry)) (now (z .entry)) (now (nu .entry))
-        (length (now (free .entry))) ⌝ }
-{
-    let k = free.len();
-    let mut i = 0;
-    while i < k {
-        let a = read::row_number(free, i);
-        read::put(y, i, read::at(scale, a) * read::at(z, i) - read::at(nu, a));
-        i += 1;
-    }
-}
-
+// y is what the solution z leaves, and becomes the way to z where there is a target.
 fn direction(inconsistent: bool, scale: &[f64], free: &[u8], z: &[f64], nu: &[f64], y: &mut [f64])
     requires { ⌜ private.DirectionLent (length (now nu)) (now scale) (now free) (now z) (now y) ⌝ }
     ensures { λ q. ⌜ now (y .exit)
@@ -31,11 +17,17 @@ fn direction(inconsistent: bool, scale: &[f64], free: &[u8], z: &[f64], nu: &[f6
     if inconsistent {
         return;
     }
-    to_target(scale, free, z, nu, y);
+    let k = free.len();
+    let mut i = 0;
+    while i < k {
+        let a = read::row_number(free, i);
+        read::put(y, i, read::at(scale, a) * read::at(z, i) - read::at(nu, a));
+        i += 1;
+    }
 }
 
-// The direction of the free rows by the target of their system, left in the workspace; whether there is no target. m, y
-// and z are scratch for as many rows as are free.
+// The direction of the free rows, left in the workspace: to the solution z of least norm of their system, or what that
+// leaves of it, where it is too much; whether it is. m, y and z are scratch for as many rows as are free.
 fn from_system(
     w: &[f64],
     u_free: &[f64],
@@ -55,7 +47,11 @@ fn from_system(
         (now (nu .entry)) (now (free .entry)))
         (now (scale .entry)) (now (free .entry)) (now (nu .entry)) (now (work .entry)) q (now (work .exit)) ⌝ }
 {
-    let inconsistent = system::target(w, u_free, scale, states, nu, free, m, y, z, work);
+    system::right_hand_side(w, u_free, states, nu, free, y);
+    read::copy(y, work, crate::RIGHT_HAND_SIDE);
+    system::matrix(w, scale, free, m);
+    system::solve(m, y, z, work);
+    let inconsistent = system::residual(w, scale, free, work, z, y);
     direction(inconsistent, scale, free, z, nu, y);
     read::copy(y, work, crate::DIRECTION);
     inconsistent

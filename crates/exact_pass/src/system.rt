@@ -29,24 +29,8 @@ fn right_hand_start(u_free: &[f64], free: &[u8], rhs: &mut [f64])
     }
 }
 
-// Column j, whose row has the multiplier v, taken from the right-hand side of each free row.
-fn right_hand_column(w: &[f64], n: usize, free: &[u8], j: usize, v: f64, rhs: &mut [f64])
-    requires { ⌜ lists.Square (now w) n × (j < n) × private.Below n (now free)
-        × (length (now rhs) ≡ length (now free)) ⌝ }
-    ensures { λ q. ⌜ now (rhs .exit)
-        ≡ private.columnTaken (now (w .entry)) n (now (free .entry)) j v (length (now (free .entry)))
-        (now (rhs .entry)) ⌝ }
-{
-    let k = free.len();
-    let mut i = 0;
-    while i < k {
-        let row = read::row(w, n, read::row_number(free, i));
-        read::put(rhs, i, read::at(rhs, i) - read::at(row, j) * v);
-        i += 1;
-    }
-}
-
-// The same, where row j is not free: the columns of free rows are on the left.
+// Column j, whose row has the multiplier v, taken from the right-hand side of each free row where row j is not free: the
+// columns of free rows are on the left.
 fn bound_column(state: u8, w: &[f64], n: usize, free: &[u8], j: usize, v: f64, rhs: &mut [f64])
     requires { ⌜ lists.Square (now w) n × (j < n) × private.Below n (now free)
         × (length (now rhs) ≡ length (now free)) ⌝ }
@@ -58,7 +42,13 @@ fn bound_column(state: u8, w: &[f64], n: usize, free: &[u8], j: usize, v: f64, r
     if state == box_rows::INSIDE {
         return;
     }
-    right_hand_column(w, n, free, j, v, rhs);
+    let k = free.len();
+    let mut i = 0;
+    while i < k {
+        let row = read::row(w, n, read::row_number(free, i));
+        read::put(rhs, i, read::at(rhs, i) - read::at(row, j) * v);
+        i += 1;
+    }
 }
 
 // Column by column: the sums of different rows do not wait for each other, and a column is tested once.
@@ -150,7 +140,14 @@ fn too_large(r: f64, d: f64, s: f64) -> bool
 }
 
 // y is minus what z leaves of each row, whose right-hand side is in the workspace; whether some row's is too large.
-fn residual(w: &[f64], scale: &[f64], free: &[u8], work: &[f64], z: &[f64], y: &mut [f64]) -> bool
+pub fn residual(
+    w: &[f64],
+    scale: &[f64],
+    free: &[u8],
+    work: &[f64],
+    z: &[f64],
+    y: &mut [f64],
+) -> bool
     requires { ⌜ lists.Square (now w) (length (now scale)) × private.Below (length (now scale)) (now free)
         × (length (now z) ≡ length (now free))
         × (length (now y) ≡ length (now free)) × (length (now free) ≤ 32) × (1120 ≤ length (now work)) ⌝ }
@@ -187,7 +184,7 @@ fn residual(w: &[f64], scale: &[f64], free: &[u8], work: &[f64], z: &[f64], y: &
 }
 
 // A least-norm call that fits: k rows and columns.
-fn solve(m: &mut [f64], b: &mut [f64], z: &mut [f64], work: &mut [f64])
+pub fn solve(m: &mut [f64], b: &mut [f64], z: &mut [f64], work: &mut [f64])
     requires { ⌜
         (length (now b) ≤ 32) × (length (now m) ≡ length (now b) * length (now b)) × (length (now z) ≡ length (now b))
         × (1056 ≤ length (now work)) ⌝ }
@@ -197,32 +194,4 @@ fn solve(m: &mut [f64], b: &mut [f64], z: &mut [f64], work: &mut [f64])
 {
     let k = b.len();
     least_norm::LeastNorm::solve(m, k, k, b, z, work);
-}
-
-// The solution z of least norm, and in y minus what it leaves of the system; whether that is too large, so that no
-// multipliers make the free rows still.
-pub fn target(
-    w: &[f64],
-    u_free: &[f64],
-    scale: &[f64],
-    states: &[u8],
-    nu: &[f64],
-    free: &[u8],
-    m: &mut [f64],
-    y: &mut [f64],
-    z: &mut [f64],
-    work: &mut [f64],
-) -> bool
-    requires { ⌜ private.TargetLent (length (now nu)) (now w) (now «u_free») (now scale) (now states) (now free)
-        (now m) (now y) (now z) (now work) ⌝ }
-    ensures { λ q. ⌜ private.Targeted
-        (def.target (now (w .entry)) (now («u_free» .entry)) (now (scale .entry)) (now (states .entry))
-        (now (nu .entry)) (now (free .entry)))
-        (now (work .entry)) q (now (y .exit)) (now (z .exit)) (now (work .exit)) ⌝ }
-{
-    right_hand_side(w, u_free, states, nu, free, y);
-    read::copy(y, work, crate::RIGHT_HAND_SIDE);
-    matrix(w, scale, free, m);
-    solve(m, y, z, work);
-    residual(w, scale, free, work, z, y)
 }

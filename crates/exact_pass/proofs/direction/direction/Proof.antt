@@ -1,19 +1,50 @@
+use Rattle.loops.proofs.Common.{_+_, _-_, _≤_, _≡_, _++_, arith, length, drop, needs}
+use Rattle.box_rows.proofs.Matrix.{tab-filled}
+use Rattle.loops.proofs.Fill.{tab-start, tab-again}
+use Rattle.exact_pass.proofs.Rows.{free-row}
 use Rattle.exact_pass.specs.Pass as def
-use borrow.Author.Needs.{needs}
+use Rattle.exact_pass.specs.Private as private
 use Rattle.exact_pass.proofs.direction.direction as this
 use this.Tie as tie
 
-returns : tie.Need-returns
+abbrev Inv-loop : tie.InvT-loop
+Inv-loop inconsistent scale free z nu y₀ k i₀ y i = (i ≤ k) × (k ≡ length free) × (length y ≡ length y₀) × (y ≡ private.toTarget scale free z nu i ++ drop i y₀)
+
+abbrev μ-loop : tie.MeasureT-loop
+μ-loop inconsistent scale free z nu y₀ k i₀ y i = k - i
+
+returns : tie.Need-returns Inv-loop μ-loop
 unfolding def.direction
 returns c = rw (c .if1 .taken)
 
-returns-2 : tie.Need-returns-2
+loop-again : tie.Need-loop-again Inv-loop μ-loop
+loop-again c =
+    let l = c .before .before .before .before .before .before .before .before .before .loop in
+    (search needs, search needs, search needs, cc (tab-again _ _ _ _ (l .inv .3) (l .inv .2) (omega arith)))
+
+returns-2 : tie.Need-returns-2 Inv-loop μ-loop
 unfolding def.direction
-returns-2 c = rw (c .before .before .before .before .if1 .left) (c .before .before .to-target .ensures)
+returns-2 c =
+    let at-loop = c .before in
+    let at-if1 = at-loop .before in
+    let at-pre = at-if1 .before .before .before .before .before .before in
+    rw (at-if1 .if1 .left) (tab-filled _ _ _ _ _ (at-loop .loop .inv .3) (at-loop .loop .inv .2) (at-pre .pre .listed .long) (omega arith) (omega arith))
 
 pub direction-spec : {M : Type 1} → this.Statement.statement M
-direction-spec = tie.close (tie.spec
+direction-spec =
+    tie.close
+    (tie.spec
+    Inv-loop
+    μ-loop
     returns
-    (λ c κs. search needs)
-    (λ c. c .before .before .to-target .kept .1 .1 .1 .1 .0)
+    (λ c. (search needs, search needs, search needs, tab-start _ _))
+    (λ c κs. omega arith)
+    (λ c κs. search (free-row, needs))
+    (λ c κs. omega arith)
+    (λ c κs. search (free-row, needs))
+    (λ c κs. omega arith)
+    (λ c. omega arith)
+    (λ c. omega arith)
+    loop-again
+    (λ c. omega arith)
     returns-2)

@@ -7,6 +7,12 @@ use this.Tie as tie
 abbrev entry : tie.After-of-free-rows → tie.Start
 entry c = c .before .before .before .before .before .before .before .before .before .before .before .before .before .before
 
+abbrev to-take : tie.After-slice-known8 → tie.After-take-step
+to-take c = c .before .before .before .before .before .before
+
+abbrev to-rows : tie.After-take-step → tie.After-of-free-rows
+to-rows c = c .before .before .before .before .before .before .before .before
+
 within : (c : tie.After-of-free-rows) → 1056 + length (entry c .args .free .now) ≤ length (c .of-free-rows .last .1 .1 .1 .1 .1 .1 .0)
 within c = let f = entry c .pre in omega (arith, f .few, f .workspace, c .of-free-rows .kept .1 .1 .1 .1 .1 .1 .0)
 
@@ -20,8 +26,8 @@ free-step-spec =
     (λ c κs. system-lent (c .before .before .before .before .before .before .before .before .before .before .before .before .before .pre) refl)
     (λ c κs. within (c .before .before .before))
     take-step-requires
-    (λ c. c .before .before .before .before .before .before .take-step .kept .1 .1 .1 .1 .1 .0)
-    (λ c. c .before .before .before .before .before .before .take-step .kept .1 .1 .1 .1 .1 .1 .0)
-    (λ c. c .before .before .before .before .before .before .take-step .kept .1 .1 .1 .1 .1 .1 .1 .1 .1 .1 .0)
-    (λ c. c .before .before .before .before .before .before .before .before .before .before .before .before .before .before .of-free-rows .kept .1 .1 .1 .1 .1 .1 .0)
-    (λ c. free-step-run _ _ _ _ _ _ _ _ _ _ _ _ _ (c .before .before .before .before .before .before .before .before .before .before .before .before .before .before .of-free-rows .ensures) (c .before .before .before .before .before .before .before .before .before .before .part .ensures) (c .before .before .before .before .before .before .take-step .ensures)))
+    (λ c. to-take c .take-step .kept .1 .1 .1 .1 .1 .0)
+    (λ c. to-take c .take-step .kept .1 .1 .1 .1 .1 .1 .0)
+    (λ c. to-take c .take-step .kept .1 .1 .1 .1 .1 .1 .1 .1 .1 .1 .0)
+    (λ c. to-rows (to-take c) .of-free-rows .kept .1 .1 .1 .1 .1 .1 .0)
+    (λ c. free-step-run _ _ _ _ _ _ _ _ _ _ _ _ _ (to-rows (to-take c) .of-free-rows .ensures) (c .before .before .before .before .before .before .before .before .before .before .part .ensures) (to-take c .take-step .ensures)))

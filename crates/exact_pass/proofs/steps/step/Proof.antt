@@ -8,6 +8,9 @@ use this.Tie as tie
 abbrev entry : tie.After-free-rows → tie.Start
 entry c = c .before .before .before .before .before .before .before .before .before .before .before .before
 
+abbrev to-step : tie.After-slice-known9 → tie.After-free-step
+to-step c = c .before .before .before .before .before .before .before .before
+
 returns : tie.Need-returns
 returns c =
     let at-rows = c .before .before .before .before .before .before .before in
@@ -18,7 +21,7 @@ returns-2 : tie.Need-returns-2
 returns-2 c =
     let at-rows = c .before .before .before .before .before .before .before .before .before .before .before .before .before .before .before .before in
     let f = rw (entry at-rows .pre .fit .states) at (at-rows .free-rows .ensures) in
-    let stepped = c .before .before .before .before .before .before .before .before .free-step .ensures in
+    let stepped = to-step c .free-step .ensures in
     record { passed = step-free _ _ _ _ _ _ _ _ _ (f .count) (c .before .before .before .before .before .before .before .before .before .before .before .before .before .before .if1 .left) (rw (← f .front) (stepped .passed)); workspace = stepped .workspace }
 
 pub step-spec : {M : Type 1} → this.Statement.statement M
@@ -34,8 +37,8 @@ step-spec =
     (λ c. let r = c .before .before .before .before in omega (arith, free-few (entry r .pre) (r .free-rows .ensures)))
     (λ c. let r = c .before .before .before .before .before in sym (length-take-le _ _ (omega (arith, free-few (entry r .pre) (r .free-rows .ensures)))))
     (λ c κs. let r = c .before .before .before .before .before .before .before in free-step-lent (entry r .pre) (r .free-rows .ensures) (c .before .before .before .before .before .if1 .left))
-    (λ c. c .before .before .before .before .before .before .before .before .free-step .kept .1 .1 .1 .1 .1 .0)
-    (λ c. c .before .before .before .before .before .before .before .before .free-step .kept .1 .1 .1 .1 .1 .1 .0)
-    (λ c. c .before .before .before .before .before .before .before .before .free-step .kept .1 .1 .1 .1 .1 .1 .1 .1 .0)
-    (λ c. c .before .before .before .before .before .before .before .before .free-step .kept .1 .1 .1 .1 .1 .1 .1 .1 .1 .0)
+    (λ c. to-step c .free-step .kept .1 .1 .1 .1 .1 .0)
+    (λ c. to-step c .free-step .kept .1 .1 .1 .1 .1 .1 .0)
+    (λ c. to-step c .free-step .kept .1 .1 .1 .1 .1 .1 .1 .1 .0)
+    (λ c. to-step c .free-step .kept .1 .1 .1 .1 .1 .1 .1 .1 .1 .0)
     returns-2)
