@@ -56,10 +56,9 @@ pub record Now : Type 0 where
   pub work : List Float
   pub marks : List ℕ
   pub mark : Mark
-  pub left : ℕ
 
-abbrev pub now : List ℕ → List Float → List ℕ → List Float → List ℕ → Mark → ℕ → Now
-now st nu q work marks mark left = record { st = st; nu = nu; q = q; work = work; marks = marks; mark = mark; left = left }
+abbrev pub now : List ℕ → List Float → List ℕ → List Float → List ℕ → Mark → Now
+now st nu q work marks mark = record { st = st; nu = nu; q = q; work = work; marks = marks; mark = mark }
 
 abbrev at : Now → Trial
 at n = trial (n .nu) (n .st)
@@ -69,13 +68,12 @@ marked n = private.marked (length (n .nu)) (n .work) (n .marks)
 
 pub record Going (p : box.Problem) (most : ℕ) (b n : Now) : Type 0 where
   pub bounded : most ≤ 264
-  pub few : n .left ≤ most
-  pub since : n .mark .since + n .left ≤ most
+  pub since : n .mark .since + n .mark .left ≤ most
   pub span : n .mark .span ≤ 528
   pub lent : RunLent (box.size p) (p .w) (p .lo) (p .hi) (p .scale) (n .st) (n .nu) (n .q) (n .work)
   pub workspace : length (n .work) ≡ length (b .work)
   pub marks-long : length (n .marks) ≡ 32
-  pub steps : def.steps p (at b) most ≡ def.steps p (at n) (n .left)
+  pub steps : def.steps p (at b) most ≡ def.steps p (at n) (n .mark .left)
   pub round : def.steps p (marked n) (n .mark .since) ≡ moved (at n)
   pub listed : n .q ≡ b .q
   pub beyond : drop 1120 (n .work) ≡ drop 1120 (b .work)
@@ -84,11 +82,10 @@ pub record Going (p : box.Problem) (most : ℕ) (b n : Now) : Type 0 where
 module _ {p : box.Problem} {st₀ : List ℕ} {nu₀ : List Float} {q : List ℕ} {work₀ : List Float} (r : RunLent (box.size p) (p .w) (p .lo) (p .hi) (p .scale) st₀ nu₀ q work₀)
     {st : List ℕ} {nu work : List Float} where
   pub going-start : {marks : List ℕ} {most : ℕ} → length st ≡ length st₀ → length nu ≡ length nu₀ → length work ≡ length work₀ → Copied nu 1088 work₀ work → take (length st) marks ≡ st → length marks ≡ 32 → most ≤ 264
-      → let n = now st nu q work marks (record { since = 0; span = 2 }) most in Going p most n n
+      → let n = now st nu q work marks (record { since = 0; span = 2; left = most }) in Going p most n n
   going-start kept-st kept-nu kept-work copied noted long bounded =
       record {
         bounded = bounded;
-        few = omega arith;
         since = omega arith;
         span = omega arith;
         lent = record { fit = refit (r .fit) kept-st kept-nu; list = r .list; workspace = rw kept-work (r .workspace) };
@@ -113,7 +110,7 @@ module _ {p : box.Problem} {st₀ : List ℕ} {nu₀ : List Float} {q : List ℕ
 -- ---- one turn, from what its calls promise
 
 module _ {p : box.Problem} {most : ℕ} {b n : Now} (g : Going p most b n) where
-  module _ {e : Exact} {nu : List Float} {st q : List ℕ} {work : List Float} (s : Stepped (next p (at n)) (n .q) (n .work) e nu st q work) (more-left : 0 < n .left) where
+  module _ {e : Exact} {nu : List Float} {st q : List ℕ} {work : List Float} (s : Stepped (next p (at n)) (n .q) (n .work) e nu st q work) (more-left : 0 < n .mark .left) where
     beyond-step : drop 1120 work ≡ drop 1120 (b .work)
     beyond-step = later 1088 1120 work (n .work) (omega arith) (s .workspace) ∙ g .beyond
 
@@ -122,33 +119,30 @@ module _ {p : box.Problem} {most : ℕ} {b n : Now} (g : Going p most b n) where
     unfolding def.steps
     going-ended f =
         let o = ended-stays p (next p (at n)) (s .passed) f in
-        let x = g .steps ∙ stays (def.step p) (moved (at n)) (next p (at n)) 1 (steps-one p (at n)) (λ i h. o .0 i) (n .left) more-left in
+        let x = g .steps ∙ stays (def.step p) (moved (at n)) (next p (at n)) 1 (steps-one p (at n)) (λ i h. o .0 i) (n .mark .left) more-left in
         (rw (← g .listed, x, o .1) (s .passed), beyond-step)
 
     -- the pass goes on with fewer steps, and may be marked anew
-    pub going-again : {work′ : List Float} {marks : List ℕ} {mark : Mark} {left : ℕ} → isMoved e ≡ true → Kept (n .st) (n .nu) (n .q) (n .work) st nu q work
-        → ((p : box.Problem) → def.steps p (private.marked (length nu) work (n .marks)) (n .mark .since + 1) ≡ moved (trial nu st) → def.steps p (trial nu st) (n .left - 1) ≡ def.steps p (trial nu st) left) × (left ≤ n .left - 1)
-        → private.Marked nu st work (n .marks) (n .mark .since + 1) work′ marks (mark .since) × (mark .since ≤ n .mark .since + 1) × (mark .span ≤ 528) × (drop 1120 work′ ≡ drop 1120 work)
-        → length work′ ≡ length work → length marks ≡ length (n .marks) → Going p most b (now st nu q work′ marks mark left)
-    going-again f h l a kept-work kept-marks =
+    pub going-again : {work′ : List Float} {marks : List ℕ} {mark : Mark} → isMoved e ≡ true → Kept (n .st) (n .nu) (n .q) (n .work) st nu q work → private.MarkedOn (trial nu st) (n .mark) work (n .marks) mark work′ marks
+        → length work′ ≡ length work → length marks ≡ length (n .marks) → Going p most b (now st nu q work′ marks mark)
+    going-again f h a kept-work kept-marks =
         let o = going-on (next p (at n)) (n .q) e nu st q (s .passed) f in
         let one : def.steps p (at n) 1 ≡ moved (trial nu st) = steps-one p (at n) ∙ o .0 in
-        let less : 1 + (n .left - 1) ≡ n .left = omega arith in
-        let more : def.steps p (at n) (n .left) ≡ def.steps p (trial nu st) (n .left - 1) = ap (def.steps p (at n)) (sym less) ∙ steps-more p (at n) (trial nu st) 1 (n .left - 1) one in
+        let less : 1 + (n .mark .left - 1) ≡ n .mark .left = omega arith in
+        let more : def.steps p (at n) (n .mark .left) ≡ def.steps p (trial nu st) (n .mark .left - 1) = ap (def.steps p (at n)) (sym less) ∙ steps-more p (at n) (trial nu st) 1 (n .mark .left - 1) one in
         let since : def.steps p (marked n) (n .mark .since + 1) ≡ moved (trial nu st) = steps-more p (marked n) (at n) (n .mark .since) 1 (g .round) ∙ one in
         let round : def.steps p (private.marked (length nu) work (n .marks)) (n .mark .since + 1) ≡ moved (trial nu st) = rw (h .1 .0, s .workspace) since in
         record {
           bounded = g .bounded;
-          few = omega (arith, l .1, g .few);
-          since = omega (arith, a .1, l .1, g .since, more-left);
-          span = a .2;
+          since = omega (arith, a .since, a .fewer, g .since, more-left);
+          span = a .span;
           lent = relent (g .lent) work h kept-work;
           workspace = kept-work ∙ h .1 .1 .1 .0 ∙ g .workspace;
           marks-long = kept-marks ∙ g .marks-long;
-          steps = g .steps ∙ more ∙ l .0 p round;
-          round = a .0 p round;
+          steps = g .steps ∙ more ∙ a .steps p round;
+          round = a .round p round;
           listed = o .1 ∙ g .listed;
-          beyond = a .3 ∙ beyond-step;
+          beyond = a .beyond ∙ beyond-step;
         }
 
   -- what is compared and marked fits: lengths after the step
@@ -158,9 +152,9 @@ module _ {p : box.Problem} {most : ℕ} {b n : Now} (g : Going p most b n) where
       rw (kept-nu, f .values) (record { states = kept-st ∙ f .states; few = f .sized .0; workspace = rw kept-work (g .lent .workspace); long = rw (g .marks-long) (f .sized .0) })
 
   -- no step is left
-  pub going-over : n .left ≤ 0 → Passed (def.closed (def.steps p (at b) most)) (b .q) Failed (n .nu) (n .st) (n .q) × (drop 1120 (n .work) ≡ drop 1120 (b .work))
+  pub going-over : n .mark .left ≤ 0 → Passed (def.closed (def.steps p (at b) most)) (b .q) Failed (n .nu) (n .st) (n .q) × (drop 1120 (n .work) ≡ drop 1120 (b .work))
   unfolding def.closed
   going-over z =
-      let e : n .left ≡ 0 = omega arith in
+      let e : n .mark .left ≡ 0 = omega arith in
       let x : def.steps p (at b) most ≡ moved (at n) = g .steps ∙ ap (def.steps p (at n)) e ∙ steps-start p (at n) in
       (rw x (record { answer = refl; tried = refl; listed = g .listed }), g .beyond)

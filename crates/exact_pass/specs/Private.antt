@@ -1,5 +1,5 @@
 -- Words of private contracts: what they are lent. No promise of a public call stands on them; those are in Promise.antt. Definitions only.
-use Prim.Native.Nat.{ℕ, suc, _+_, _*_, _≤_, _<_}
+use Prim.Native.Nat.{ℕ, suc, _+_, _-_, _*_, _≤_, _<_}
 use mathlib.Core.Path.{_≡_}
 use mathlib.Core.Bool.{Bool, true, false, not, cond, _&&_, _||_}
 use mathlib.Core.List.{List, []}
@@ -18,6 +18,7 @@ use Rattle.exact_pass.specs.Walk as walks
 use Rattle.exact_pass.specs.Promise.{Front, Passed}
 use Rattle.exact_pass.specs.declared.Blocking.{Blocking}
 use Rattle.exact_pass.specs.declared.Worst.{Worst}
+use Rattle.exact_pass.specs.declared.Mark.{Mark}
 use Rattle.exact_pass.specs.declared.Exact.{Exact}
 use Rattle.exact_pass.specs.declared.Exact.the-variants.{Moved, Found, Failed, Infeasible}
 
@@ -191,11 +192,14 @@ pub record Collecting (c : walks.Walked) (n k : ℕ) (far : Float) (l : List ℕ
 abbrev pub marked : ℕ → List Float → List ℕ → def.Trial
 marked n work marks = def.trial (part 1088 n work) (take n marks)
 
--- From what is marked the pass came to nu and st: after so many steps before, and after.
-abbrev pub Marked : List Float → List ℕ → List Float → List ℕ → ℕ → List Float → List ℕ → ℕ → Type 0
-Marked nu st work marks since work′ marks′ since′ =
-    (p : box.Problem) → def.steps p (marked (length nu) work marks) since ≡ def.moved (def.trial nu st)
-    → def.steps p (marked (length nu) work′ marks′) since′ ≡ def.moved (def.trial nu st)
+-- After a step to the trial t, by the mark m before it: if the pass came to t from what was marked, it came to t from what is marked now, and so many steps left lead to the same.
+pub record MarkedOn (t : def.Trial) (m : Mark) (work : List Float) (marks : List ℕ) (m′ : Mark) (work′ : List Float) (marks′ : List ℕ) : Type 0 where
+  pub round : (p : box.Problem) → def.steps p (marked (length (t .nu)) work marks) (m .since + 1) ≡ def.moved t → def.steps p (marked (length (t .nu)) work′ marks′) (m′ .since) ≡ def.moved t
+  pub steps : (p : box.Problem) → def.steps p (marked (length (t .nu)) work marks) (m .since + 1) ≡ def.moved t → def.steps p t (m .left - 1) ≡ def.steps p t (m′ .left)
+  pub fewer : m′ .left ≤ m .left - 1
+  pub since : m′ .since ≤ m .since + 1
+  pub span : m′ .span ≤ 528
+  pub beyond : drop 1120 work′ ≡ drop 1120 work
 
 -- ---- single rows and short words of Pass.antt, as the functions have them
 

@@ -45,7 +45,7 @@ fn same_trial(nu: &[f64], states: &[u8], work: &[f64], marks: &[u8]) -> bool
 }
 
 // How many of the steps left are still to be made, `since` steps after the mark.
-pub fn left_after(
+fn left_after(
     nu: &[f64],
     states: &[u8],
     work: &[f64],
@@ -80,22 +80,27 @@ pub fn mark_states(states: &[u8], marks: &mut [u8])
     }
 }
 
-// The mark is set anew after 2, 4, 8 .. steps (Brent).
-pub fn mark(nu: &[f64], states: &[u8], work: &mut [f64], marks: &mut [u8], m: Mark) -> Mark
-    requires { ⌜ private.MarksLent (length (now nu)) (now states) (now work) (now marks) × (m .since ≤ 264)
-        × (m .span ≤ 528) ⌝ }
-    ensures { λ q. ⌜
-        private.Marked (now (nu .entry)) (now (states .entry)) (now (work .entry)) (now (marks .entry)) (m .since)
-        (now (work .exit)) (now (marks .exit)) (q .since)
-        × (q .since ≤ m .since) × (q .span ≤ 528) × (drop 1120 (now (work .exit)) ≡ drop 1120 (now (work .entry))) ⌝ }
+// After a step: a cycle cuts the steps that are left, and the mark is set anew after 2, 4, 8 .. steps (Brent).
+pub fn after_step(nu: &[f64], states: &[u8], work: &mut [f64], marks: &mut [u8], m: Mark) -> Mark
+    requires { ⌜ private.MarksLent (length (now nu)) (now states) (now work) (now marks) × (0 < m .left)
+        × (m .since + m .left ≤ 264) × (m .span ≤ 528) ⌝ }
+    ensures { λ q. ⌜ private.MarkedOn (def.trial (now (nu .entry)) (now (states .entry))) m
+        (now (work .entry)) (now (marks .entry)) q (now (work .exit)) (now (marks .exit)) ⌝ }
 {
-    if m.since < m.span {
-        return m;
+    let since = m.since + 1;
+    let left = left_after(nu, states, work, marks, since, m.left - 1);
+    if since < m.span {
+        return Mark {
+            since,
+            span: m.span,
+            left,
+        };
     }
     read::copy(nu, work, crate::MARKED);
     mark_states(states, marks);
     Mark {
         since: 0,
         span: 2 * m.span,
+        left,
     }
 }

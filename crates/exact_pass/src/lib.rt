@@ -64,10 +64,12 @@ pub struct Collected {
     pub farthest: f64,
 }
 
-// How many steps were made since multipliers and states were marked, and how many are made before they are marked anew.
+// How many steps were made since multipliers and states were marked, how many are made before they are marked anew, and
+// how many are left.
 pub struct Mark {
     pub since: usize,
     pub span: usize,
+    pub left: usize,
 }
 
 // Whether the lists are those of a problem of at most 32 rows.

@@ -33,13 +33,7 @@ pub fn row_number(l: &[u8], i: usize) -> usize
     requires { ⌜ i < length (now l) ⌝ }
     ensures { λ q. ⌜ q ≡ getD (now (l .entry)) i 0 ⌝ }
 {
-    wide(state(l, i))
-}
-
-fn wide(b: u8) -> usize
-    ensures { λ q. ⌜ q ≡ b ⌝ }
-{
-    b as usize
+    l[i] as usize
 }
 
 pub fn put(v: &mut [f64], i: usize, x: f64)

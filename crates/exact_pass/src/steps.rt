@@ -254,17 +254,17 @@ pub fn run(
     let mut marks = [0u8; 32];
     read::copy(nu, work, crate::MARKED);
     cycles::mark_states(states, &mut marks);
-    let mut m = Mark { since: 0, span: 2 };
-    let mut left = most;
-    while left > 0 {
+    let mut m = Mark {
+        since: 0,
+        span: 2,
+        left: most,
+    };
+    while m.left > 0 {
         let e = step(w, u_free, lo, hi, scale, states, nu, rows, work);
         if !moved(e) {
             return e;
         }
-        let since = m.since + 1;
-        let span = m.span;
-        left = cycles::left_after(nu, states, work, &marks, since, left - 1);
-        m = cycles::mark(nu, states, work, &mut marks, Mark { since, span });
+        m = cycles::after_step(nu, states, work, &mut marks, m);
     }
     Exact::Failed
 }

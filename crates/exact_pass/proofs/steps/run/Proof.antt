@@ -6,11 +6,11 @@ use Rattle.exact_pass.proofs.steps.run as this
 use this.Tie as tie
 
 abbrev Inv-loop : tie.InvT-loop
-Inv-loop w u-free lo hi scale states₀ nu₀ rows₀ work₀ acting most marks₀ m₀ left₀ states nu rows work marks m left =
-    Going (box.problem w u-free lo hi scale) most (now states₀ nu₀ rows₀ work₀ marks₀ m₀ left₀) (now states nu rows work marks m left)
+Inv-loop w u-free lo hi scale states₀ nu₀ rows₀ work₀ acting most marks₀ m₀ states nu rows work marks m =
+    Going (box.problem w u-free lo hi scale) most (now states₀ nu₀ rows₀ work₀ marks₀ m₀) (now states nu rows work marks m)
 
 abbrev μ-loop : tie.MeasureT-loop
-μ-loop w u-free lo hi scale states₀ nu₀ rows₀ work₀ acting most marks₀ m₀ left₀ states nu rows work marks m left = left
+μ-loop w u-free lo hi scale states₀ nu₀ rows₀ work₀ acting most marks₀ m₀ states nu rows work marks m = m .left
 
 -- where the facts are that a place of the loop has from before it
 abbrev entry : tie.After-start Inv-loop μ-loop → tie.Start Inv-loop μ-loop
@@ -23,9 +23,9 @@ abbrev to-copy : tie.At-loop Inv-loop μ-loop → tie.After-copy Inv-loop μ-loo
 to-copy c = c .before .before .before .before .before .before .before
 
 abbrev to-loop : tie.After-step Inv-loop μ-loop → tie.At-loop Inv-loop μ-loop
-to-loop c = c .before .before .before .before .before .before
+to-loop c = c .before .before .before .before .before .before .before
 
-abbrev to-step : tie.Then1 Inv-loop μ-loop → tie.After-step Inv-loop μ-loop
+abbrev to-step : tie.Then2 Inv-loop μ-loop → tie.After-step Inv-loop μ-loop
 to-step c = c .before .before .before .before .before .before .before .before .before .before
 
 abbrev began : tie.At-loop Inv-loop μ-loop → tie.Start Inv-loop μ-loop
@@ -62,40 +62,33 @@ returns c =
     let at-copy = to-copy (to-loop at-step) in
     let at-start = to-start at-copy in
     pass-ran (entry at-start .pre) (at-start .start .ensures) (at-start .start .kept .1 .1 .1 .1 .0) (at-copy .copy .ensures)
-    (going-ended (to-loop at-step .loop .inv) (at-step .step .ensures) (at-step .before .before .before .before .before .loop-test .taken) (sym (c .before .moved .ensures) ∙ not-true _ (c .if1 .taken)))
+    (going-ended (to-loop at-step .loop .inv) (at-step .step .ensures) (at-step .before .before .before .before .before .if1 .taken) (sym (c .before .moved .ensures) ∙ not-true _ (c .if2 .taken)))
 
 stepped-marks : (c : tie.After-step Inv-loop μ-loop) → private.MarksLent (length (c .step .last .1 .1 .1 .1 .1 .1 .0)) (c .step .last .1 .1 .1 .1 .1 .0) (c .step .last .1 .1 .1 .1 .1 .1 .1 .1 .0) (to-loop c .loop .marks)
 stepped-marks c = let kept = c .step .kept .1 .1 .1 .1 .1 in marks-lent (to-loop c .loop .inv) (kept .0) (kept .1 .0) (kept .1 .1 .1 .0)
 
-left-after-requires : tie.Need-left-after-requires Inv-loop μ-loop
-left-after-requires c κs = (stepped-marks (c .before .before .before .before .before .before .before .before .before .before .before .before .before .before .before), omega arith)
-
-mark-requires : tie.Need-mark-requires Inv-loop μ-loop
-mark-requires c κs =
-    let at-step = c .before .before .before .before .before .before .before .before .before .before .before .before .before .before .before .before .before .before .before .before in
+after-step-requires : tie.Need-after-step-requires Inv-loop μ-loop
+after-step-requires c κs =
+    let at-step = c .before .before .before .before .before .before .before .before .before .before .before .before .before .before in
     let i = to-loop at-step .loop .inv in
-    (stepped-marks at-step, omega (arith, i .since, i .bounded, at-step .before .before .before .before .before .loop-test .taken), i .span)
+    (stepped-marks at-step, at-step .before .before .before .before .before .if1 .taken, omega (arith, i .since, i .bounded), i .span)
 
 loop-less : tie.Need-loop-less Inv-loop μ-loop
-loop-less c =
-    let at-left = c .before .before .before .before .before .before .before .before in
-    let at-step = at-left .before .before .before .before .before .before .before .before .before .before .before .before .before .before .before .before in
-    omega (arith, at-left .left-after .ensures .1, at-step .before .before .before .before .before .loop-test .taken)
+loop-less c = omega (arith, c .before .before .before .after-step .ensures .fewer, c .before .before .before .before .before .before .before .before .before .before .before .before .before .before .before .before .before .before .before .before .before .before .before .if1 .taken)
 
 loop-again : tie.Need-loop-again Inv-loop μ-loop
 loop-again c =
-    let at-mark = c .before .before .before in
-    let at-left = at-mark .before .before .before .before .before in
-    let at-if1 = at-left .before .before .before .before .before .before in
-    let at-step = at-if1 .before .before .before .before .before .before .before .before .before .before in
-    going-again (to-loop at-step .loop .inv) (at-step .step .ensures) (at-step .before .before .before .before .before .loop-test .taken) (sym (at-if1 .before .moved .ensures) ∙ not-false _ (at-if1 .if1 .left))
-    (at-step .step .kept .1 .1 .1 .1 .1) (at-left .left-after .ensures) (at-mark .mark .ensures) (at-mark .mark .kept .1 .1 .0) (at-mark .mark .kept .1 .1 .1 .0)
+    let after = c .before .before .before .after-step in
+    let at-if2 = c .before .before .before .before .before .before .before .before in
+    let at-step = at-if2 .before .before .before .before .before .before .before .before .before .before in
+    going-again (to-loop at-step .loop .inv) (at-step .step .ensures) (at-step .before .before .before .before .before .if1 .taken) (sym (at-if2 .before .moved .ensures) ∙ not-false _ (at-if2 .if2 .left))
+    (at-step .step .kept .1 .1 .1 .1 .1) (after .ensures) (after .kept .1 .1 .0) (after .kept .1 .1 .1 .0)
 
 returns-2 : tie.Need-returns-2 Inv-loop μ-loop
 returns-2 c =
-    let at-copy = to-copy (c .before) in
+    let at-copy = to-copy (c .before .before) in
     let at-start = to-start at-copy in
-    pass-ran (entry at-start .pre) (at-start .start .ensures) (at-start .start .kept .1 .1 .1 .1 .0) (at-copy .copy .ensures) (going-over (c .before .loop .inv) (c .loop-test .left))
+    pass-ran (entry at-start .pre) (at-start .start .ensures) (at-start .start .kept .1 .1 .1 .1 .0) (at-copy .copy .ensures) (going-over (c .before .before .loop .inv) (c .if1 .left))
 
 pub run-spec : {M : Type 1} → this.Statement.statement M
 run-spec =
@@ -110,23 +103,19 @@ run-spec =
     (λ c. search needs)
     mark-states-requires
     loop-holds
-    (λ c κs. c .before .before .before .before .before .loop .inv .lent)
+    (λ c κs. c .before .before .before .before .before .before .loop .inv .lent)
     (λ c κs. tt)
     (λ c. to-step c .step .kept .1 .1 .1 .1 .1 .0 ∙ to-loop (to-step c) .loop .inv .lent .fit .states ∙ sym (began (to-loop (to-step c)) .pre .fit .states))
     (λ c. to-step c .step .kept .1 .1 .1 .1 .1 .1 .0 ∙ to-loop (to-step c) .loop .inv .lent .fit .values ∙ sym (began (to-loop (to-step c)) .pre .fit .values))
     (λ c. to-step c .step .kept .1 .1 .1 .1 .1 .1 .1 .0 ∙ ap length (to-loop (to-step c) .loop .inv .listed))
     (λ c. to-step c .step .kept .1 .1 .1 .1 .1 .1 .1 .1 .0 ∙ to-loop (to-step c) .loop .inv .workspace ∙ to-copy (to-loop (to-step c)) .copy .kept .1 .0)
     returns
-    (λ c. omega arith)
-    (λ c. omega arith)
-    (λ c. omega arith)
-    left-after-requires
-    (λ c. omega (arith, to-loop (c .before .before .before .before .before .before .before .before .before .before .before .before .before .before .before .before .before .before .before .before) .loop .inv .marks-long))
-    mark-requires
+    (λ c. omega (arith, to-loop (c .before .before .before .before .before .before .before .before .before .before .before .before .before .before) .loop .inv .marks-long))
+    after-step-requires
     loop-less
     loop-again
-    (λ c. c .before .loop .inv .lent .fit .states ∙ sym (began (c .before) .pre .fit .states))
-    (λ c. c .before .loop .inv .lent .fit .values ∙ sym (began (c .before) .pre .fit .values))
-    (λ c. ap length (c .before .loop .inv .listed))
-    (λ c. c .before .loop .inv .workspace ∙ to-copy (c .before) .copy .kept .1 .0)
+    (λ c. c .before .before .loop .inv .lent .fit .states ∙ sym (began (c .before .before) .pre .fit .states))
+    (λ c. c .before .before .loop .inv .lent .fit .values ∙ sym (began (c .before .before) .pre .fit .values))
+    (λ c. ap length (c .before .before .loop .inv .listed))
+    (λ c. c .before .before .loop .inv .workspace ∙ to-copy (c .before .before) .copy .kept .1 .0)
     returns-2)

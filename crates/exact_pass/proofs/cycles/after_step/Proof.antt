@@ -1,0 +1,43 @@
+use Rattle.loops.proofs.Common.{_+_, refl, arith, length}
+use Rattle.box_rows.proofs.Matrix.{later}
+use Rattle.exact_pass.proofs.Running.{marked-new}
+use Rattle.exact_pass.proofs.cycles.after_step as this
+use this.Tie as tie
+
+returns : tie.Need-returns
+returns c =
+    let left = c .before .before .left-after .ensures in
+    let p = c .before .before .before .before .before .before .before .before .before .before .before .pre in
+    record { round = λ s h. h; steps = left .0; fewer = left .1; since = omega arith; span = p .3; beyond = refl }
+
+returns-2 : tie.Need-returns-2
+returns-2 c =
+    let at-copy = c .before .before .before .before .before .before .before in
+    let left = at-copy .before .before .before .before .left-after .ensures in
+    let at-entry = at-copy .before .before .before .before .before .before .before .before .before .before .before .before .before in
+    let p = at-entry .pre in
+    record {
+      round = λ s h. marked-new s _ _ _ _ (at-copy .copy .ensures .part) (rw (p .0 .states) at (c .before .before .before .mark-states .ensures));
+      steps = left .0;
+      fewer = left .1;
+      since = omega arith;
+      span = omega (arith, p, at-copy .before .before .if1 .left);
+      beyond = later (1088 + length (at-entry .args .nu .now)) 1120 _ _ (omega (arith, p)) (at-copy .copy .ensures .after);
+    }
+
+pub after-step-spec : {M : Type 1} → this.Statement.statement M
+after-step-spec =
+    tie.close
+    (tie.spec
+    (λ c. omega arith)
+    (λ c. omega arith)
+    (λ c κs. (c .before .before .before .before .before .before .before .before .pre .0, omega arith))
+    (λ c. omega arith)
+    (λ c. omega arith)
+    returns
+    (λ c κs. omega arith)
+    (λ c κs. omega arith)
+    (λ c. omega arith)
+    (λ c. omega arith)
+    (λ c. omega arith)
+    returns-2)
