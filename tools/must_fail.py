@@ -1,10 +1,10 @@
 #!/usr/bin/env python3
-"""Tries the must-fail edits of large crates over an incremental check, after `rt check` or `rt ci` has proved every crate.
+"""Tries the must-fail edits of most crates over an incremental check, after `rt check` or `rt ci` has proved every crate.
 
     python3 tools/must_fail.py [NAME..]
 
-`rt ci` proves a crate from nothing for each edit in crates/NAME/must-fail/. A large crate takes from ten seconds to two minutes for that, and
-the edit touches little of it, so its edits are one folder deeper, in crates/NAME/must-fail/incremental/, and are tried here: the crate is checked
+`rt ci` proves a crate from nothing for each edit in crates/NAME/must-fail/. Most crates take from five seconds to two minutes for that, and
+the edit touches little of it, so their edits are one folder deeper, in crates/NAME/must-fail/incremental/, and are tried here: the crate is checked
 once over a folder of its own under target/, and must be proved; then each edit in turn is applied to a copy of the crate, and of the check
 only what it reaches is done again, in seconds. The prover must refuse each. At the end the crate as it stands must be proved once more,
 so that no refusal came of what an earlier edit left behind.

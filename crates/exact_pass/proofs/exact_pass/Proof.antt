@@ -8,15 +8,15 @@ run-requires c κs =
     let at-if2 = c .before .before .before .before in
     let at-fits2 = at-if2 .before in
     let at-if1 = at-fits2 .before in
-    let at-args = at-if1 .before .before .before .before .before .before .before .before .before .before in
-    let g = fits-lengths (box.problem (at-args .args .w .now) (at-args .args .u-free .now) (at-args .args .lo .now) (at-args .args .hi .now) (at-args .args .scale .now)) (at-args .args .states .now) (at-args .args .nu .now) (at-args .args .rows .now) (at-fits2 .fits2 .ensures) (at-if2 .if2 .taken) in record { fit = g .0; list = g .1; workspace = at-if1 .if1 .left }
+    let a = at-if1 .before .before .before .before .before .before .before .before .before .before .args in
+    let g = fits-lengths (box.problem (a .w .now) (a .u-free .now) (a .lo .now) (a .hi .now) (a .scale .now)) (a .states .now) (a .nu .now) (a .rows .now) (at-fits2 .fits2 .ensures) (at-if2 .if2 .taken) in record { fit = g .0; list = g .1; workspace = at-if1 .if1 .left }
 
 abbrev to-run : tie.After-slice-known8 → tie.After-run
 to-run c = c .before .before .before .before .before .before .before .before
 
 returns-2 : tie.Need-returns-2
 returns-2 c =
-    let at-run = c .before .before .before .before .before .before .before .before in
+    let at-run = to-run c in
     let at-if2 = at-run .before .before .before .before .before in
     let at-fits2 = at-if2 .before in
     let at-if1 = at-fits2 .before in

@@ -7,8 +7,8 @@ ray-requires : tie.Need-ray-requires
 ray-requires c κs =
     let at-if1 = c .before in
     let at-fits2 = at-if1 .before in
-    let at-args = at-fits2 .before .before .before .before .before .before .before .before .before in
-    fits-lengths (box.problem (at-args .args .w .now) (at-args .args .u-free .now) (at-args .args .lo .now) (at-args .args .hi .now) (at-args .args .scale .now)) (at-args .args .states .now) (at-args .args .y .now) (at-args .args .rows .now) (at-fits2 .fits2 .ensures) (at-if1 .if1 .taken)
+    let a = at-fits2 .before .before .before .before .before .before .before .before .before .args in
+    fits-lengths (box.problem (a .w .now) (a .u-free .now) (a .lo .now) (a .hi .now) (a .scale .now)) (a .states .now) (a .y .now) (a .rows .now) (at-fits2 .fits2 .ensures) (at-if1 .if1 .taken)
 
 returns : tie.Need-returns
 returns c =

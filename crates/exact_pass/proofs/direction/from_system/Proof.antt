@@ -34,7 +34,7 @@ residual-requires c κs =
     let solved = c .before .before .before .before .before .before .before .before .before .before .before in
     let p = entry (to-side solved) .pre in
     let s = solved .solve .kept .1 in
-    rw (p .system .scales) (p .system .square, p .system .below, s .1 .0 ∙ p .solution, s .0 ∙ side-long (to-side solved), p .system .few, omega (arith, s .1 .1 .0, c .before .before .before .before .before .before .before .before .before .before .before .before .before .before .before .before .before .before .before .before .before .before .copy .kept .1 .0, p .system .workspace))
+    rw (p .system .scales) (p .system .square, p .system .below, s .1 .0 ∙ p .solution, s .0 ∙ side-long (to-side solved), p .system .few, omega (arith, s .1 .1 .0, solved .before .before .before .before .before .before .before .before .before .before .before .copy .kept .1 .0, p .system .workspace))
 
 direction-requires : tie.Need-direction-requires
 direction-requires c κs =

@@ -12,25 +12,28 @@ returns c = (rw (eq-eqb _ _ (sym (c .before .state .ensures) ∙ c .if1 .taken))
 returns-2 : tie.Need-returns-2
 unfolding private.startRow
 returns-2 c =
-    let at-if1 = c .before .before .before .before .before .before .before .before .before .before .before .before .before .before .before .before .before in
-    let a = at-if1 .before .before .before .before .before .before .before .before .args in
-    let acts : box.state (a .states .now) (a .i) ≡ 3 → ⊥ = λ e. at-if1 .if1 .left (at-if1 .before .state .ensures ∙ e) in
-    let at-of = c .before .before .before .before .before .before .before .before .before .before .before in (
+    let at-placed = c .before .before .before in
+    let at-put-state = at-placed .before .before .before .before .before .before in
+    let at-of = at-put-state .before .before in
+    let at-if1 = at-of .before .before .before .before .before .before in
+    let at-args = at-if1 .before .before .before .before .before .before .before .before in
+    let a = at-args .args in
+    let acts : box.state (a .states .now) (a .i) ≡ 3 → ⊥ = λ e. at-if1 .if1 .left (at-if1 .before .state .ensures ∙ e) in (
       rw (
         ne-eqb _ _ acts,
         add-one,
         c .before .before .put .ensures,
-        c .before .before .before .before .before .before .before .before .before .put-state .ensures,
-        c .before .before .before .placed .ensures,
-        c .before .before .before .before .before .at5 .ensures,
-        c .before .before .before .before .at6 .ensures,
+        at-put-state .put-state .ensures,
+        at-placed .placed .ensures,
+        at-placed .before .before .at5 .ensures,
+        at-placed .before .at6 .ensures,
         at-of .state-of .ensures,
         at-of .before .before .before .at2 .ensures,
         at-of .before .before .at3 .ensures,
         at-of .before .at4 .ensures,
         at-of .before .before .before .before .at .ensures,
       ),
-      omega (arith, at-if1 .before .before .before .before .before .before .before .before .pre .5),
+      omega (arith, at-args .pre .5),
     )
 
 pub start-row-spec : {M : Type 1} → this.Statement.statement M

@@ -13,16 +13,18 @@ to-step c = c .before .before .before .before .before .before .before .before
 
 returns : tie.Need-returns
 returns c =
-    let at-rows = c .before .before .before .before .before .before .before in
+    let at-if1 = c .before .before .before .before .before in
+    let at-rows = at-if1 .before .before in
     let f = rw (entry at-rows .pre .fit .states) at (at-rows .free-rows .ensures) in
-    record { passed = step-released _ _ _ _ _ _ _ _ _ (f .count) (c .before .before .before .before .before .if1 .taken) (c .before .before .release .ensures _); workspace = refl }
+    record { passed = step-released _ _ _ _ _ _ _ _ _ (f .count) (at-if1 .if1 .taken) (c .before .before .release .ensures _); workspace = refl }
 
 returns-2 : tie.Need-returns-2
 returns-2 c =
-    let at-rows = c .before .before .before .before .before .before .before .before .before .before .before .before .before .before .before .before in
+    let at-if1 = to-step c .before .before .before .before .before .before in
+    let at-rows = at-if1 .before .before in
     let f = rw (entry at-rows .pre .fit .states) at (at-rows .free-rows .ensures) in
     let stepped = to-step c .free-step .ensures in
-    record { passed = step-free _ _ _ _ _ _ _ _ _ (f .count) (c .before .before .before .before .before .before .before .before .before .before .before .before .before .before .if1 .left) (rw (← f .front) (stepped .passed)); workspace = stepped .workspace }
+    record { passed = step-free _ _ _ _ _ _ _ _ _ (f .count) (at-if1 .if1 .left) (rw (← f .front) (stepped .passed)); workspace = stepped .workspace }
 
 pub step-spec : {M : Type 1} → this.Statement.statement M
 step-spec =

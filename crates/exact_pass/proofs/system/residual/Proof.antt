@@ -29,18 +29,20 @@ at-requires-2 c κs =
 
 loop-again : tie.Need-loop-again Inv-loop μ-loop
 loop-again c =
-    let at-row = c .before .before .before .before .before .before .before .before .before in
+    let at-put = c .before .before .before .before .before in
+    let at-left = at-put .before .before in
+    let at-row = at-left .before .before in
     let at-loop = at-row .before .before .before in
     let a = entry at-loop .args in
     let rhs = private.part 1056 (length (a .free .now)) (a .work .now) in
     let here = part-at nan 1056 (length (a .free .now)) (at-loop .loop .i) (a .work .now) (omega arith) in
-    let left : c .before .before .before .before .before .before .before .residual-row .result ≡ def.residual (a .w .now) (a .scale .now) (a .free .now) rhs (a .z .now) (at-loop .loop .i) =
+    let left : at-left .residual-row .result ≡ def.residual (a .w .now) (a .scale .now) (a .free .now) rhs (a .z .now) (at-loop .loop .i) =
     cc (residual-is (a .w .now) (a .scale .now) (a .free .now) rhs (a .z .now) (at-loop .loop .i), here) in (
       omega arith,
       at-loop .loop .inv .1,
       at-loop .loop .inv .2,
       omega arith,
-      rw (c .before .before .before .before .before .put .ensures, left) (tab-again _ _ _ _ (at-loop .loop .inv .4) (at-loop .loop .inv .3) (omega (arith, entry at-loop .pre .3))),
+      rw (at-put .put .ensures, left) (tab-again _ _ _ _ (at-loop .loop .inv .4) (at-loop .loop .inv .3) (omega (arith, entry at-loop .pre .3))),
       turns-again _ _ _ _ _ (at-loop .loop .inv .5) (rw (c .too-large .ensures, c .before .before .at2 .ensures, c .before .at3 .ensures, left, at-row .row .ensures, at-row .before .row-number .ensures)),
     )
 
@@ -63,7 +65,7 @@ residual-spec =
     (λ c κs. let p = c .before .before .before .before .before .before .before .before .before .before .before .pre in (ap length (c .before .row .ensures) ∙ row-length _ _ _, p .1, p .2))
     (λ c κs. omega arith)
     at-requires-2
-    (λ c κs. let t = c .before .before .before .before .before .before .before .before .before in free-row (entry (t .before) .args .free .now) _ _ _ _ _ (entry (t .before) .pre .1) refl (t .before .loop .inv .1) (t .loop-test .taken) (c .before .before .before .before .before .before .before .before .row-number .ensures))
+    (λ c κs. let n = c .before .before .before .before .before .before .before .before in let t = n .before in free-row (entry (t .before) .args .free .now) _ _ _ _ _ (entry (t .before) .pre .1) refl (t .before .loop .inv .1) (t .loop-test .taken) (n .row-number .ensures))
     (λ c κs. tt)
     (λ c. omega arith)
     (λ c. omega arith)

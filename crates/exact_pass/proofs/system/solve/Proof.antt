@@ -8,10 +8,10 @@ to-solve c = c .before .before .before .before .before .before .before .before
 
 returns : tie.Need-returns
 returns c =
-    let at-solve = c .before .before .before .before .before .before .before .before in
+    let at-solve = to-solve c in
     let at-args = at-solve .before .before .before .before .before .before .before .before .before in
-    let at-pre = at-args in
-    (solved-x _ _ _ _ (at-args .args .work .now) (at-pre .pre .0) (at-pre .pre .1) refl (at-pre .pre .2) (at-pre .pre .3) _ (at-solve .solve .ensures .x-left), solved-work _ _ _ _ (at-args .args .work .now) (at-pre .pre .0) (at-pre .pre .1) refl (at-pre .pre .2) (at-pre .pre .3) _ (at-solve .solve .ensures .workspace-left))
+    let p = at-args .pre in
+    (solved-x _ _ _ _ (at-args .args .work .now) (p .0) (p .1) refl (p .2) (p .3) _ (at-solve .solve .ensures .x-left), solved-work _ _ _ _ (at-args .args .work .now) (p .0) (p .1) refl (p .2) (p .3) _ (at-solve .solve .ensures .workspace-left))
 
 pub solve-spec : {M : Type 1} → this.Statement.statement M
 solve-spec =
