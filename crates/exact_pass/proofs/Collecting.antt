@@ -1,5 +1,5 @@
 -- The rows that count and their farthest, as the loop that collects them has them at the front of a list lent; and the ray.
-use Rattle.loops.proofs.Common.{ℕ, suc, _+_, _≤_, _<_, _≡_, refl, sym, _∙_, Bool, true, false, cond, List, [], _∷_, arith, add-one, length, take, Float}
+use Rattle.loops.proofs.Common.{ℕ, suc, _+_, _≤_, _<_, _≡_, refl, sym, _∙_, Bool, true, false, cond, List, [], arith, add-one, length, take, Float}
 use native.Mathlib.Nat.{not-suc-le-zero}
 use mathlib.Core.Bool.{not}
 use lib.Dec.{eqb}

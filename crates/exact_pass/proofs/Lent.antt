@@ -39,24 +39,6 @@ module _ {n : ℕ} {w lo hi scale : List Float} {st l : List ℕ} {y : List Floa
   pub scattered-lent : {d′ : List Float} → length d′ ≡ length d → Fit n w lo hi scale st d′ × (n ≤ length rows)
   scattered-lent h = (record { sized = r .sized; states = r .states; values = h ∙ ap length e ∙ length-replicate n 0ᶠ }, r .list)
 
--- ---- a step of the free rows
-
-module _ {n : ℕ} {w lo hi scale : List Float} {st : List ℕ} {nu : List Float} {l rows : List ℕ} {work : List Float} (f : FreeStepLent n w lo hi scale st nu l rows work) where
-  pub system-lent : {uFree : List Float} → length uFree ≡ n → SystemLent (length nu) w uFree scale st l work
-  system-lent e =
-      rw (f .fit .values) (record {
-        square = (f .fit .sized .0, f .fit .sized .1);
-        motions = e;
-        scales = f .fit .sized .4;
-        states = f .fit .states;
-        below = f .below;
-        few = f .few;
-        workspace = f .workspace;
-      })
-
-  pub step-lent : {y : List Float} → length y ≡ length l → StepLent n w lo hi scale st nu l y rows
-  step-lent e = record { fit = f .fit; listed = record { below = f .below; long = e }; some = f .some; list = f .list }
-
 -- ---- the direction of the free rows, in scratch
 
 module _ {n : ℕ} {w uFree scale : List Float} {st l : List ℕ} {m y z work : List Float} where
@@ -81,36 +63,54 @@ part-long a k v e h = rw e (length-take-le k (drop a v) (omega (arith, length-dr
 pub scratch : {k j : ℕ} → k ≤ j → Scratch k (replicate (j * j) 0ᶠ) (replicate j 0ᶠ) (replicate j 0ᶠ)
 scratch {j = j} h = let e = length-replicate j 0ᶠ in record { matrix = rw (length-replicate (j * j) 0ᶠ) (mul-le-mul h h); direction = rw e h; solution = rw e h }
 
--- ---- a step, by its k free rows
-
-pub states-few : {n : ℕ} {w lo hi scale : List Float} {st : List ℕ} {nu : List Float} {rows : List ℕ} {work : List Float} → RunLent n w lo hi scale st nu rows work → length st ≤ 32
-states-few r = rw (r .fit .states) (r .fit .sized .0)
-
-module _ {n : ℕ} {w lo hi scale : List Float} {st : List ℕ} {nu : List Float} {rows : List ℕ} {work : List Float} (r : RunLent n w lo hi scale st nu rows work)
-    {f : List ℕ} {k : ℕ} {free : List ℕ} (g : Free f (length st) k free) where
-  few : k ≤ n
-  few = rw (r .fit .states) at (g .few)
-
-  pub free-few : k ≤ 32
-  free-few = omega (arith, few, r .fit .sized .0)
-
-  pub free-step-lent : (k ≡ 0 → ⊥) → FreeStepLent n w lo hi scale st nu (take k free) rows work
-  free-step-lent h =
-      let e : length (take k free) ≡ k = rw (g .front) (sym (g .count)) in
-      record {
-        fit = r .fit;
-        below = rw (g .front, ← r .fit .states) (g .below);
-        few = rw e free-few;
-        some = omega (arith, few, h);
-        list = r .list;
-        workspace = r .workspace;
-      }
-
 -- ---- a step keeps the lengths of what it is lent, in the order of its parameters
 
 abbrev pub Kept : List ℕ → List Float → List ℕ → List Float → List ℕ → List Float → List ℕ → List Float → Type 0
 Kept st nu q work st′ nu′ q′ work′ = (length st′ ≡ length st) × ((length nu′ ≡ length nu) × ((length q′ ≡ length q) × ((length work′ ≡ length work) × Unit)))
 
-pub relent : {n : ℕ} {w lo hi scale : List Float} {st : List ℕ} {nu : List Float} {q : List ℕ} {work : List Float} → RunLent n w lo hi scale st nu q work
-    → {st′ : List ℕ} {nu′ : List Float} {q′ : List ℕ} {work′ : List Float} (work₁ : List Float) → Kept st nu q work st′ nu′ q′ work₁ → length work′ ≡ length work₁ → RunLent n w lo hi scale st′ nu′ q′ work′
-relent r work₁ h e = record { fit = refit (r .fit) (h .0) (h .1 .0); list = rw (h .1 .1 .0) (r .list); workspace = rw (e, h .1 .1 .1 .0) (r .workspace) }
+-- ---- a step
+
+module _ {n : ℕ} {w lo hi scale : List Float} {st : List ℕ} {nu : List Float} {rows : List ℕ} {work : List Float} where
+  module _ {l : List ℕ} (f : FreeStepLent n w lo hi scale st nu l rows work) where
+    pub system-lent : {uFree : List Float} → length uFree ≡ n → SystemLent (length nu) w uFree scale st l work
+    system-lent e =
+        rw (f .fit .values) (record {
+          square = (f .fit .sized .0, f .fit .sized .1);
+          motions = e;
+          scales = f .fit .sized .4;
+          states = f .fit .states;
+          below = f .below;
+          few = f .few;
+          workspace = f .workspace;
+        })
+
+    pub step-lent : {y : List Float} → length y ≡ length l → StepLent n w lo hi scale st nu l y rows
+    step-lent e = record { fit = f .fit; listed = record { below = f .below; long = e }; some = f .some; list = f .list }
+
+  module _ (r : RunLent n w lo hi scale st nu rows work) where
+    pub states-few : length st ≤ 32
+    states-few = rw (r .fit .states) (r .fit .sized .0)
+
+    -- by its k free rows
+    module _ {f : List ℕ} {k : ℕ} {free : List ℕ} (g : Free f (length st) k free) where
+      few : k ≤ n
+      few = rw (r .fit .states) at (g .few)
+
+      pub free-few : k ≤ 32
+      free-few = omega (arith, few, r .fit .sized .0)
+
+      pub free-step-lent : (k ≡ 0 → ⊥) → FreeStepLent n w lo hi scale st nu (take k free) rows work
+      free-step-lent h =
+          let e : length (take k free) ≡ k = rw (g .front) (sym (g .count)) in
+          record {
+            fit = r .fit;
+            below = rw (g .front, ← r .fit .states) (g .below);
+            few = rw e free-few;
+            some = omega (arith, few, h);
+            list = r .list;
+            workspace = r .workspace;
+          }
+
+    -- after it
+    pub relent : {st′ : List ℕ} {nu′ : List Float} {q′ : List ℕ} {work′ : List Float} (work₁ : List Float) → Kept st nu rows work st′ nu′ q′ work₁ → length work′ ≡ length work₁ → RunLent n w lo hi scale st′ nu′ q′ work′
+    relent work₁ h e = record { fit = refit (r .fit) (h .0) (h .1 .0); list = rw (h .1 .1 .0) (r .list); workspace = rw (e, h .1 .1 .1 .0) (r .workspace) }

@@ -62,28 +62,28 @@ module _ (p : box.Problem) (st l : List ℕ) (y d : List Float) (rows : List ℕ
 -- ---- the step in the direction y, by how the ratio test comes out
 
 module _ (p : box.Problem) (nu : List Float) (st l : List ℕ) (y : List Float) (b : Bool) (alpha : Float) (r : Blocking) (rows : List ℕ)
-    (far : alpha ≡ def.longest b) (test : r ≡ def.ratioTest (p .lo) (p .hi) l nu y alpha (length l)) where
+    (far : alpha ≡ def.longest b) (test : r ≡ def.ratioTest (p .lo) (p .hi) l nu y alpha (length l)) (f : Bool) (g : f ≡ isFinite (r .alpha)) where
   tested : def.ratioTest (p .lo) (p .hi) l nu y (def.longest b) (length l) ≡ r
   tested = rw (← far) (sym test)
 
-  pub taken-unbounded : (e : Exact) (rows′ : List ℕ) (f : Bool) → f ≡ isFinite (r .alpha) → f ≡ false → ((v : List Float) → Passed (private.unbounded p (trial v st) l y) rows e v st rows′) → Passed (private.takeStep p (trial nu st) l y b) rows e nu st rows′
+  pub taken-unbounded : (e : Exact) (rows′ : List ℕ) → f ≡ false → ((v : List Float) → Passed (private.unbounded p (trial v st) l y) rows e v st rows′) → Passed (private.takeStep p (trial nu st) l y b) rows e nu st rows′
   unfolding private.takeStep
-  taken-unbounded e rows′ f g h k = rw (tested, ← g, h) (k nu)
+  taken-unbounded e rows′ h k = rw (tested, ← g, h) (k nu)
 
-  pub taken-released : (e : Exact) (nu′ : List Float) (st′ : List ℕ) (f : Bool) → f ≡ isFinite (r .alpha) → f ≡ true → r .state ≡ 0 → nu′ ≡ def.advance l y (r .alpha) nu (length l) → ((m : List ℕ) → Passed (def.release p (trial nu′ st)) m e nu′ st′ m) → Passed (private.takeStep p (trial nu st) l y b) rows e nu′ st′ rows
+  pub taken-released : (e : Exact) (nu′ : List Float) (st′ : List ℕ) → f ≡ true → r .state ≡ 0 → nu′ ≡ def.advance l y (r .alpha) nu (length l) → ((m : List ℕ) → Passed (def.release p (trial nu′ st)) m e nu′ st′ m) → Passed (private.takeStep p (trial nu st) l y b) rows e nu′ st′ rows
   unfolding private.takeStep
-  taken-released e nu′ st′ f g h s m k = rw (tested, ← g, h, eq-eqb (r .state) 0 s, ← m) (k rows)
+  taken-released e nu′ st′ h s m k = rw (tested, ← g, h, eq-eqb (r .state) 0 s, ← m) (k rows)
 
-  pub taken-to-bound : (nu′ nu″ : List Float) (st″ : List ℕ) (f : Bool) → f ≡ isFinite (r .alpha) → f ≡ true → (r .state ≡ 0 → ⊥) → nu′ ≡ def.advance l y (r .alpha) nu (length l) → trial nu″ st″ ≡ def.hold (p .lo) (p .hi) (trial nu′ st) r → Passed (private.takeStep p (trial nu st) l y b) rows Moved nu″ st″ rows
+  pub taken-to-bound : (nu′ nu″ : List Float) (st″ : List ℕ) → f ≡ true → (r .state ≡ 0 → ⊥) → nu′ ≡ def.advance l y (r .alpha) nu (length l) → trial nu″ st″ ≡ def.hold (p .lo) (p .hi) (trial nu′ st) r → Passed (private.takeStep p (trial nu st) l y b) rows Moved nu″ st″ rows
   unfolding private.takeStep
-  taken-to-bound nu′ nu″ st″ f g h s m k = rw (tested, ← g, h, ne-eqb (r .state) 0 s, ← m) (record { answer = refl; tried = k; listed = refl })
+  taken-to-bound nu′ nu″ st″ h s m k = rw (tested, ← g, h, ne-eqb (r .state) 0 s, ← m) (record { answer = refl; tried = k; listed = refl })
 
 -- ---- a step of the free rows
 
-pub free-step-run : (p : box.Problem) (nu : List Float) (st l : List ℕ) (y : List Float) (b : Bool) (rows : List ℕ) (work : List Float) (e : Exact) (nu′ : List Float) (st′ rows′ : List ℕ) (work′ : List Float) → private.Directed (def.target (p .w) (p .uFree) (p .scale) st nu l) (p .scale) l nu work b work′
+pub free-step-run : (p : box.Problem) (st : List ℕ) {nu : List Float} {l : List ℕ} {y : List Float} {b : Bool} {rows : List ℕ} {work : List Float} {e : Exact} {nu′ : List Float} {st′ rows′ : List ℕ} {work′ : List Float} → private.Directed (def.target (p .w) (p .uFree) (p .scale) st nu l) (p .scale) l nu work b work′
     → y ≡ private.part 1056 (length l) work′ → Passed (private.takeStep p (trial nu st) l y b) rows e nu′ st′ rows′ → private.Stepped (private.freeStep p (trial nu st) l) rows work e nu′ st′ rows′ work′
 unfolding private.freeStep
-free-step-run p nu st l y b rows work e nu′ st′ rows′ work′ d f h = record { passed = rw (f ∙ d .direction, d .targetless) at h; workspace = d .workspace }
+free-step-run p st d f h = record { passed = rw (f ∙ d .direction, d .targetless) at h; workspace = d .workspace }
 
 -- ---- a step, where l lists the free rows
 

@@ -106,11 +106,9 @@ unfolding least.reply
 replied k a b x room f p q r s = rw (le-leb k 32 f, eq-eqb (length a) (k * k) p, eq-eqb (length b) k q, eq-eqb (length x) k r, le-leb 1056 room s)
 
 module _ (k : ℕ) (a b x : List Float) (work : List Float) (f : k ≤ 32) (p : length a ≡ k * k) (q : length b ≡ k) (r : length x ≡ k) (s : 1056 ≤ length work) where
-  pub solved-x : (x′ : List Float) → x′ ≡ least.xLeft (least.reply k k a b x (length work)) x → x′ ≡ leastNorm k k a b .x
-  solved-x x′ e = rw (replied k a b x (length work) f p q r s) at e
-
-  pub solved-work : (work′ : List Float) → drop (least.used (least.reply k k a b x (length work))) work′ ≡ drop (least.used (least.reply k k a b x (length work))) work → drop 1056 work′ ≡ drop 1056 work
-  solved-work work′ e = rw (replied k a b x (length work) f p q r s) at e
+  pub solved : (x′ work′ : List Float) → x′ ≡ least.xLeft (least.reply k k a b x (length work)) x → drop (least.used (least.reply k k a b x (length work))) work′ ≡ drop (least.used (least.reply k k a b x (length work))) work
+      → (x′ ≡ leastNorm k k a b .x) × (drop 1056 work′ ≡ drop 1056 work)
+  solved x′ work′ e g = let t = replied k a b x (length work) f p q r s in (rw t at e, rw t at g)
 
 -- ---- the calls of `from_system`: y₁ is the right-hand side, z and y₂ are the target's, y₃ is the direction
 

@@ -12,14 +12,14 @@ abbrev μ-loop : tie.MeasureT-loop
 
 loop-again : tie.Need-loop-again Inv-loop μ-loop
 loop-again c =
-    let at-loop = c .before .before .before .before .before .before in
-    (search needs, search needs, search needs, front-again _ _ (at-loop .loop .i) 0 (at-loop .loop .marks) _ (at-loop .loop .inv .3) (omega arith) (cc))
+    let l = c .before .before .before .before .before .before .loop in
+    (search needs, search needs, search needs, front-again _ _ (l .i) 0 (l .marks) _ (l .inv .3) (omega arith) (cc))
 
 returns : tie.Need-returns Inv-loop μ-loop
 returns c =
     let at-loop = c .before in
-    let at-pre = at-loop .before .before .before in
-    rw (front-done _ _ (at-loop .loop .i) (at-loop .loop .marks) (at-loop .loop .inv .3) (omega arith)) (front-read _ _ _ refl (at-pre .pre))
+    let l = at-loop .loop in
+    rw (front-done _ _ (l .i) (l .marks) (l .inv .3) (omega arith)) (front-read _ _ _ refl (at-loop .before .before .before .pre))
 
 pub mark-states-spec : {M : Type 1} → this.Statement.statement M
 mark-states-spec =

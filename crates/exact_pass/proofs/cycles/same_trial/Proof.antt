@@ -33,8 +33,9 @@ loop-again c =
 returns-3 : tie.Need-returns-3 Inv-loop μ-loop
 returns-3 c =
     let l = c .before .loop in
-    let p = c .before .before .before .before .before .before .pre in
-    let work = c .before .before .before .before .before .before .args .work .now in
+    let at-entry = c .before .before .before .before .before .before in
+    let p = at-entry .pre in
+    let work = at-entry .args .work .now in
     λ h. same-trials
     (same-lists nan _ _ (l .i) (omega (arith, l .inv .0, l .inv .1, c .loop-test .left)) (sym (length-take-le _ _ (omega (arith, length-drop 1088 work, p)))) (l .inv .2))
     (same-lists 0 _ _ (l .i) (omega (arith, l .inv .0, l .inv .1, c .loop-test .left, p .states)) (p .states ∙ sym (length-take-le _ _ (p .long))) (l .inv .3))

@@ -1,4 +1,4 @@
-use Rattle.loops.proofs.Common.{sym, _∙_, eq-eqb, ne-eqb}
+use Rattle.loops.proofs.Common.{eq-eqb, ne-eqb}
 use Rattle.exact_pass.specs.Private.{verdict}
 use Rattle.exact_pass.specs.Walk.{dropped}
 use Rattle.exact_pass.proofs.rays.verdict as this

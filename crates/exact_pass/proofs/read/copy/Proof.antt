@@ -13,17 +13,19 @@ abbrev μ-loop : tie.MeasureT-loop
 loop-again : tie.Need-loop-again Inv-loop μ-loop
 loop-again c =
     let at-loop = c .before .before .before .before .before .before in
-    let at-args = at-loop .before .before .before in
-    (search needs, search needs, search needs, copy-again (at-args .args .from .now) (at-args .args .a) (at-args .args .to .now) nan (at-loop .loop .i) (at-loop .loop .to) _ (at-loop .loop .inv .3) (omega arith) (omega arith) (cc))
+    let l = at-loop .loop in
+    let a = at-loop .before .before .before .args in
+    (search needs, search needs, search needs, copy-again (a .from .now) (a .a) (a .to .now) nan (l .i) (l .to) _ (l .inv .3) (omega arith) (omega arith) (cc))
 
 returns : tie.Need-returns Inv-loop μ-loop
 returns c =
     let at-loop = c .before in
-    let at-args = at-loop .before .before .before in
+    let l = at-loop .loop in
+    let a = at-loop .before .before .before .args in
     record {
-      part = copy-part (at-args .args .from .now) (at-args .args .a) (at-args .args .to .now) (at-loop .loop .to) (at-loop .loop .i) (at-loop .loop .inv .3) (omega arith) (omega arith) (omega arith);
-      after = copy-after (at-args .args .from .now) (at-args .args .a) (at-args .args .to .now) (at-loop .loop .to) (at-loop .loop .i)
-          (at-loop .loop .inv .3) (omega arith) (omega arith) (omega arith);
+      part = copy-part (a .from .now) (a .a) (a .to .now) (l .to) (l .i) (l .inv .3) (omega arith) (omega arith) (omega arith);
+      after = copy-after (a .from .now) (a .a) (a .to .now) (l .to) (l .i)
+          (l .inv .3) (omega arith) (omega arith) (omega arith);
     }
 
 pub copy-spec : {M : Type 1} → this.Statement.statement M
@@ -32,7 +34,7 @@ copy-spec =
     (tie.spec
     Inv-loop
     μ-loop
-    (λ c. let at-args = c .before .before in (search needs, search needs, search needs, copy-start (at-args .args .from .now) (at-args .args .a) (at-args .args .to .now)))
+    (λ c. let a = c .before .before .args in (search needs, search needs, search needs, copy-start (a .from .now) (a .a) (a .to .now)))
     (λ c. omega arith)
     (λ c κs. omega arith)
     (λ c κs. omega arith)

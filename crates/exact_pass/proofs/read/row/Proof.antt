@@ -6,9 +6,9 @@ use this.Tie as tie
 
 returns : tie.Need-returns
 returns c =
-    let at-args = c .before in
-    let at-pre = at-args in
-    let q : at-args .args .i * at-args .args .n + at-args .args .n - at-args .args .i * at-args .args .n ≡ at-args .args .n = omega arith in rw q (row-part _ _ _ (row-fits (at-args .args .w .now) _ _ (at-pre .pre .0 .1) (at-pre .pre .1)))
+    let a = c .before .args in
+    let p = c .before .pre in
+    let q : a .i * a .n + a .n - a .i * a .n ≡ a .n = omega arith in rw q (row-part _ _ _ (row-fits (a .w .now) _ _ (p .0 .1) (p .1)))
 
 pub row-spec : {M : Type 1} → this.Statement.statement M
 row-spec =

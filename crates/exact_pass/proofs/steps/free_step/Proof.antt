@@ -30,4 +30,4 @@ free-step-spec =
     (λ c. to-take c .take-step .kept .1 .1 .1 .1 .1 .1 .0)
     (λ c. to-take c .take-step .kept .1 .1 .1 .1 .1 .1 .1 .1 .1 .1 .0)
     (λ c. to-rows (to-take c) .of-free-rows .kept .1 .1 .1 .1 .1 .1 .0)
-    (λ c. free-step-run _ _ _ _ _ _ _ _ _ _ _ _ _ (to-rows (to-take c) .of-free-rows .ensures) (c .before .before .before .before .before .before .before .before .before .before .part .ensures) (to-take c .take-step .ensures)))
+    (λ c. free-step-run _ _ (to-rows (to-take c) .of-free-rows .ensures) (c .before .before .before .before .before .before .before .before .before .before .part .ensures) (to-take c .take-step .ensures)))

@@ -1,4 +1,4 @@
-use Rattle.loops.proofs.Common.{_+_, _-_, _*_, _≤_, _≡_, ap, _∙_, _++_, arith, length, drop, needs}
+use Rattle.loops.proofs.Common.{_-_, _*_, _≤_, _≡_, ap, _∙_, _++_, arith, length, drop, needs}
 use native.Mathlib.Nat.{mul-le-mul-right, suc-mul}
 use Rattle.loops.proofs.Index.{product}
 use Rattle.loops.proofs.Parts.{part-length}

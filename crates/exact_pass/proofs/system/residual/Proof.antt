@@ -33,17 +33,18 @@ loop-again c =
     let at-left = at-put .before .before in
     let at-row = at-left .before .before in
     let at-loop = at-row .before .before .before in
+    let l = at-loop .loop in
     let a = entry at-loop .args in
     let rhs = private.part 1056 (length (a .free .now)) (a .work .now) in
-    let here = part-at nan 1056 (length (a .free .now)) (at-loop .loop .i) (a .work .now) (omega arith) in
-    let left : at-left .residual-row .result ≡ def.residual (a .w .now) (a .scale .now) (a .free .now) rhs (a .z .now) (at-loop .loop .i) =
-    cc (residual-is (a .w .now) (a .scale .now) (a .free .now) rhs (a .z .now) (at-loop .loop .i), here) in (
+    let here = part-at nan 1056 (length (a .free .now)) (l .i) (a .work .now) (omega arith) in
+    let left : at-left .residual-row .result ≡ def.residual (a .w .now) (a .scale .now) (a .free .now) rhs (a .z .now) (l .i) =
+    cc (residual-is (a .w .now) (a .scale .now) (a .free .now) rhs (a .z .now) (l .i), here) in (
       omega arith,
-      at-loop .loop .inv .1,
-      at-loop .loop .inv .2,
+      l .inv .1,
+      l .inv .2,
       omega arith,
-      rw (at-put .put .ensures, left) (tab-again _ _ _ _ (at-loop .loop .inv .4) (at-loop .loop .inv .3) (omega (arith, entry at-loop .pre .3))),
-      turns-again _ _ _ _ _ (at-loop .loop .inv .5) (rw (c .too-large .ensures, c .before .before .at2 .ensures, c .before .at3 .ensures, left, at-row .row .ensures, at-row .before .row-number .ensures)),
+      rw (at-put .put .ensures, left) (tab-again _ _ _ _ (l .inv .4) (l .inv .3) (omega (arith, entry at-loop .pre .3))),
+      turns-again _ _ _ _ _ (l .inv .5) (rw (c .too-large .ensures, c .before .before .at2 .ensures, c .before .at3 .ensures, left, at-row .row .ensures, at-row .before .row-number .ensures)),
     )
 
 returns : tie.Need-returns Inv-loop μ-loop

@@ -1,4 +1,4 @@
-use Rattle.loops.proofs.Common.{ℕ, _+_, _-_, _≤_, _≡_, _++_, arith, length, getD, drop, needs}
+use Rattle.loops.proofs.Common.{ℕ, _-_, _≤_, _≡_, _++_, arith, length, getD, drop, needs}
 use lib.Ieee.{neg}
 use Rattle.loops.specs.Loops.{tab}
 use Rattle.loops.proofs.Fill.{tab-start, tab-again}
