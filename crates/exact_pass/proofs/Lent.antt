@@ -4,7 +4,7 @@ use Rattle.floats.specs.Ops.{0ᶠ}
 use Rattle.loops.proofs.Common.{ℕ, _+_, _*_, _≤_, _<_, _≡_, sym, ap, _∙_, List, arith, length, take, drop, Float}
 use native.Mathlib.Nat.{mul-le-mul}
 use lib.Seq.{length-take-le}
-use Rattle.exact_pass.specs.Private.{part, Free, Fit, Listed, RatioLent, DirectionLent, SystemLent, TargetLent, Scratch, Blocked, RayLent, StepLent, FreeStepLent, RunLent}
+use Rattle.exact_pass.specs.Private.{Below, part, Free, Fit, Listed, RatioLent, DirectionLent, SystemLent, TargetLent, Scratch, Blocked, RayLent, StepLent, RunLent}
 use Rattle.exact_pass.specs.declared.Blocking.{Blocking}
 
 module _ {n : ℕ} {w lo hi scale : List Float} {st : List ℕ} {nu : List Float} (f : Fit n w lo hi scale st nu) where
@@ -71,22 +71,6 @@ Kept st nu q work st′ nu′ q′ work′ = (length st′ ≡ length st) × ((l
 -- ---- a step
 
 module _ {n : ℕ} {w lo hi scale : List Float} {st : List ℕ} {nu : List Float} {rows : List ℕ} {work : List Float} where
-  module _ {l : List ℕ} (f : FreeStepLent n w lo hi scale st nu l rows work) where
-    pub system-lent : {uFree : List Float} → length uFree ≡ n → SystemLent (length nu) w uFree scale st l work
-    system-lent e =
-        rw (f .fit .values) (record {
-          square = (f .fit .sized .0, f .fit .sized .1);
-          motions = e;
-          scales = f .fit .sized .4;
-          states = f .fit .states;
-          below = f .below;
-          few = f .few;
-          workspace = f .workspace;
-        })
-
-    pub step-lent : {y : List Float} → length y ≡ length l → StepLent n w lo hi scale st nu l y rows
-    step-lent e = record { fit = f .fit; listed = record { below = f .below; long = e }; some = f .some; list = f .list }
-
   module _ (r : RunLent n w lo hi scale st nu rows work) where
     pub states-few : length st ≤ 32
     states-few = rw (r .fit .states) (r .fit .sized .0)
@@ -99,16 +83,32 @@ module _ {n : ℕ} {w lo hi scale : List Float} {st : List ℕ} {nu : List Float
       pub free-few : k ≤ 32
       free-few = omega (arith, few, r .fit .sized .0)
 
-      pub free-step-lent : (k ≡ 0 → ⊥) → FreeStepLent n w lo hi scale st nu (take k free) rows work
-      free-step-lent h =
-          let e : length (take k free) ≡ k = rw (g .front) (sym (g .count)) in
+      below : Below n (take k free)
+      below = rw (g .front, ← r .fit .states) (g .below)
+
+      listed-few : length (take k free) ≤ 32
+      listed-few = rw (g .front, ← g .count) free-few
+
+      pub system-lent : {uFree : List Float} → length uFree ≡ n → SystemLent (length nu) w uFree scale st (take k free) work
+      system-lent e =
+          rw (r .fit .values) (record {
+            square = (r .fit .sized .0, r .fit .sized .1);
+            motions = e;
+            scales = r .fit .sized .4;
+            states = r .fit .states;
+            below = below;
+            few = listed-few;
+            workspace = r .workspace;
+          })
+
+      -- y is the direction, in the workspace as it is then
+      pub step-lent : (k ≡ 0 → ⊥) → (work′ : List Float) {y : List Float} → length work′ ≡ length work → y ≡ part 1056 k work′ → StepLent n w lo hi scale st nu (take k free) y rows
+      step-lent h work′ kept e =
           record {
             fit = r .fit;
-            below = rw (g .front, ← r .fit .states) (g .below);
-            few = rw e free-few;
+            listed = record { below = below; long = part-long 1056 k work′ e (omega (arith, kept, free-few, r .workspace)) ∙ rw (g .front) (g .count) };
             some = omega (arith, few, h);
             list = r .list;
-            workspace = r .workspace;
           }
 
     -- after it

@@ -78,13 +78,6 @@ module _ (p : box.Problem) (nu : List Float) (st l : List ℕ) (y : List Float) 
   unfolding private.takeStep
   taken-to-bound nu′ nu″ st″ h s m k = rw (tested, ← g, h, ne-eqb (r .state) 0 s, ← m) (record { answer = refl; tried = k; listed = refl })
 
--- ---- a step of the free rows
-
-pub free-step-run : (p : box.Problem) (st : List ℕ) {nu : List Float} {l : List ℕ} {y : List Float} {b : Bool} {rows : List ℕ} {work : List Float} {e : Exact} {nu′ : List Float} {st′ rows′ : List ℕ} {work′ : List Float} → private.Directed (def.target (p .w) (p .uFree) (p .scale) st nu l) (p .scale) l nu work b work′
-    → y ≡ private.part 1056 (length l) work′ → Passed (private.takeStep p (trial nu st) l y b) rows e nu′ st′ rows′ → private.Stepped (private.freeStep p (trial nu st) l) rows work e nu′ st′ rows′ work′
-unfolding private.freeStep
-free-step-run p st d f h = record { passed = rw (f ∙ d .direction, d .targetless) at h; workspace = d .workspace }
-
 -- ---- a step, where l lists the free rows
 
 module _ (p : box.Problem) (t : Trial) (rows : List ℕ) (e : Exact) (nu′ : List Float) (st′ rows′ : List ℕ) (k : ℕ) where
@@ -93,7 +86,10 @@ module _ (p : box.Problem) (t : Trial) (rows : List ℕ) (e : Exact) (nu′ : Li
   step-released [] f g h = h
   step-released (a ∷ l) f g h = absurd (omega (arith, f, g))
 
-  pub step-free : (l : List ℕ) → k ≡ length l → (k ≡ 0 → ⊥) → Passed (private.freeStep p t l) rows e nu′ st′ rows′ → Passed (def.stepOf p t l) rows e nu′ st′ rows′
-  unfolding def.stepOf private.freeStep private.takeStep private.unbounded
-  step-free [] f g h = absurd (g f)
-  step-free (a ∷ l) f g h = h
+  pub step-free : (l : List ℕ) {l′ : List ℕ} → l′ ≡ l → k ≡ length l → (k ≡ 0 → ⊥) → (work work′ : List Float) {y : List Float} {b : Bool} → private.Directed (def.target (p .w) (p .uFree) (p .scale) (t .states) (t .nu) l′) (p .scale) l′ (t .nu) work b work′
+      → y ≡ private.part 1056 k work′ → Passed (private.takeStep p t l′ y b) rows e nu′ st′ rows′ → private.Stepped (def.stepOf p t l) rows work e nu′ st′ rows′ work′
+  unfolding def.stepOf private.takeStep private.unbounded
+  step-free [] q f g work work′ d h s = absurd (g f)
+  step-free (a ∷ l) q f g work work′ d h s =
+      let d′ = rw q at d in
+      record { passed = rw (q, h ∙ ap (λ (i : ℕ). private.part 1056 i work′) f ∙ d′ .direction, d′ .targetless) at s; workspace = d .workspace }

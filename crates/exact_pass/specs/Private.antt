@@ -115,15 +115,6 @@ pub record StepLent (n : ℕ) (w lo hi scale : List Float) (st : List ℕ) (nu :
   pub some : 0 < n
   pub list : n ≤ length rows
 
--- the same before y is known
-pub record FreeStepLent (n : ℕ) (w lo hi scale : List Float) (st : List ℕ) (nu : List Float) (l rows : List ℕ) (work : List Float) : Type 0 where
-  pub fit : Fit n w lo hi scale st nu
-  pub below : Below n l
-  pub few : length l ≤ 32
-  pub some : 0 < n
-  pub list : n ≤ length rows
-  pub workspace : 1120 ≤ length work
-
 -- what a run and each of its steps are lent
 pub record RunLent (n : ℕ) (w lo hi scale : List Float) (st : List ℕ) (nu : List Float) (rows : List ℕ) (work : List Float) : Type 0 where
   pub fit : Fit n w lo hi scale st nu

@@ -147,46 +147,7 @@ fn take_step(
     Exact::Moved
 }
 
-// A step where some row is free: to the target of the free rows, or in the direction that their system leaves.
-fn free_step(
-    w: &[f64],
-    u_free: &[f64],
-    lo: &[f64],
-    hi: &[f64],
-    scale: &[f64],
-    states: &mut [u8],
-    nu: &mut [f64],
-    free: &[u8],
-    rows: &mut [usize],
-    work: &mut [f64],
-) -> Exact
-    requires { ⌜ private.FreeStepLent (length (now «u_free»)) (now w) (now lo) (now hi) (now scale) (now states) (now nu)
-        (now free) (now rows) (now work) ⌝ }
-    ensures { λ q. ⌜ private.Stepped
-        (private.freeStep
-        (box.problem (now (w .entry)) (now («u_free» .entry)) (now (lo .entry)) (now (hi .entry))
-        (now (scale .entry)))
-        (def.trial (now (nu .entry)) (now (states .entry))) (now (free .entry)))
-        (now (rows .entry)) (now (work .entry)) q (now (nu .exit)) (now (states .exit)) (now (rows .exit))
-        (now (work .exit)) ⌝ }
-{
-    let inconsistent = direction::of_free_rows(w, u_free, scale, states, nu, free, work);
-    let y = read::part(work, crate::DIRECTION, free.len());
-    take_step(
-        w,
-        u_free,
-        lo,
-        hi,
-        scale,
-        states,
-        nu,
-        free,
-        y,
-        inconsistent,
-        rows,
-    )
-}
-
+// One step: where some row is free, to the target of the free rows, or in the direction that their system leaves.
 fn step(
     w: &[f64],
     u_free: &[f64],
@@ -214,7 +175,21 @@ fn step(
     if k == 0 {
         return release::release(w, u_free, lo, hi, scale, states, nu);
     }
-    free_step(w, u_free, lo, hi, scale, states, nu, &free[..k], rows, work)
+    let inconsistent = direction::of_free_rows(w, u_free, scale, states, nu, &free[..k], work);
+    let y = read::part(work, crate::DIRECTION, k);
+    take_step(
+        w,
+        u_free,
+        lo,
+        hi,
+        scale,
+        states,
+        nu,
+        &free[..k],
+        y,
+        inconsistent,
+        rows,
+    )
 }
 
 fn moved(e: Exact) -> bool
