@@ -92,4 +92,4 @@ module _ (p : box.Problem) (t : Trial) (rows : List ℕ) (e : Exact) (nu′ : Li
   step-free [] q f g work work′ d h s = absurd (g f)
   step-free (a ∷ l) q f g work work′ d h s =
       let d′ = rw q at d in
-      record { passed = rw (q, h ∙ ap (λ (i : ℕ). private.part 1056 i work′) f ∙ d′ .direction, d′ .targetless) at s; workspace = d .workspace }
+      record { passed = rw (q, h ∙ ap (λ (i : ℕ). private.part 1056 i work′) f ∙ d′ .direction, d′ .inconsistent) at s; workspace = d .workspace }

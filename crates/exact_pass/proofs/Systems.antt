@@ -135,6 +135,6 @@ module _ (w uFree scale : List Float) (st : List ℕ) (nu : List Float) (l : Lis
       directed-run y₃ work₃ d laid long =
           record {
             direction = rw (← target) (rw (← long) (laid .part) ∙ d);
-            targetless = rw (← target);
+            inconsistent = rw (← target);
             workspace = later (1056 + length y₃) 1088 work₃ work₂ (omega (arith, long, few)) (laid .after) ∙ side-work;
           }

@@ -153,9 +153,9 @@ abbrev pub part : ℕ → ℕ → List Float → List Float
 part a k work = take k (drop a work)
 
 -- after the direction of the free rows l is found, for the target t of their system: it is in the workspace
-pub record Directed (t : def.Target) (scale : List Float) (l : List ℕ) (nu work : List Float) (inconsistent : Bool) (work′ : List Float) : Type 0 where
+pub record Directed (t : def.Target) (scale : List Float) (l : List ℕ) (nu work : List Float) (b : Bool) (work′ : List Float) : Type 0 where
   pub direction : part 1056 (length l) work′ ≡ def.direction (t .inconsistent) scale l (t .z) nu (t .y)
-  pub targetless : inconsistent ≡ t .inconsistent
+  pub inconsistent : b ≡ t .inconsistent
   pub workspace : drop 1088 work′ ≡ drop 1088 work
 
 -- a row that is dropped is 0, one taken 1, one that ends the collecting 2

@@ -7,7 +7,7 @@ ghost use Rattle.exact_pass.specs.Private as private;
 use crate::read;
 use crate::system;
 
-// y is what the solution z leaves, and becomes the way to z where there is a target.
+// y is what the solution z leaves; where there is a target, it becomes the direction to it.
 fn direction(inconsistent: bool, scale: &[f64], free: &[u8], z: &[f64], nu: &[f64], y: &mut [f64])
     requires { ⌜ private.DirectionLent (length (now nu)) (now scale) (now free) (now z) (now y) ⌝ }
     ensures { λ q. ⌜ now (y .exit)
