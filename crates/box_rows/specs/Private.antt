@@ -9,13 +9,20 @@ use lib.ListN.{length}
 use lib.Ieee.{Float}
 use Rattle.floats.specs.Ops.{at}
 use Rattle.floats.specs.Helpers.{none}
-use Rattle.box_rows.specs.Rows.{Problem, size, row}
+use Rattle.floats.specs.declared.Clamped.{Clamped}
+use Rattle.box_rows.specs.declared.Row.{Row}
+use Rattle.box_rows.specs.Rows.{Problem, size, row, update, updateSide}
 
 -- r is the smaller of a and b
 pub record Fewer (a b r : ℕ) : Type 0 where
   pub first : r ≤ a
   pub second : r ≤ b
   pub one : (r ≡ a) ⊎ (r ≡ b)
+
+-- where a row's update puts its multiplier, and the side at which it is stopped
+pub record Updated (row : Row) (r : Clamped) : Type 0 where
+  pub value : r .value ≡ update (row .nu) (row .u) (row .diagonal) (row .lo) (row .hi)
+  pub side : r .side ≡ updateSide (row .nu) (row .u) (row .diagonal) (row .lo) (row .hi)
 
 -- w is a matrix of n rows and columns, few enough
 abbrev pub Square : List Float → ℕ → Type 0

@@ -18,19 +18,28 @@ pub const AT_HI: u8 = 2;
 
 pub const IDLE: u8 = 3;
 
-// Where a row's update puts its multiplier v, and the side at which it is stopped: u is the row sum and d the diagonal.
-pub fn update(v: f64, u: f64, d: f64, lo: f64, hi: f64) -> Clamped
-    ensures { λ r. ⌜ (r .value ≡ box.update v u d lo hi) × (r .side ≡ box.updateSide v u d lo hi) ⌝ }
-{
-    floats::clamp(v - u / d, lo, hi)
+// A row's numbers: its multiplier, its row sum, its diagonal and its box.
+pub struct Row {
+    pub nu: f64,
+    pub u: f64,
+    pub diagonal: f64,
+    pub lo: f64,
+    pub hi: f64,
 }
 
-// How far the update would move the multiplier, over the row's scale s.
-pub fn natural_residual(v: f64, u: f64, d: f64, lo: f64, hi: f64, s: f64) -> f64
-    ensures { λ r. ⌜ r ≡ box.naturalResidual v u d lo hi s ⌝ }
+// Where a row's update puts its multiplier, and the side at which it is stopped.
+pub fn update(row: Row) -> Clamped
+    ensures { λ r. ⌜ private.Updated row r ⌝ }
 {
-    let to = update(v, u, d, lo, hi);
-    floats::abs(v - to.value) / s
+    floats::clamp(row.nu - row.u / row.diagonal, row.lo, row.hi)
+}
+
+// How far the update would move the multiplier, over the row's scale.
+pub fn natural_residual(row: Row, scale: f64) -> f64
+    ensures { λ r. ⌜ r ≡ box.naturalResidual (row .nu) (row .u) (row .diagonal) (row .lo) (row .hi) scale ⌝ }
+{
+    let to = update(row);
+    floats::abs(row.nu - to.value) / scale
 }
 
 // Whether a finite bound is at most so near.

@@ -44,13 +44,14 @@ fn sweep_row(
     }
     let row = read::row(w, u_free.len(), i);
     let u = box_rows::row_sum(row, read::at(u_free, i), nu);
-    let v = box_rows::update(
-        read::at(nu, i),
+    let numbers = box_rows::Row {
+        nu: read::at(nu, i),
         u,
-        read::at(row, i),
-        read::at(lo, i),
-        read::at(hi, i),
-    );
+        diagonal: read::at(row, i),
+        lo: read::at(lo, i),
+        hi: read::at(hi, i),
+    };
+    let v = box_rows::update(numbers);
     read::put(nu, i, v.value);
     count(v.side, k)
 }

@@ -37,14 +37,14 @@ fn residual_row(
     }
     let row = read::row(w, u_free.len(), i);
     let u = box_rows::row_sum(row, read::at(u_free, i), nu);
-    let r = box_rows::natural_residual(
-        read::at(nu, i),
+    let numbers = box_rows::Row {
+        nu: read::at(nu, i),
         u,
-        read::at(row, i),
-        read::at(lo, i),
-        read::at(hi, i),
-        read::at(scale, i),
-    );
+        diagonal: read::at(row, i),
+        lo: read::at(lo, i),
+        hi: read::at(hi, i),
+    };
+    let r = box_rows::natural_residual(numbers, read::at(scale, i));
     floats::larger(worst, r)
 }
 

@@ -60,11 +60,14 @@ fn bound_row(
 {
     let u = box_rows::row_sum(row, u_free, nu);
     if pushed(state, u) {
-        return worse(
-            i,
-            box_rows::natural_residual(read::at(nu, i), u, read::at(row, i), lo, hi, s),
-            worst,
-        );
+        let numbers = box_rows::Row {
+            nu: read::at(nu, i),
+            u,
+            diagonal: read::at(row, i),
+            lo,
+            hi,
+        };
+        return worse(i, box_rows::natural_residual(numbers, s), worst);
     }
     worst
 }

@@ -12,7 +12,7 @@ abs-requires c κs = search needs
 
 returns : tie.Need-returns
 unfolding box.naturalResidual
-returns c = rw (c .abs .ensures, c .before .before .update .ensures .0)
+returns c = rw (c .abs .ensures, c .before .before .before .update .ensures .value)
 
 pub natural-residual-spec : {M : Type 1} → statement M
 natural-residual-spec = tie.close (tie.spec update-requires abs-requires returns)

@@ -9,7 +9,7 @@ clamp-requires c κs = search needs
 
 returns : tie.Need-returns
 unfolding box.update box.updateSide
-returns c = (c .clamp .ensures .0, c .clamp .ensures .1)
+returns c = record { value = c .clamp .ensures .0; side = c .clamp .ensures .1 }
 
 pub update-spec : {M : Type 1} → statement M
 update-spec = tie.close (tie.spec clamp-requires returns)

@@ -20,7 +20,7 @@ returns-2 c =
     let at-state = at-row .before .before in
     let u = at-put .before .before .update .ensures in
     row-moves _ _ _ _ _ _ _ _ _ (at-state .state .ensures) (at-state .before .before .before .before .before .before .before .pre .count) _ _ _ _ _ _ _ _ _ _ _
-    (at-row .before .if1 .left) (at-put .put .ensures) (c .count .ensures) (u .0) (u .1) (at-row-sum .row-sum .ensures)
+    (at-row .before .if1 .left) (at-put .put .ensures) (c .count .ensures) (u .value) (u .side) (at-row-sum .row-sum .ensures)
     (at-row-sum .before .before .at .ensures) (at-at3 .before .at2 .ensures) (at-at3 .at3 .ensures) (at-at5 .before .at4 .ensures)
     (at-at5 .at5 .ensures) (at-row .row .ensures .row)
 
