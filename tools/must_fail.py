@@ -140,7 +140,7 @@ def try_crate(name):
     if status != 0:
         return 0, 1, [f"{name}: not proved before any edit (exit {status}): {first_error(said)[:300]}"]
     lines.append(f"{name}: proved before its edits ({time.monotonic() - began:.0f} s)")
-    for edit in sorted(glob.glob(os.path.join(ROOT, "crates", name, "must-fail", "incremental", "*.edit"))):
+    for edit in edits_of(name):
         label, began = os.path.basename(edit).removesuffix(".edit"), time.monotonic()
         try:
             wrong = try_edit(copy, name, edit)
@@ -154,14 +154,25 @@ def try_crate(name):
     return passed, failed, lines
 
 
+def edits_of(name):
+    return sorted(glob.glob(os.path.join(ROOT, "crates", name, "must-fail", "incremental", "*.edit")))
+
+
+def work(name):
+    """About how many seconds a crate takes here, by what its proof took last: the longest go first, so that the jobs end together."""
+    log = os.path.join(ROOT, "target", "log", name + ".out")
+    took = re.search(r"proved \((\d+) s\)", text_of(log)) if os.path.exists(log) else None
+    seconds = int(took.group(1)) if took else 1
+    return seconds + len(edits_of(name)) * (3 + seconds / 7)
+
+
 def main():
     there = sorted({path.split(os.sep)[-4] for path in glob.glob(os.path.join(ROOT, "crates", "*", "must-fail", "incremental", "*.edit"))})
     names = sys.argv[1:] or there
     for name in names:
         if name not in there:
             sys.exit(f"must_fail.py: crates/{name}/must-fail/incremental/ has no edit")
-    # the largest proofs first, so that the jobs end together
-    names.sort(key=lambda n: -sum(len(files) for _, _, files in os.walk(os.path.join(ROOT, "crates", n, "proofs"))))
+    names.sort(key=work, reverse=True)
     passed = failed = 0
     with concurrent.futures.ThreadPoolExecutor(int(os.environ.get("RT_JOBS", "2"))) as pool:
         for good, bad, lines in pool.map(try_crate, names):
