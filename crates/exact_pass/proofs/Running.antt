@@ -98,12 +98,12 @@ module _ {p : box.Problem} {st₀ : List ℕ} {nu₀ : List Float} {q : List ℕ
       }
 
   -- what the pass leaves, by what its loop leaves
-  pub pass-ran : {acting : ℕ} {e : Exact} {nu′ : List Float} {st′ q′ : List ℕ} {work′ : List Float} → (private.started nu st acting ≡ def.start (p .lo) (p .hi) (p .scale) nu₀ st₀ (length nu₀)) × (acting ≤ length nu₀) → length nu ≡ length nu₀
+  pub pass-ran : {acting : ℕ} {e : Exact} {nu′ : List Float} {st′ q′ : List ℕ} {work′ : List Float} → private.Started (def.start (p .lo) (p .hi) (p .scale) nu₀ st₀ (length nu₀)) (length nu₀) nu st acting → length nu ≡ length nu₀
       → Copied nu 1088 work₀ work → Passed (def.closed (def.steps p (trial nu st) (8 * acting + 8))) q e nu′ st′ q′ × (drop 1120 work′ ≡ drop 1120 work) → private.Ran p st₀ nu₀ q work₀ e nu′ st′ q′ work′
   unfolding def.exactPass
   pass-ran s kept copied a =
       record {
-        passed = rw (← r .fit .values, ← s .0) (a .0);
+        passed = rw (← r .fit .values, ← s .start) (a .0);
         workspace = a .1 ∙ later (1088 + length nu) 1120 work work₀ (omega (arith, kept, r .fit .values, r .fit .sized .0)) (copied .after);
       }
 

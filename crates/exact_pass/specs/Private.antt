@@ -52,6 +52,19 @@ pub record Fit (n : ℕ) (w lo hi scale : List Float) (st : List ℕ) (v : List 
   pub states : length st ≡ n
   pub values : length v ≡ n
 
+-- n rows, each with its bounds, scale and state
+pub record Scaled (n : ℕ) (lo hi scale : List Float) (st : List ℕ) : Type 0 where
+  pub lower : length lo ≡ n
+  pub upper : length hi ≡ n
+  pub scales : length scale ≡ n
+  pub states : length st ≡ n
+
+-- what A says of the lists, that i is one of n rows, and that k counts some of the rows before row i
+pub record CountedRow (A : Type 0) (n i k : ℕ) : Type 0 where
+  pub lists : A
+  pub row : i < n
+  pub count : k ≤ i
+
 -- l lists some of n rows, and y has a value for each of them
 pub record Listed (n : ℕ) (l : List ℕ) (y : List Float) : Type 0 where
   pub below : Below n l
@@ -129,6 +142,11 @@ pub record MarksLent (n : ℕ) (st : List ℕ) (work : List Float) (marks : List
   pub long : n ≤ length marks
 
 -- ---- what they leave
+
+-- the start x, with at most m rows that act
+pub record Started (x : def.Start) (m : ℕ) (nu : List Float) (st : List ℕ) (k : ℕ) : Type 0 where
+  pub start : record { trial = def.trial nu st; acting = k } ≡ x
+  pub within : k ≤ m
 
 abbrev pub targeted : List Float → List Float → Bool → def.Target
 targeted z y b = record { z = z; y = y; inconsistent = b }

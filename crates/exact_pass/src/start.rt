@@ -1,6 +1,6 @@
 // Where a pass starts: each row in the state that its multiplier shows, and a row on a bound exactly there.
 ghost use mathlib.Core.Path.{_≡_};
-ghost use Prim.Native.Nat.{_+_, _≤_, _<_};
+ghost use Prim.Native.Nat.{_+_};
 ghost use lib.ListN.{length};
 ghost use Rattle.exact_pass.specs.Pass as def;
 ghost use Rattle.exact_pass.specs.Private as private;
@@ -28,13 +28,13 @@ fn start_row(
     i: usize,
     acting: usize,
 ) -> usize
-    requires { ⌜ (i < length (now nu)) × (length (now lo) ≡ length (now nu)) × (length (now hi) ≡ length (now nu))
-        × (length (now scale) ≡ length (now nu))
-        × (length (now states) ≡ length (now nu)) × (acting ≤ i) ⌝ }
-    ensures { λ q. ⌜ (private.started (now (nu .exit)) (now (states .exit)) q
-        ≡ private.startRow (now (lo .entry)) (now (hi .entry)) (now (scale .entry)) i
+    requires { ⌜ private.CountedRow
+        (private.Scaled (length (now nu)) (now lo) (now hi) (now scale) (now states))
+        (length (now nu)) i acting ⌝ }
+    ensures { λ q. ⌜ private.Started
+        (private.startRow (now (lo .entry)) (now (hi .entry)) (now (scale .entry)) i
         (private.started (now (nu .entry)) (now (states .entry)) acting))
-        × (q ≤ i + 1) ⌝ }
+        (i + 1) (now (nu .exit)) (now (states .exit)) q ⌝ }
 {
     if read::state(states, i) == box_rows::IDLE {
         return acting;
@@ -48,13 +48,11 @@ fn start_row(
 
 // How many rows act.
 pub fn start(lo: &[f64], hi: &[f64], scale: &[f64], states: &mut [u8], nu: &mut [f64]) -> usize
-    requires { ⌜ (length (now lo) ≡ length (now nu)) × (length (now hi) ≡ length (now nu))
-        × (length (now scale) ≡ length (now nu))
-        × (length (now states) ≡ length (now nu)) ⌝ }
-    ensures { λ q. ⌜ (private.started (now (nu .exit)) (now (states .exit)) q
-        ≡ def.start (now (lo .entry)) (now (hi .entry)) (now (scale .entry)) (now (nu .entry)) (now (states .entry))
+    requires { ⌜ private.Scaled (length (now nu)) (now lo) (now hi) (now scale) (now states) ⌝ }
+    ensures { λ q. ⌜ private.Started
+        (def.start (now (lo .entry)) (now (hi .entry)) (now (scale .entry)) (now (nu .entry)) (now (states .entry))
         (length (now (nu .entry))))
-        × (q ≤ length (now (nu .entry))) ⌝ }
+        (length (now (nu .entry))) (now (nu .exit)) (now (states .exit)) q ⌝ }
 {
     let n = nu.len();
     let mut acting = 0;

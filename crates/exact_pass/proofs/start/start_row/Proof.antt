@@ -1,5 +1,4 @@
-use Rattle.loops.proofs.Common.{_≡_, refl, sym, _∙_, arith, add-one, needs, eq-eqb, ne-eqb}
-use Rattle.floats.specs.Ops.{at}
+use Rattle.loops.proofs.Common.{_≡_, refl, sym, _∙_, arith, add-one, eq-eqb, ne-eqb}
 use Rattle.box_rows.specs.Rows as box
 use Rattle.exact_pass.specs.Private as private
 use Rattle.exact_pass.proofs.start.start_row as this
@@ -7,7 +6,7 @@ use this.Tie as tie
 
 returns : tie.Need-returns
 unfolding private.startRow
-returns c = (rw (eq-eqb _ _ (sym (c .before .state .ensures) ∙ c .if1 .taken)), search needs)
+returns c = record { start = rw (eq-eqb _ _ (sym (c .before .state .ensures) ∙ c .if1 .taken)); within = omega arith }
 
 returns-2 : tie.Need-returns-2
 unfolding private.startRow
@@ -18,8 +17,9 @@ returns-2 c =
     let at-if1 = at-of .before .before .before .before .before .before in
     let at-args = at-if1 .before .before .before .before .before .before .before .before in
     let a = at-args .args in
-    let acts : box.state (a .states .now) (a .i) ≡ 3 → ⊥ = λ e. at-if1 .if1 .left (at-if1 .before .state .ensures ∙ e) in (
-      rw (
+    let acts : box.state (a .states .now) (a .i) ≡ 3 → ⊥ = λ e. at-if1 .if1 .left (at-if1 .before .state .ensures ∙ e) in
+    record {
+      start = rw (
         ne-eqb _ _ acts,
         add-one,
         c .before .before .put .ensures,
@@ -32,9 +32,9 @@ returns-2 c =
         at-of .before .before .at3 .ensures,
         at-of .before .at4 .ensures,
         at-of .before .before .before .before .at .ensures,
-      ),
-      omega (arith, at-args .pre .5),
-    )
+      );
+      within = omega arith;
+    }
 
 pub start-row-spec : {M : Type 1} → this.Statement.statement M
 start-row-spec =
@@ -53,7 +53,7 @@ start-row-spec =
     (λ c κs. omega arith)
     (λ c κs. tt)
     (λ c κs. omega arith)
-    (λ c. omega arith)
+    (λ c. omega (arith, c .before .before))
     (λ c. omega arith)
     (λ c. omega arith)
     returns-2)

@@ -31,13 +31,8 @@ to-step c = c .before .before .before .before .before .before .before .before .b
 abbrev began : tie.At-loop Inv-loop μ-loop → tie.Start Inv-loop μ-loop
 began c = entry (to-start (to-copy c))
 
-start-requires : tie.Need-start-requires Inv-loop μ-loop
-start-requires c κs =
-    let f = c .before .before .before .before .before .before .before .before .before .before .before .pre .fit in
-    rw (f .values) (f .sized .2, f .sized .3, f .sized .4, f .states)
-
 most-fits : (c : tie.After-start Inv-loop μ-loop) → 8 * c .start .result + 8 ≤ 264
-most-fits c = omega (arith, c .start .ensures .1, entry c .pre .fit .values, entry c .pre .fit .sized .0)
+most-fits c = omega (arith, c .start .ensures .within, entry c .pre .fit .values, entry c .pre .fit .sized .0)
 
 copy-requires : tie.Need-copy-requires Inv-loop μ-loop
 copy-requires c κs =
@@ -96,7 +91,7 @@ run-spec =
     (tie.spec
     Inv-loop
     μ-loop
-    start-requires
+    (λ c κs. omega arith)
     (λ c. omega arith)
     (λ c. omega arith)
     copy-requires
