@@ -1,5 +1,6 @@
 -- The release of a row on a bound, from what the calls promise.
-use Rattle.loops.proofs.Common.{ℕ, _≤_, _≡_, refl, ap, _∙_, Bool, true, false, cond, List, set, Float, eq-eqb, ne-eqb}
+use Rattle.loops.proofs.Common.{ℕ, _≤_, _<_, _≡_, refl, sym, ap, _∙_, Bool, true, false, cond, List, arith, set, Float, eq-eqb, ne-eqb}
+use Rattle.loops.proofs.Turns.{turns-keep}
 use lib.Dec.{eqb}
 use lib.Ieee.{lt}
 use Rattle.floats.specs.Ops.{at}
@@ -10,42 +11,47 @@ use Rattle.exact_pass.specs.Promise.{Passed}
 use Rattle.exact_pass.specs.declared.Worst.{Worst}
 use Rattle.exact_pass.specs.declared.Exact.the-variants.{Moved, Found}
 
--- a row that is neither on its lower nor on its upper bound is not released
-module _ (p : box.Problem) (st : List ℕ) (nu : List Float) (i : ℕ) (best : Worst) where
-  pub release-free : box.state st i ≡ 0 → best ≡ private.releaseRow p st nu i best
+-- a row of the state s: one that is neither on its lower nor on its upper bound is not released
+module _ (p : box.Problem) (st : List ℕ) (nu : List Float) (i s : ℕ) (best : Worst) (e : s ≡ box.state st i) where
+  pub release-free : s ≡ 0 → best ≡ private.releaseRow p st nu i best
   unfolding private.releaseRow private.pushed
-  release-free e = rw e
+  release-free f = rw (← e, f)
 
-  pub release-idle : box.state st i ≡ 3 → best ≡ private.releaseRow p st nu i best
+  pub release-idle : s ≡ 3 → best ≡ private.releaseRow p st nu i best
   unfolding private.releaseRow private.pushed
-  release-idle e = rw e
+  release-idle f = rw (← e, f)
 
-module _ (i s : ℕ) (r nu : List Float) (u lo hi sc : Float) (best q : Worst)
-    (e : q ≡ cond (private.pushed s (box.rowSum r u nu)) (private.worse i (box.naturalResidual (at nu i) (box.rowSum r u nu) (at r i) lo hi sc) best) best) where
-  pub release-bound : (p : box.Problem) (st : List ℕ) → s ≡ box.state st i → r ≡ box.row (p .w) (box.size p) i → u ≡ at (p .uFree) i → lo ≡ at (p .lo) i → hi ≡ at (p .hi) i → sc ≡ at (p .scale) i → q ≡ private.releaseRow p st nu i best
+  pub release-bound : (r : List Float) (u lo hi sc : Float) (n : ℕ) (q : Worst) → q ≡ cond (private.pushed s (box.rowSum r u nu)) (private.worse i (box.naturalResidual (at nu i) (box.rowSum r u nu) (at r i) lo hi sc) best) best
+      → r ≡ box.row (p .w) n i → n ≡ box.size p → u ≡ at (p .uFree) i → lo ≡ at (p .lo) i → hi ≡ at (p .hi) i → sc ≡ at (p .scale) i → q ≡ private.releaseRow p st nu i best
   unfolding private.releaseRow box.residualAt
-  release-bound p st f g a b c d = e ∙ rw (f, g, a, b, c, d)
+  release-bound r u lo hi sc n q h g f a b c d = h ∙ rw (e, g, f, a, b, c, d)
 
-  pub bound-below : (n : ℕ) → best .row ≤ n → i ≤ n → q .row ≤ n
-  unfolding private.worse
-  bound-below n h g = rw e (go (private.pushed s (box.rowSum r u nu)) (lt (best .residual) x))
+-- the row to release is one of the rows, or their number
+module _ (p : box.Problem) (st : List ℕ) (nu : List Float) where
+  row-below : (i : ℕ) (best : Worst) → i < box.size p → best .row ≤ box.size p → private.releaseRow p st nu i best .row ≤ box.size p
+  unfolding private.releaseRow private.worse
+  row-below i best g h = go (private.pushed (box.state st i) (box.rowSum (box.row (p .w) (box.size p) i) (at (p .uFree) i) nu)) (lt (best .residual) (box.residualAt p nu i))
     where
-      x : Float
-      x = box.naturalResidual (at nu i) (box.rowSum r u nu) (at r i) lo hi sc
-
-      go : (b c : Bool) → cond b (cond c (record { residual = x; row = i }) best) best .row ≤ n
+      go : (b c : Bool) → cond b (cond c (record { residual = box.residualAt p nu i; row = i }) best) best .row ≤ box.size p
       go false c = h
-      go true true = g
+      go true true = omega arith
       go true false = h
+
+  below : private.worstRow p st nu (box.size p) .row ≤ box.size p
+  below = turns-keep (private.releaseRow p st nu) _ (λ i best. best .row ≤ box.size p) _ (omega arith) row-below
 
 -- the release, by the row that it frees
 release-is : (p : box.Problem) (nu : List Float) (st : List ℕ) → def.release p (def.trial nu st) ≡ cond (eqb (private.worstRow p st nu (box.size p) .row) (box.size p)) (def.found (def.trial nu st)) (def.moved (def.trial nu (set st (private.worstRow p st nu (box.size p) .row) 0)))
 unfolding def.release private.releaseRow private.pushed private.worse
 release-is p nu st = refl
 
-module _ (p : box.Problem) (nu : List Float) (st : List ℕ) (i : ℕ) (e : i ≡ private.worstRow p st nu (box.size p) .row) where
-  pub release-found : i ≡ box.size p → (r : List ℕ) → Passed (def.release p (def.trial nu st)) r Found nu st r
-  release-found h r = rw (release-is p nu st, ← e, eq-eqb i (box.size p) h) (record { answer = refl; tried = refl; listed = refl })
+-- by the row i that is found, of n rows
+module _ (p : box.Problem) (nu : List Float) (st : List ℕ) {i n : ℕ} (e : i ≡ private.worstRow p st nu (box.size p) .row) (size : n ≡ box.size p) where
+  pub release-found : i ≡ n → (r : List ℕ) → Passed (def.release p (def.trial nu st)) r Found nu st r
+  release-found h r = rw (release-is p nu st, ← e, eq-eqb i (box.size p) (h ∙ size)) (record { answer = refl; tried = refl; listed = refl })
 
-  pub release-moved : (i ≡ box.size p → ⊥) → (st′ : List ℕ) → st′ ≡ set st i 0 → (r : List ℕ) → Passed (def.release p (def.trial nu st)) r Moved nu st′ r
-  release-moved h st′ f r = rw (release-is p nu st, ← e, ne-eqb i (box.size p) h) (record { answer = refl; tried = ap (def.trial nu) f; listed = refl })
+  pub release-moved : (i ≡ n → ⊥) → {st′ : List ℕ} → st′ ≡ set st i 0 → (r : List ℕ) → Passed (def.release p (def.trial nu st)) r Moved nu st′ r
+  release-moved h f r = rw (release-is p nu st, ← e, ne-eqb i (box.size p) (λ g. h (g ∙ sym size))) (record { answer = refl; tried = ap (def.trial nu) f; listed = refl })
+
+  pub release-fits : (i ≡ n → ⊥) → {m : ℕ} → m ≡ box.size p → i < m
+  release-fits h f = omega (arith, e, below p st nu)

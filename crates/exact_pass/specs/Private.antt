@@ -59,7 +59,12 @@ pub record Scaled (n : ℕ) (lo hi scale : List Float) (st : List ℕ) : Type 0 
   pub scales : length scale ≡ n
   pub states : length st ≡ n
 
--- what A says of the lists, that i is one of n rows, and that k counts some of the rows before row i
+-- what A says of the lists, and that i is one of n rows
+pub record Row (A : Type 0) (n i : ℕ) : Type 0 where
+  pub lists : A
+  pub row : i < n
+
+-- the same, and that k counts some of the rows before row i
 pub record CountedRow (A : Type 0) (n i k : ℕ) : Type 0 where
   pub lists : A
   pub row : i < n

@@ -59,7 +59,7 @@ pub fn put_state(l: &mut [u8], i: usize, x: u8)
 
 // Row i of a matrix of n rows and columns.
 pub fn row(w: &[f64], n: usize, i: usize) -> &[f64]
-    requires { ⌜ lists.Square (now w) n × (i < n) ⌝ }
+    requires { ⌜ private.Row (lists.Square (now w) n) n i ⌝ }
     ensures { λ q. ⌜ now q ≡ box.row (now (w .entry)) n i ⌝ }
 {
     let a = i * n;
@@ -78,7 +78,7 @@ pub fn part(v: &[f64], a: usize, k: usize) -> &[f64]
 
 // A copy of `from` in `to`, from place a on.
 pub fn copy(from: &[f64], to: &mut [f64], a: usize)
-    requires { ⌜ (a + length (now from) ≤ length (now to)) ⌝ }
+    requires { ⌜ a + length (now from) ≤ length (now to) ⌝ }
     ensures { λ q. ⌜ private.Copied (now (from .entry)) a (now (to .entry)) (now (to .exit)) ⌝ }
 {
     let n = from.len();

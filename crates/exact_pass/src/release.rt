@@ -3,7 +3,7 @@
 ghost use mathlib.Core.Path.{_≡_};
 ghost use mathlib.Core.Bool.{cond};
 ghost use mathlib.Core.List.{List};
-ghost use Prim.Native.Nat.{ℕ, _≤_, _<_};
+ghost use Prim.Native.Nat.{ℕ};
 ghost use lib.ListN.{length};
 ghost use Rattle.floats.specs.Ops.{at};
 ghost use Rattle.box_rows.specs.Rows as box;
@@ -50,7 +50,7 @@ fn bound_row(
     i: usize,
     worst: Worst,
 ) -> Worst
-    requires { ⌜ (i < length (now nu)) × (length (now row) ≡ length (now nu)) ⌝ }
+    requires { ⌜ private.Row (length (now row) ≡ length (now nu)) (length (now nu)) i ⌝ }
     ensures { λ q. ⌜ q ≡ cond (private.pushed state (box.rowSum (now (row .entry)) «u_free» (now (nu .entry))))
         (private.worse i
         (box.naturalResidual (at (now (nu .entry)) i) (box.rowSum (now (row .entry)) «u_free» (now (nu .entry)))
@@ -83,14 +83,13 @@ fn release_row(
     i: usize,
     worst: Worst,
 ) -> Worst
-    requires { ⌜ private.Fit (length (now «u_free»)) (now w) (now lo) (now hi) (now scale) (now states) (now nu)
-        × (i < length (now «u_free»)) × (worst .row ≤ length (now «u_free»)) ⌝ }
-    ensures { λ q. ⌜ (q
-        ≡ private.releaseRow
+    requires { ⌜ private.Row
+        (private.Fit (length (now «u_free»)) (now w) (now lo) (now hi) (now scale) (now states) (now nu))
+        (length (now «u_free»)) i ⌝ }
+    ensures { λ q. ⌜ q ≡ private.releaseRow
         (box.problem (now (w .entry)) (now («u_free» .entry)) (now (lo .entry)) (now (hi .entry))
         (now (scale .entry)))
-        (now (states .entry)) (now (nu .entry)) i worst)
-        × (q .row ≤ length (now («u_free» .entry))) ⌝ }
+        (now (states .entry)) (now (nu .entry)) i worst ⌝ }
 {
     let s = read::state(states, i);
     if s == box_rows::INSIDE {
@@ -124,12 +123,10 @@ fn worst_row(
     nu: &[f64],
 ) -> usize
     requires { ⌜ private.Fit (length (now «u_free»)) (now w) (now lo) (now hi) (now scale) (now states) (now nu) ⌝ }
-    ensures { λ q. ⌜ (q
-        ≡ private.worstRow
+    ensures { λ q. ⌜ q ≡ private.worstRow
         (box.problem (now (w .entry)) (now («u_free» .entry)) (now (lo .entry)) (now (hi .entry))
         (now (scale .entry)))
-        (now (states .entry)) (now (nu .entry)) (length (now («u_free» .entry))) .row)
-        × (q ≤ length (now («u_free» .entry))) ⌝ }
+        (now (states .entry)) (now (nu .entry)) (length (now («u_free» .entry))) .row ⌝ }
 {
     let n = nu.len();
     let mut worst = Worst {

@@ -8,7 +8,7 @@ returns : tie.Need-returns
 returns c =
     let a = c .before .args in
     let p = c .before .pre in
-    let q : a .i * a .n + a .n - a .i * a .n ≡ a .n = omega arith in rw q (row-part _ _ _ (row-fits (a .w .now) _ _ (p .0 .1) (p .1)))
+    let q : a .i * a .n + a .n - a .i * a .n ≡ a .n = omega arith in rw q (row-part _ _ _ (row-fits (a .w .now) _ _ (p .lists .1) (p .row)))
 
 pub row-spec : {M : Type 1} → this.Statement.statement M
 row-spec =
@@ -19,5 +19,5 @@ row-spec =
     (λ c. omega (arith, product (c .args .i) (c .args .n) (omega arith) (omega arith)))
     (λ c. omega arith)
     (λ c. omega arith)
-    (λ c. omega (arith, row-fits (c .args .w .now) (c .args .n) (c .args .i) (c .pre .0 .1) (c .pre .1)))
+    (λ c. omega (arith, row-fits (c .args .w .now) (c .args .n) (c .args .i) (c .pre .lists .1) (c .pre .row)))
     returns)

@@ -7,7 +7,7 @@ use Rattle.exact_pass.proofs.release.worst_row as this
 use this.Tie as tie
 
 abbrev Inv-loop : tie.InvT-loop
-Inv-loop w u-free lo hi scale states nu n worst₀ i₀ worst i = (i ≤ n) × (n ≡ length u-free) × (worst .row ≤ length u-free) × (worst ≡ private.worstRow (box.problem w u-free lo hi scale) states nu i)
+Inv-loop w u-free lo hi scale states nu n worst₀ i₀ worst i = (i ≤ n) × (n ≡ length u-free) × (worst ≡ private.worstRow (box.problem w u-free lo hi scale) states nu i)
 
 abbrev μ-loop : tie.MeasureT-loop
 μ-loop w u-free lo hi scale states nu n worst₀ i₀ worst i = n - i
@@ -18,9 +18,9 @@ worst-row-spec =
     (tie.spec
     Inv-loop
     μ-loop
-    (λ c. (search needs, search needs, search needs, rw (c .before .before .before .before .before .before .before .pre .values) (turns-from _ _)))
+    (λ c. (search needs, search needs, rw (c .before .before .before .before .before .before .before .pre .values) (turns-from _ _)))
     (λ c κs. omega arith)
     (λ c. omega arith)
     (λ c. omega arith)
-    (λ c. (search needs, search needs, c .release-row .ensures .1, turns-again _ _ _ _ _ (c .before .before .loop .inv .3) (c .release-row .ensures .0)))
-    (λ c. (ap (λ (w : Worst). w .row) (turns-done _ _ _ _ _ (omega arith) (omega arith) (c .before .loop .inv .3)), search needs)))
+    (λ c. search (turns-again, needs))
+    (λ c. ap (λ (w : Worst). w .row) (turns-done _ _ _ _ _ (omega arith) (omega arith) (c .before .loop .inv .2))))
