@@ -1,11 +1,13 @@
 -- What the functions of a step are lent, from what it is lent itself.
 use lib.ListN.{replicate, length-replicate, length-drop}
 use Rattle.floats.specs.Ops.{0ᶠ}
-use Rattle.loops.proofs.Common.{ℕ, _+_, _*_, _≤_, _<_, _≡_, sym, ap, _∙_, List, arith, length, take, drop, Float}
+use Rattle.loops.proofs.Common.{ℕ, _+_, _*_, _≤_, _≡_, ap, _∙_, List, arith, length, take, drop, Float}
 use native.Mathlib.Nat.{mul-le-mul}
 use lib.Seq.{length-take-le}
 use Rattle.exact_pass.specs.Private.{Below, part, Free, Fit, Listed, RatioLent, DirectionLent, SystemLent, TargetLent, Scratch, Blocked, RayLent, StepLent, RunLent}
+use Rattle.exact_pass.specs.Pass as def
 use Rattle.exact_pass.specs.declared.Blocking.{Blocking}
+use Rattle.exact_pass.proofs.Stepping.{ratio-blocks}
 
 module _ {n : ℕ} {w lo hi scale : List Float} {st : List ℕ} {nu : List Float} (f : Fit n w lo hi scale st nu) where
   pub refit : {st′ : List ℕ} {nu′ : List Float} → length st′ ≡ length st → length nu′ ≡ length nu → Fit n w lo hi scale st′ nu′
@@ -15,7 +17,7 @@ module _ {n : ℕ} {w lo hi scale : List Float} {st : List ℕ} {nu : List Float
 
 module _ {n : ℕ} {w lo hi scale : List Float} {st : List ℕ} {nu : List Float} {l : List ℕ} {y : List Float} {rows : List ℕ} (s : StepLent n w lo hi scale st nu l y rows) where
   pub ratio-lent : RatioLent (length nu) lo hi l y
-  ratio-lent = rw (s .fit .values) (record { listed = s .listed; lower = s .fit .sized .2; upper = s .fit .sized .3; some = s .some })
+  ratio-lent = rw (s .fit .values) (record { listed = s .listed; lower = s .fit .sized .2; upper = s .fit .sized .3 })
 
   pub ray-lent : RayLent n w lo hi scale st l y rows
   ray-lent = record { sized = s .fit .sized; states = s .fit .states; listed = s .listed; list = s .list }
@@ -26,9 +28,10 @@ module _ {n : ℕ} {w lo hi scale : List Float} {st : List ℕ} {nu : List Float
   pub release-lent : {nu′ : List Float} → length nu′ ≡ length nu → Fit n w lo hi scale st nu′
   release-lent kept = record { sized = s .fit .sized; states = s .fit .states; values = kept ∙ s .fit .values }
 
-  pub hold-lent : {n′ : ℕ} {r : Blocking} → n′ ≡ length nu → r .row < length nu → r .state < 256 → Blocked n′ lo hi st r
-  hold-lent kept h b =
-      rw (kept, s .fit .values) (record { row = rw (s .fit .values) at h; lower = s .fit .sized .2; upper = s .fit .sized .3; states = s .fit .states; byte = b })
+  pub hold-lent : {n′ : ℕ} {r : Blocking} (alpha : Float) → n′ ≡ length nu → r ≡ def.ratioTest lo hi l nu y alpha (length l) → Blocked n′ lo hi st r
+  hold-lent alpha kept e =
+      let b = ratio-blocks lo hi l nu y alpha (s .some) (s .listed .below) in
+      rw (kept, s .fit .values, e) (record { row = b .row; lower = s .fit .sized .2; upper = s .fit .sized .3; states = s .fit .states; byte = b .byte })
 
 -- ---- a ray: d is to be the direction of all rows
 

@@ -1,8 +1,9 @@
 -- One step of a pass, from what its calls promise: one law for each return.
-use Rattle.loops.proofs.Common.{ℕ, _<_, _≡_, refl, sym, ap, _∙_, Bool, true, false, cond, List, [], _∷_, arith, length, Float, eq-eqb, ne-eqb}
+use Rattle.loops.proofs.Common.{ℕ, _<_, _≡_, refl, sym, ap, _∙_, Bool, true, false, cond, List, [], _∷_, arith, length, getD, Float, eq-eqb, ne-eqb}
+use Rattle.loops.proofs.Turns.{turns-keep}
 use lib.ListN.{replicate}
 use lib.Ieee.{lt}
-use Rattle.floats.specs.Ops.{_⊖_, _⊘_, 0ᶠ}
+use Rattle.floats.specs.Ops.{_⊖_, _⊘_, at, 0ᶠ}
 use Rattle.floats.specs.Helpers.{isFinite}
 use Rattle.box_rows.specs.Rows as box
 use Rattle.exact_pass.specs.Ray.{ray}
@@ -16,25 +17,30 @@ use Rattle.exact_pass.specs.declared.Exact.the-variants.{Moved, Failed, 
 
 -- ---- the blocking row is one of n rows, and its state is a byte
 
-abbrev pub Blocks : ℕ → Blocking → Type 0
-Blocks n r = (r .row < n) × (r .state < 256)
+pub record Blocks (n : ℕ) (r : Blocking) : Type 0 where
+  pub row : r .row < n
+  pub byte : r .state < 256
 
 nearer-blocks : {n a s : ℕ} (ratio : Float) (r : Blocking) → a < n → s < 256 → Blocks n r → Blocks n (private.nearer a s ratio r)
 unfolding private.nearer
 nearer-blocks {n = n} {a = a} {s = s} ratio r h b g = go (lt ratio (r .alpha)) refl
   where
     go : (c : Bool) → lt ratio (r .alpha) ≡ c → Blocks n (private.nearer a s ratio r)
-    go true e = rw e (h, b)
+    go true e = rw e (record { row = h; byte = b })
     go false e = rw e g
 
-pub ratio-row-blocks : (n a : ℕ) (v y lo hi : Float) (r q : Blocking) → q ≡ private.ratioRow a v y lo hi r → a < n → Blocks n r → Blocks n q
+row-blocks : {n : ℕ} (a : ℕ) (v y lo hi : Float) (r : Blocking) → a < n → Blocks n r → Blocks n (private.ratioRow a v y lo hi r)
 unfolding private.ratioRow
-ratio-row-blocks n a v y lo hi r q e h g = rw e (go (lt 0ᶠ y) (lt y 0ᶠ))
+row-blocks {n = n} a v y lo hi r h g = go (lt 0ᶠ y) (lt y 0ᶠ)
   where
     go : (b c : Bool) → Blocks n (cond b (private.nearer a 2 ((hi ⊖ v) ⊘ y) r) (cond c (private.nearer a 1 ((lo ⊖ v) ⊘ y) r) r))
     go true c = nearer-blocks ((hi ⊖ v) ⊘ y) r h (omega arith) g
     go false true = nearer-blocks ((lo ⊖ v) ⊘ y) r h (omega arith) g
     go false false = g
+
+pub ratio-blocks : {n : ℕ} (lo hi : List Float) (l : List ℕ) (nu y : List Float) (alpha : Float) → 0 < n → private.Below n l → Blocks n (def.ratioTest lo hi l nu y alpha (length l))
+unfolding def.ratioTest private.ratioRow private.nearer
+ratio-blocks {n = n} lo hi l nu y alpha some below = turns-keep _ _ (λ i r. Blocks n r) (length l) (omega arith) λ i r b g. row-blocks (getD l i 0) (at nu (getD l i 0)) (at y i) (at lo (getD l i 0)) (at hi (getD l i 0)) r (below i b) g
 
 -- ---- no bound is met
 

@@ -15,7 +15,7 @@ use Rattle.box_rows.specs.Private as lists
 use Rattle.exact_pass.specs.Ray.{ray}
 use Rattle.exact_pass.specs.Pass as def
 use Rattle.exact_pass.specs.Walk as walks
-use Rattle.exact_pass.specs.Promise.{Front, Passed}
+use Rattle.exact_pass.specs.Promise.{Passed}
 use Rattle.exact_pass.specs.declared.Blocking.{Blocking}
 use Rattle.exact_pass.specs.declared.Worst.{Worst}
 use Rattle.exact_pass.specs.declared.Mark.{Mark}
@@ -80,7 +80,6 @@ pub record RatioLent (n : ℕ) (lo hi : List Float) (l : List ℕ) (y : List Flo
   pub listed : Listed n l y
   pub lower : length lo ≡ n
   pub upper : length hi ≡ n
-  pub some : 0 < n
 
 -- what the direction is made from: the solution z of the free rows l
 pub record DirectionLent (n : ℕ) (scale : List Float) (l : List ℕ) (z y : List Float) : Type 0 where

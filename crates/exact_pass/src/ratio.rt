@@ -1,6 +1,5 @@
 // The ratio test, and the step that it allows.
 ghost use mathlib.Core.Path.{_≡_};
-ghost use Prim.Native.Nat.{_<_};
 ghost use lib.ListN.{length};
 ghost use Rattle.exact_pass.specs.Pass as def;
 ghost use Rattle.exact_pass.specs.Private as private;
@@ -43,10 +42,8 @@ pub fn ratio_test(
     alpha: f64,
 ) -> Blocking
     requires { ⌜ private.RatioLent (length (now nu)) (now lo) (now hi) (now free) (now y) ⌝ }
-    ensures { λ q. ⌜ (q
-        ≡ def.ratioTest (now (lo .entry)) (now (hi .entry)) (now (free .entry)) (now (nu .entry)) (now (y .entry))
-        alpha (length (now (free .entry))))
-        × (q .row < length (now (nu .entry))) × (q .state < 256) ⌝ }
+    ensures { λ q. ⌜ q ≡ def.ratioTest (now (lo .entry)) (now (hi .entry)) (now (free .entry)) (now (nu .entry))
+        (now (y .entry)) alpha (length (now (free .entry))) ⌝ }
 {
     let k = free.len();
     let mut r = Blocking {

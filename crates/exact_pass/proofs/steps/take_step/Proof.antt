@@ -16,7 +16,7 @@ hold-requires : tie.Need-hold-requires
 hold-requires c κs =
     let at-advance = c .before .before .before .before .before .before in
     let at-test = at-advance .before .before .before .before in
-    hold-lent (entry at-test .pre) (at-advance .advance .kept .1 .1 .1 .0) (at-test .ratio-test .ensures .1) (at-test .ratio-test .ensures .2)
+    hold-lent (entry at-test .pre) _ (at-advance .advance .kept .1 .1 .1 .0) (at-test .ratio-test .ensures)
 
 pub take-step-spec : {M : Type 1} → this.Statement.statement M
 take-step-spec =
