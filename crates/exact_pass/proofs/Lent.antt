@@ -75,9 +75,6 @@ Kept st nu q work st′ nu′ q′ work′ = (length st′ ≡ length st) × ((l
 
 module _ {n : ℕ} {w lo hi scale : List Float} {st : List ℕ} {nu : List Float} {rows : List ℕ} {work : List Float} where
   module _ (r : RunLent n w lo hi scale st nu rows work) where
-    pub states-few : length st ≤ 32
-    states-few = rw (r .fit .states) (r .fit .sized .0)
-
     -- by its k free rows
     module _ {f : List ℕ} {k : ℕ} {free : List ℕ} (g : Free f (length st) k free) where
       few : k ≤ n

@@ -6,7 +6,7 @@ use mathlib.Core.List.{List, []}
 use lib.Dec.{eqb}
 use lib.ListN.{getD, set, length, take, drop, replicate}
 use lib.Ieee.{Float, nan, lt, le, neg}
-use Rattle.loops.specs.Loops.{turns, tab}
+use Rattle.loops.specs.Loops.{turns, tab, counted, noted}
 use Rattle.loops.specs.Updates.{updated}
 use Rattle.floats.specs.Ops.{_⊕_, _⊖_, _⊗_, _⊘_, at, 0ᶠ, 1e6, 1e-9}
 use Rattle.floats.specs.Helpers.{larger, abs, isFinite}
@@ -69,6 +69,11 @@ pub record CountedRow (A : Type 0) (n i k : ℕ) : Type 0 where
   pub lists : A
   pub row : i < n
   pub count : k ≤ i
+
+-- what A says of the rows, and that l has room for n of them
+pub record Listing (A : Type 0) (n : ℕ) (l : List ℕ) : Type 0 where
+  pub rows : A
+  pub list : n ≤ length l
 
 -- l lists some of n rows, and y has a value for each of them
 pub record Listed (n : ℕ) (l : List ℕ) (y : List Float) : Type 0 where
@@ -146,6 +151,11 @@ pub record MarksLent (n : ℕ) (st : List ℕ) (work : List Float) (marks : List
   pub long : n ≤ length marks
 
 -- ---- what they leave
+
+-- k and the row list l after row i, where b tells whether it is noted
+pub record Noted (b : Bool) (i k : ℕ) (l : List ℕ) (k′ : ℕ) (l′ : List ℕ) : Type 0 where
+  pub count : k′ ≡ counted b k
+  pub listed : l′ ≡ noted b l k i
 
 -- the start x, with at most m rows that act
 pub record Started (x : def.Start) (m : ℕ) (nu : List Float) (st : List ℕ) (k : ℕ) : Type 0 where

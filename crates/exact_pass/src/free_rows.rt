@@ -1,17 +1,14 @@
 // The free rows: those strictly inside their boxes (`stuck` in boxed.rs).
-ghost use mathlib.Core.Path.{_≡_};
-ghost use Prim.Native.Nat.{_≤_, _<_};
+ghost use Prim.Native.Nat.{_+_, _≤_, _<_};
 ghost use lib.Dec.{eqb};
 ghost use lib.ListN.{length};
-ghost use Rattle.loops.specs.Loops.{counted, noted};
 ghost use Rattle.exact_pass.specs.Pass as def;
 ghost use Rattle.exact_pass.specs.Private as private;
 use crate::read;
 
 fn free_row(state: u8, i: usize, k: usize, free: &mut [u8]) -> usize
-    requires { ⌜ (k < length (now free)) × (i < 32) ⌝ }
-    ensures { λ q. ⌜
-        (q ≡ counted (eqb state 0) k) × (now (free .exit) ≡ noted (eqb state 0) (now (free .entry)) k i) ⌝ }
+    requires { ⌜ private.Listing (i < 32) (k + 1) (now free) ⌝ }
+    ensures { λ q. ⌜ private.Noted (eqb state 0) i k (now (free .entry)) q (now (free .exit)) ⌝ }
 {
     if state == box_rows::INSIDE {
         read::put_state(free, k, i as u8);
@@ -22,7 +19,7 @@ fn free_row(state: u8, i: usize, k: usize, free: &mut [u8]) -> usize
 
 // They stand at the front of `free`, rising, a byte each; how many there are.
 pub fn free_rows(states: &[u8], free: &mut [u8]) -> usize
-    requires { ⌜ (length (now states) ≤ length (now free)) × (length (now states) ≤ 32) ⌝ }
+    requires { ⌜ private.Listing (length (now states) ≤ 32) (length (now states)) (now free) ⌝ }
     ensures { λ q. ⌜ private.Free (def.freeRows (now (states .entry)) (length (now (states .entry))))
         (length (now (states .entry))) q (now (free .exit)) ⌝ }
 {

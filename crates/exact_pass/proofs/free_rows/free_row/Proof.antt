@@ -5,11 +5,11 @@ use this.Tie as tie
 
 returns : tie.Need-returns
 unfolding counted noted
-returns c = rw (eq-eqb _ _ (c .before .before .before .before .if1 .taken)) (add-one _, c .before .before .put-state .ensures)
+returns c = rw (eq-eqb _ _ (c .before .before .before .before .if1 .taken)) (record { count = add-one _; listed = c .before .before .put-state .ensures })
 
 returns-2 : tie.Need-returns-2
 unfolding counted noted
-returns-2 c = rw (ne-eqb _ _ (c .if1 .left)) (refl, refl)
+returns-2 c = rw (ne-eqb _ _ (c .if1 .left)) (record { count = refl; listed = refl })
 
 pub free-row-spec : {M : Type 1} → this.Statement.statement M
 free-row-spec =

@@ -16,8 +16,8 @@ loop-again : tie.Need-loop-again Inv-loop μ-loop
 loop-again c =
     let at-free-row = c .before .before in
     let at-state = at-free-row .before .before in
-    let at-loop = at-state .before .before in
-    (search needs, search needs, search needs, gather-again _ _ _ _ _ _ _ (at-loop .loop .inv .3) (rw (← at-state .state .ensures) (at-free-row .free-row .ensures .0)) (rw (← at-state .state .ensures) (at-free-row .free-row .ensures .1)))
+    let noted = rw (at-state .state .ensures) at (at-free-row .free-row .ensures) in
+    (search needs, search needs, search needs, gather-again _ _ _ _ _ _ _ (at-state .before .before .loop .inv .3) (noted .count) (noted .listed))
 
 pub free-rows-spec : {M : Type 1} → this.Statement.statement M
 free-rows-spec =
@@ -27,7 +27,7 @@ free-rows-spec =
     μ-loop
     (λ c. (search needs, search needs, search needs, gather-start _ _))
     (λ c κs. omega arith)
-    (λ c κs. (omega (arith, gather-le _ _ _ _ _ (c .before .before .before .loop .inv .3)), omega arith))
+    (λ c κs. omega (arith, gather-le _ _ _ _ _ (c .before .before .before .loop .inv .3)))
     (λ c. omega arith)
     (λ c. omega arith)
     loop-again

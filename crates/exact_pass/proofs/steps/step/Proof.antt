@@ -1,7 +1,7 @@
 use Rattle.loops.proofs.Common.{refl, sym, arith, needs}
 use lib.Seq.{length-take-le}
 use Rattle.exact_pass.proofs.Stepping.{step-released, step-free}
-use Rattle.exact_pass.proofs.Lent.{states-few, free-few, system-lent, step-lent}
+use Rattle.exact_pass.proofs.Lent.{free-few, system-lent, step-lent}
 use Rattle.exact_pass.proofs.steps.step as this
 use this.Tie as tie
 
@@ -43,7 +43,7 @@ step-spec =
     tie.close
     (tie.spec
     (λ c. search needs)
-    (λ c κs. let few = states-few (c .before .before .before .before .before .before .before .before .before .before .before .pre) in (few, few))
+    (λ c κs. omega arith)
     (λ c κs. c .before .before .before .before .before .before .before .before .before .before .before .before .before .before .before .before .pre .fit)
     (λ c. omega arith)
     (λ c. refl)
