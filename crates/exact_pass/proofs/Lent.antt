@@ -4,7 +4,7 @@ use Rattle.floats.specs.Ops.{0ᶠ}
 use Rattle.loops.proofs.Common.{ℕ, _+_, _*_, _≤_, _≡_, ap, _∙_, List, arith, length, take, drop, Float}
 use native.Mathlib.Nat.{mul-le-mul}
 use lib.Seq.{length-take-le}
-use Rattle.exact_pass.specs.Private.{Below, part, Free, Fit, Listed, RatioLent, DirectionLent, SystemLent, TargetLent, Scratch, Blocked, RayLent, StepLent, RunLent}
+use Rattle.exact_pass.specs.Private.{Below, part, Free, Fit, Listing, Listed, RatioLent, DirectionLent, SystemLent, TargetLent, Scratch, Blocked, RayLent, StepLent, RunLent}
 use Rattle.exact_pass.specs.Pass as def
 use Rattle.exact_pass.specs.declared.Blocking.{Blocking}
 use Rattle.exact_pass.proofs.Stepping.{ratio-blocks}
@@ -39,8 +39,8 @@ module _ {n : ℕ} {w lo hi scale : List Float} {st l : List ℕ} {y : List Floa
   pub scatter-lent : Listed (length d) l y
   scatter-lent = rw (e, length-replicate) (r .listed)
 
-  pub scattered-lent : {d′ : List Float} → length d′ ≡ length d → Fit n w lo hi scale st d′ × (n ≤ length rows)
-  scattered-lent h = (record { sized = r .sized; states = r .states; values = h ∙ ap length e ∙ length-replicate n 0ᶠ }, r .list)
+  pub scattered-lent : {d′ : List Float} → length d′ ≡ length d → Listing (Fit n w lo hi scale st d′) n rows
+  scattered-lent h = record { rows = record { sized = r .sized; states = r .states; values = h ∙ ap length e ∙ length-replicate n 0ᶠ }; list = r .list }
 
 -- ---- the direction of the free rows, in scratch
 

@@ -5,7 +5,7 @@ use borrow.Author.Tests.{le-leb, lt-leb, leb-true, eqb-true}
 use Rattle.box_rows.specs.Rows as box
 use Rattle.exact_pass.specs.Ray.{ray}
 use Rattle.exact_pass.specs.Promise.{fits, reply, rayReply, Left, Front}
-use Rattle.exact_pass.specs.Private.{Fit, Ran}
+use Rattle.exact_pass.specs.Private.{Fit, Listing, Ran}
 use Rattle.exact_pass.specs.declared.Exact.{Exact}
 use Rattle.exact_pass.specs.declared.Exact.the-variants.{Failed}
 
@@ -13,7 +13,7 @@ both : (a b : Bool) → (a && b) ≡ true → (a ≡ true) × (b ≡ true)
 both true b e = (refl, e)
 both false b e = absurd (true≢false (sym e))
 
-pub fits-lengths : (p : box.Problem) (st : List ℕ) (v : List Float) (rows : List ℕ) {b : Bool} → b ≡ fits p st v rows → b ≡ true → Fit (box.size p) (p .w) (p .lo) (p .hi) (p .scale) st v × (box.size p ≤ length rows)
+pub fits-lengths : (p : box.Problem) (st : List ℕ) (v : List Float) (rows : List ℕ) {b : Bool} → b ≡ fits p st v rows → b ≡ true → Listing (Fit (box.size p) (p .w) (p .lo) (p .hi) (p .scale) st v) (box.size p) rows
 fits-lengths p st v rows h e =
     let g = both _ _ (sym h ∙ e) in
     let f = both _ _ (g .0) in
@@ -21,14 +21,15 @@ fits-lengths p st v rows h e =
     let d = both _ _ (s .0) in
     let c = both _ _ (d .0) in
     let b = both _ _ (c .0) in
-    let a = both _ _ (b .0) in (
-      record {
+    let a = both _ _ (b .0) in
+    record {
+      rows = record {
         sized = (leb-true _ _ (a .0), eqb-true _ _ (a .1), eqb-true _ _ (b .1), eqb-true _ _ (c .1), eqb-true _ _ (d .1));
         states = eqb-true _ _ (s .1);
         values = eqb-true _ _ (f .1);
-      },
-      leb-true _ _ (g .1),
-    )
+      };
+      list = leb-true _ _ (g .1);
+    }
 
 module _ (p : box.Problem) (st : List ℕ) (nu : List Float) (rows : List ℕ) (work : List Float) where
   pub left-short : length work < 1120 → Left p st nu rows work Failed st nu rows work

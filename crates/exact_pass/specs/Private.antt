@@ -70,6 +70,11 @@ pub record CountedRow (A : Type 0) (n i k : ℕ) : Type 0 where
   pub row : i < n
   pub count : k ≤ i
 
+-- what A says of the lists, and that l lists some of n rows
+pub record Rows (A : Type 0) (n : ℕ) (l : List ℕ) : Type 0 where
+  pub lists : A
+  pub below : Below n l
+
 -- what A says of the rows, and that l has room for n of them
 pub record Listing (A : Type 0) (n : ℕ) (l : List ℕ) : Type 0 where
   pub rows : A
@@ -79,6 +84,17 @@ pub record Listing (A : Type 0) (n : ℕ) (l : List ℕ) : Type 0 where
 pub record Listed (n : ℕ) (l : List ℕ) (y : List Float) : Type 0 where
   pub below : Below n l
   pub long : length y ≡ length l
+
+-- what the largest of the sizes of n rows is found from
+pub record SizesLent (n : ℕ) (scale : List Float) (st : List ℕ) : Type 0 where
+  pub scales : length scale ≡ n
+  pub states : length st ≡ n
+
+-- what shows whether a problem of n rows falls along the rows of l
+pub record FallsLent (n : ℕ) (w uFree : List Float) (l : List ℕ) : Type 0 where
+  pub square : lists.Square w n
+  pub motions : length uFree ≡ n
+  pub below : Below n l
 
 -- what the ratio test is lent, for the free rows l and their direction y
 pub record RatioLent (n : ℕ) (lo hi : List Float) (l : List ℕ) (y : List Float) : Type 0 where

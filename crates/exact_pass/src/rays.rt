@@ -4,7 +4,7 @@ ghost use mathlib.Core.Bool.{not, cond};
 ghost use Prim.Native.Nat.{_≤_, _<_};
 ghost use lib.Dec.{eqb};
 ghost use lib.ListN.{length};
-ghost use Rattle.loops.specs.Loops.{counted, noted, fronted};
+ghost use Rattle.loops.specs.Loops.{fronted};
 ghost use Rattle.floats.specs.Helpers.{larger};
 ghost use Rattle.box_rows.specs.Rows as box;
 ghost use Rattle.box_rows.specs.Private as lists;
@@ -22,8 +22,7 @@ fn size(y: f64, s: f64) -> f64
 }
 
 fn larger_row(scale: &[f64], states: &[u8], y: &[f64], a: usize, worst: f64) -> f64
-    requires { ⌜ (a < length (now y)) × (length (now scale) ≡ length (now y))
-        × (length (now states) ≡ length (now y)) ⌝ }
+    requires { ⌜ private.Row (private.SizesLent (length (now y)) (now scale) (now states)) (length (now y)) a ⌝ }
     ensures { λ q. ⌜ q ≡ private.largestRow (now (scale .entry)) (now (states .entry)) (now (y .entry)) a worst ⌝ }
 {
     if read::state(states, a) == box_rows::IDLE {
@@ -33,7 +32,7 @@ fn larger_row(scale: &[f64], states: &[u8], y: &[f64], a: usize, worst: f64) -> 
 }
 
 fn largest(scale: &[f64], states: &[u8], y: &[f64]) -> f64
-    requires { ⌜ (length (now scale) ≡ length (now y)) × (length (now states) ≡ length (now y)) ⌝ }
+    requires { ⌜ private.SizesLent (length (now y)) (now scale) (now states) ⌝ }
     ensures { λ q. ⌜ q ≡ private.largest (now (scale .entry)) (now (states .entry)) (now (y .entry))
         (length (now (y .entry))) ⌝ }
 {
@@ -74,9 +73,8 @@ fn verdict(lo: f64, hi: f64, state: u8, size: f64, y: f64, least: f64) -> u8
 }
 
 fn taken(verdict: u8, a: usize, k: usize, list: &mut [usize]) -> usize
-    requires { ⌜ (k < length (now list)) × (length (now list) ≤ 32) ⌝ }
-    ensures { λ q. ⌜ (q ≡ counted (eqb verdict 1) k)
-        × (now (list .exit) ≡ noted (eqb verdict 1) (now (list .entry)) k a) ⌝ }
+    requires { ⌜ k < length (now list) ⌝ }
+    ensures { λ q. ⌜ private.Noted (eqb verdict 1) a k (now (list .entry)) q (now (list .exit)) ⌝ }
 {
     if verdict == 1 {
         read::put_number(list, k, a);
@@ -105,9 +103,9 @@ fn collect(
     least: f64,
     list: &mut [usize],
 ) -> Collected
-    requires { ⌜ (length (now y) ≤ length (now list)) × (length (now list) ≤ 32) × (length (now lo) ≡ length (now y))
-        × (length (now hi) ≡ length (now y)) × (length (now scale) ≡ length (now y))
-        × (length (now states) ≡ length (now y)) ⌝ }
+    requires { ⌜ private.Listing
+        (private.Scaled (length (now y)) (now lo) (now hi) (now scale) (now states))
+        (length (now y)) (now list) ⌝ }
     ensures { λ q. ⌜ private.Collecting
         (walks.walked (now (lo .entry)) (now (hi .entry)) (now (scale .entry)) (now (states .entry)) (now (y .entry))
         least (length (now (y .entry))))
@@ -144,7 +142,7 @@ fn collect(
 }
 
 fn linear(u_free: &[f64], y: &[f64], l: &[usize]) -> f64
-    requires { ⌜ private.Below (length (now y)) (now l) × (length (now «u_free») ≡ length (now y)) ⌝ }
+    requires { ⌜ private.Rows (length (now «u_free») ≡ length (now y)) (length (now y)) (now l) ⌝ }
     ensures { λ q. ⌜ q ≡ private.linear (now («u_free» .entry)) (now (y .entry)) (now (l .entry))
         (length (now (l .entry))) ⌝ }
 {
@@ -160,7 +158,7 @@ fn linear(u_free: &[f64], y: &[f64], l: &[usize]) -> f64
 }
 
 fn quadratic_row(row: &[f64], v: f64, y: &[f64], l: &[usize], quad: f64) -> f64
-    requires { ⌜ private.Below (length (now y)) (now l) × (length (now row) ≡ length (now y)) ⌝ }
+    requires { ⌜ private.Rows (length (now row) ≡ length (now y)) (length (now y)) (now l) ⌝ }
     ensures { λ q. ⌜ q ≡ private.quadraticRow (now (row .entry)) v (now (y .entry)) (now (l .entry)) quad
         (length (now (l .entry))) ⌝ }
 {
@@ -176,7 +174,7 @@ fn quadratic_row(row: &[f64], v: f64, y: &[f64], l: &[usize], quad: f64) -> f64
 }
 
 fn quadratic(w: &[f64], y: &[f64], l: &[usize]) -> f64
-    requires { ⌜ private.Below (length (now y)) (now l) × lists.Square (now w) (length (now y)) ⌝ }
+    requires { ⌜ private.Rows (lists.Square (now w) (length (now y))) (length (now y)) (now l) ⌝ }
     ensures { λ q. ⌜ q ≡ private.quadratic (now (w .entry)) (length (now (y .entry))) (now (y .entry)) (now (l .entry))
         (length (now (l .entry))) ⌝ }
 {
@@ -195,8 +193,7 @@ fn quadratic(w: &[f64], y: &[f64], l: &[usize]) -> f64
 // Along nu + t y the problem falls as t · lin + t² · quad / 2: without end if quad is zero, else to its least at
 // t = −lin / quad.
 fn falls(w: &[f64], u_free: &[f64], y: &[f64], l: &[usize], far: f64) -> bool
-    requires { ⌜ private.Below (length (now y)) (now l) × lists.Square (now w) (length (now y))
-        × (length (now «u_free») ≡ length (now y)) ⌝ }
+    requires { ⌜ private.FallsLent (length (now y)) (now w) (now «u_free») (now l) ⌝ }
     ensures { λ q. ⌜ q ≡ private.falls
         (private.linear (now («u_free» .entry)) (now (y .entry)) (now (l .entry)) (length (now (l .entry))))
         (private.quadratic (now (w .entry)) (length (now (y .entry))) (now (y .entry)) (now (l .entry))
@@ -236,8 +233,9 @@ pub fn ray(
     y: &[f64],
     rows: &mut [usize],
 ) -> usize
-    requires { ⌜ private.Fit (length (now «u_free»)) (now w) (now lo) (now hi) (now scale) (now states) (now y)
-        × (length (now «u_free») ≤ length (now rows)) ⌝ }
+    requires { ⌜ private.Listing
+        (private.Fit (length (now «u_free»)) (now w) (now lo) (now hi) (now scale) (now states) (now y))
+        (length (now «u_free»)) (now rows) ⌝ }
     ensures { λ q. ⌜ promise.Front
         (rays.ray
         (box.problem (now (w .entry)) (now («u_free» .entry)) (now (lo .entry)) (now (hi .entry)) (now (scale .entry)))

@@ -9,7 +9,7 @@ run-requires c κs =
     let at-fits2 = at-if2 .before in
     let at-if1 = at-fits2 .before in
     let a = at-if1 .before .before .before .before .before .before .before .before .before .before .args in
-    let g = fits-lengths (box.problem (a .w .now) (a .u-free .now) (a .lo .now) (a .hi .now) (a .scale .now)) (a .states .now) (a .nu .now) (a .rows .now) (at-fits2 .fits2 .ensures) (at-if2 .if2 .taken) in record { fit = g .0; list = g .1; workspace = at-if1 .if1 .left }
+    let g = fits-lengths (box.problem (a .w .now) (a .u-free .now) (a .lo .now) (a .hi .now) (a .scale .now)) (a .states .now) (a .nu .now) (a .rows .now) (at-fits2 .fits2 .ensures) (at-if2 .if2 .taken) in record { fit = g .rows; list = g .list; workspace = at-if1 .if1 .left }
 
 abbrev to-run : tie.After-slice-known8 → tie.After-run
 to-run c = c .before .before .before .before .before .before .before .before

@@ -23,7 +23,7 @@ quadratic-spec =
     (λ c κs. omega arith)
     (λ c κs. search (free-row, needs))
     (λ c κs. search (free-row, needs))
-    (λ c κs. (search needs, ap length (c .before .row .ensures) ∙ row-length _ _ _))
+    (λ c κs. record { lists = ap length (c .before .row .ensures) ∙ row-length _ _ _; below = search needs })
     (λ c. omega arith)
     (λ c. omega arith)
     (λ c. (omega arith, omega arith, omega arith, turns-again _ _ _ _ _ (c .before .before .before .before .before .loop .inv .3) (cc)))

@@ -11,5 +11,5 @@ taken-spec =
     (λ c κs. omega arith)
     (λ c. omega arith)
     (λ c. omega arith)
-    (λ c. rw (eq-eqb _ _ (c .before .before .before .before .if1 .taken)) (add-one _, c .before .before .put-number .ensures))
-    (λ c. rw (ne-eqb _ _ (c .if1 .left)) (refl, refl)))
+    (λ c. rw (eq-eqb _ _ (c .before .before .before .before .if1 .taken)) (record { count = add-one _; listed = c .before .before .put-number .ensures }))
+    (λ c. rw (ne-eqb _ _ (c .if1 .left)) (record { count = refl; listed = refl })))
