@@ -134,12 +134,12 @@ module _ {p : box.Problem} {most : ℕ} {b n : Now} (g : Going p most b n) where
         let round : def.steps p (private.marked (length nu) work (n .marks)) (n .mark .since + 1) ≡ moved (trial nu st) = rw (h .1 .0, s .workspace) since in
         record {
           bounded = g .bounded;
-          since = omega (arith, a .since, a .fewer, g .since, more-left);
+          since = omega (arith, a .since, a .left .fewer, g .since, more-left);
           span = a .span;
           lent = relent (g .lent) work h kept-work;
           workspace = kept-work ∙ h .1 .1 .1 .0 ∙ g .workspace;
           marks-long = kept-marks ∙ g .marks-long;
-          steps = g .steps ∙ more ∙ a .steps p round;
+          steps = g .steps ∙ more ∙ a .left .steps p round;
           round = a .round p round;
           listed = o .1 ∙ g .listed;
           beyond = a .beyond ∙ beyond-step;

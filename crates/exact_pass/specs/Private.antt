@@ -166,6 +166,18 @@ pub record MarksLent (n : ℕ) (st : List ℕ) (work : List Float) (marks : List
   pub workspace : 1120 ≤ length work
   pub long : n ≤ length marks
 
+-- the same, k steps after the mark was made, at least one
+pub record SinceLent (n : ℕ) (st : List ℕ) (work : List Float) (marks : List ℕ) (k : ℕ) : Type 0 where
+  pub lent : MarksLent n st work marks
+  pub some : 0 < k
+
+-- the same after a step, by the mark m before it, when some step was left
+pub record AfterLent (n : ℕ) (st : List ℕ) (work : List Float) (marks : List ℕ) (m : Mark) : Type 0 where
+  pub lent : MarksLent n st work marks
+  pub some : 0 < m .left
+  pub since : m .since + m .left ≤ 264
+  pub span : m .span ≤ 528
+
 -- ---- what they leave
 
 -- k and the row list l after row i, where b tells whether it is noted
@@ -231,11 +243,18 @@ pub record Collecting (c : walks.Walked) (n k : ℕ) (far : Float) (l : List ℕ
 abbrev pub marked : ℕ → List Float → List ℕ → def.Trial
 marked n work marks = def.trial (part 1088 n work) (take n marks)
 
--- After a step to the trial t, by the mark m before it: if the pass came to t from what was marked, it came to t from what is marked now, and so many steps left lead to the same.
-pub record MarkedOn (t : def.Trial) (m : Mark) (work : List Float) (marks : List ℕ) (m′ : Mark) (work′ : List Float) (marks′ : List ℕ) : Type 0 where
-  pub round : (p : box.Problem) → def.steps p (marked (length (t .nu)) work marks) (m .since + 1) ≡ def.moved t → def.steps p (marked (length (t .nu)) work′ marks′) (m′ .since) ≡ def.moved t
-  pub steps : (p : box.Problem) → def.steps p (marked (length (t .nu)) work marks) (m .since + 1) ≡ def.moved t → def.steps p t (m .left - 1) ≡ def.steps p t (m′ .left)
-  pub fewer : m′ .left ≤ m .left - 1
+-- if a pass comes to the trial t in k steps from the trial s, then i steps from t lead to the same as j of them
+pub record Shortened (s t : def.Trial) (k i j : ℕ) : Type 0 where
+  pub steps : (p : box.Problem) → def.steps p s k ≡ def.moved t → def.steps p t i ≡ def.steps p t j
+  pub fewer : j ≤ i
+
+-- After a step to the trial t, by the mark m before it: if the pass came to t from what was marked, it came to t from
+-- what is marked now, and so many steps left lead to the same.
+pub record MarkedOn (t : def.Trial) (m : Mark) (work : List Float) (marks : List ℕ) (m′ : Mark)
+    (work′ : List Float) (marks′ : List ℕ) : Type 0 where
+  pub round : (p : box.Problem) → def.steps p (marked (length (t .nu)) work marks) (m .since + 1) ≡ def.moved t
+      → def.steps p (marked (length (t .nu)) work′ marks′) (m′ .since) ≡ def.moved t
+  pub left : Shortened (marked (length (t .nu)) work marks) t (m .since + 1) (m .left - 1) (m′ .left)
   pub since : m′ .since ≤ m .since + 1
   pub span : m′ .span ≤ 528
   pub beyond : drop 1120 work′ ≡ drop 1120 work

@@ -3,9 +3,8 @@
 // workspace, past least norm's part.
 ghost use mathlib.Core.Path.{_≡_};
 ghost use mathlib.Core.Bool.{true};
-ghost use Prim.Native.Nat.{_+_, _≤_, _<_};
-ghost use lib.ListN.{length, take, drop};
-ghost use Rattle.box_rows.specs.Rows as box;
+ghost use Prim.Native.Nat.{_≤_};
+ghost use lib.ListN.{length, take};
 ghost use Rattle.exact_pass.specs.Pass as def;
 ghost use Rattle.exact_pass.specs.Private as private;
 use crate::Mark;
@@ -53,13 +52,10 @@ fn left_after(
     since: usize,
     left: usize,
 ) -> usize
-    requires { ⌜ private.MarksLent (length (now nu)) (now states) (now work) (now marks) × (0 < since) ⌝ }
-    ensures { λ q. ⌜ ((p : box.Problem)
-        → def.steps p (private.marked (length (now (nu .entry))) (now (work .entry)) (now (marks .entry))) since
-        ≡ def.moved (def.trial (now (nu .entry)) (now (states .entry)))
-        → def.steps p (def.trial (now (nu .entry)) (now (states .entry))) left
-        ≡ def.steps p (def.trial (now (nu .entry)) (now (states .entry))) q)
-        × (q ≤ left) ⌝ }
+    requires { ⌜ private.SinceLent (length (now nu)) (now states) (now work) (now marks) since ⌝ }
+    ensures { λ q. ⌜ private.Shortened
+        (private.marked (length (now (nu .entry))) (now (work .entry)) (now (marks .entry)))
+        (def.trial (now (nu .entry)) (now (states .entry))) since left q ⌝ }
 {
     if same_trial(nu, states, work, marks) {
         return left % since;
@@ -70,7 +66,7 @@ fn left_after(
 // The states marked.
 pub fn mark_states(states: &[u8], marks: &mut [u8])
     requires { ⌜ length (now states) ≤ length (now marks) ⌝ }
-    ensures { λ q. ⌜ take (length (now (states .entry))) (now (marks .exit)) ≡ (now (states .entry)) ⌝ }
+    ensures { λ q. ⌜ take (length (now (states .entry))) (now (marks .exit)) ≡ now (states .entry) ⌝ }
 {
     let n = states.len();
     let mut i = 0;
@@ -82,8 +78,7 @@ pub fn mark_states(states: &[u8], marks: &mut [u8])
 
 // After a step: a cycle cuts the steps that are left, and the mark is set anew after 2, 4, 8 .. steps (Brent).
 pub fn after_step(nu: &[f64], states: &[u8], work: &mut [f64], marks: &mut [u8], m: Mark) -> Mark
-    requires { ⌜ private.MarksLent (length (now nu)) (now states) (now work) (now marks) × (0 < m .left)
-        × (m .since + m .left ≤ 264) × (m .span ≤ 528) ⌝ }
+    requires { ⌜ private.AfterLent (length (now nu)) (now states) (now work) (now marks) m ⌝ }
     ensures { λ q. ⌜ private.MarkedOn (def.trial (now (nu .entry)) (now (states .entry))) m
         (now (work .entry)) (now (marks .entry)) q (now (work .exit)) (now (marks .exit)) ⌝ }
 {

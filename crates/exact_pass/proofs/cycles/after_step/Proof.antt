@@ -6,20 +6,17 @@ use this.Tie as tie
 
 returns : tie.Need-returns
 returns c =
-    let left = c .before .before .left-after .ensures in
     let p = c .before .before .before .before .before .before .before .before .before .before .before .pre in
-    record { round = λ s h. h; steps = left .0; fewer = left .1; since = omega arith; span = p .3; beyond = refl }
+    record { round = λ s h. h; left = c .before .before .left-after .ensures; since = omega arith; span = p .span; beyond = refl }
 
 returns-2 : tie.Need-returns-2
 returns-2 c =
     let at-copy = c .before .before .before .before .before .before .before in
-    let left = at-copy .before .before .before .before .left-after .ensures in
     let at-entry = at-copy .before .before .before .before .before .before .before .before .before .before .before .before .before in
     let p = at-entry .pre in
     record {
-      round = λ s h. marked-new s _ _ _ _ (at-copy .copy .ensures .part) (rw (p .0 .states) at (c .before .before .before .mark-states .ensures));
-      steps = left .0;
-      fewer = left .1;
+      round = λ s h. marked-new s _ _ _ _ (at-copy .copy .ensures .part) (rw (p .lent .states) at (c .before .before .before .mark-states .ensures));
+      left = at-copy .before .before .before .before .left-after .ensures;
       since = omega arith;
       span = omega (arith, p, at-copy .before .before .if1 .left);
       beyond = later (1088 + length (at-entry .args .nu .now)) 1120 _ _ (omega (arith, p)) (at-copy .copy .ensures .after);
@@ -31,7 +28,7 @@ after-step-spec =
     (tie.spec
     (λ c. omega arith)
     (λ c. omega arith)
-    (λ c κs. (c .before .before .before .before .before .before .before .before .pre .0, omega arith))
+    (λ c κs. omega arith)
     (λ c. omega arith)
     (λ c. omega arith)
     returns

@@ -10,5 +10,5 @@ left-after-spec =
     (tie.spec
     (λ c κs. search needs)
     (λ c. search needs)
-    (λ c. (left-is _ _ _ _ (c .before .same-trial .ensures (c .if1 .taken)), mod-le _ _))
-    (λ c. (λ p h. refl, omega arith)))
+    (λ c. record { steps = left-is _ _ _ _ (c .before .same-trial .ensures (c .if1 .taken)); fewer = mod-le _ _ })
+    (λ c. record { steps = λ p h. refl; fewer = omega arith }))

@@ -1,5 +1,5 @@
 use Rattle.loops.proofs.Common.{_-_, _≤_, _≡_, refl, arith, length, take, needs}
-use Rattle.loops.proofs.Paste.{front-read, front-start, front-again, front-done}
+use Rattle.loops.proofs.Paste.{front-read, front-again, front-done}
 use Rattle.loops.specs.Loops.{pasted}
 use Rattle.exact_pass.proofs.cycles.mark_states as this
 use this.Tie as tie
@@ -27,7 +27,7 @@ mark-states-spec =
     (tie.spec
     Inv-loop
     μ-loop
-    (λ c. search (front-start, needs))
+    (λ c. search needs)
     (λ c κs. omega arith)
     (λ c κs. omega arith)
     (λ c. omega arith)

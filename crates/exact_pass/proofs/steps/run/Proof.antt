@@ -65,11 +65,10 @@ stepped-marks c = let kept = c .step .kept .1 .1 .1 .1 .1 in marks-lent (to-loop
 after-step-requires : tie.Need-after-step-requires Inv-loop μ-loop
 after-step-requires c κs =
     let at-step = c .before .before .before .before .before .before .before .before .before .before .before .before .before .before in
-    let i = to-loop at-step .loop .inv in
-    (stepped-marks at-step, at-step .before .before .before .before .before .if1 .taken, omega (arith, i .since, i .bounded), i .span)
+    omega (arith, stepped-marks at-step, at-step .before .before .before .before .before .if1 .taken, to-loop at-step .loop .inv)
 
 loop-less : tie.Need-loop-less Inv-loop μ-loop
-loop-less c = omega (arith, c .before .before .before .after-step .ensures .fewer, c .before .before .before .before .before .before .before .before .before .before .before .before .before .before .before .before .before .before .before .before .before .before .before .if1 .taken)
+loop-less c = omega (arith, c .before .before .before .after-step .ensures .left .fewer, c .before .before .before .before .before .before .before .before .before .before .before .before .before .before .before .before .before .before .before .before .before .before .before .if1 .taken)
 
 loop-again : tie.Need-loop-again Inv-loop μ-loop
 loop-again c =
