@@ -6,7 +6,7 @@ use mathlib.Core.List.{List, [], _∷_, _++_}
 use native.Mathlib.Omega.{arith}
 use native.Mathlib.Numerals.{add-one}
 use lib.Dec.{eqb}
-use lib.ListN.{length, getD, take, drop, drop-of-length-le, length-drop}
+use lib.ListN.{length, getD, take, drop, drop-of-length-le, length-take, length-drop}
 use lib.Seq.{drop-cons, drop-at, take-at, length-take-le}
 use lib.Ieee.{Float}
 use borrow.Author.Tests.{eq-eqb, ne-eqb, le-leb}
@@ -22,7 +22,7 @@ use Rattle.boxed.specs.declared.Counts.{Counts}
 use Rattle.boxed.specs.declared.Sweeping.{Sweeping}
 use Rattle.boxed.specs.declared.Sweeping.the-variants as sweeping
 use Rattle.boxed.specs.Solve as def
-use Rattle.boxed.specs.Private.{USED, Lent, Worked, Counted, Settled}
+use Rattle.boxed.specs.Private.{PASS-USED, USED, Lent, Worked, Counted, Settled}
 use Rattle.boxed.proofs.Testing.{all-fit}
 
 -- ---- the table of checkpoints as a loop goes through it: l is the table, r what is behind it
@@ -82,31 +82,27 @@ settled e x v nu g nu′ i a n st₀ c (infeasible r t) l₀ st l h =
 
 -- ---- a pass whose lists fit
 
-pub mid-length : (a n : ℕ) (w : List Float) → a + n ≤ length w → length (take (a + n - a) (drop a w)) ≡ n
-mid-length a n w h = let k : a + n - a ≡ n = omega arith in rw k (length-take-le n (drop a w) (omega (arith, length-drop a w)))
+-- a workspace w with multipliers t kept at its n places from a on
+abbrev pub keeping : ℕ → ℕ → List Float → List Float → List Float
+keeping a n w t = putMid a (a + n - a) w t
 
-pub put-length : (a n : ℕ) (w t : List Float) → a + n ≤ length w → length t ≡ n → length (putMid a (a + n - a) w t) ≡ length w
-put-length a n w t h l = same-len-mid a (a + n - a) w t (l ∙ sym (mid-length a n w h))
+put-length : (a n : ℕ) (w t : List Float) → a + n ≤ length w → length t ≡ n → length (keeping a n w t) ≡ length w
+put-length a n w t h l = same-len-mid a (a + n - a) w t (omega (arith, length-take (a + n - a) (drop a w), length-drop a w))
 
--- ---- multipliers t kept in a workspace w from place a on, of which w′ is what a pass over the places before leaves
+-- w′ has t at these places, and past the 32 that multipliers take at most it is w
+pub record Keeps (a n : ℕ) (w t w′ : List Float) : Type 0 where
+  pub part : take (a + n - a) (drop a w′) ≡ t
+  pub beyond : drop (a + 32) w′ ≡ drop (a + 32) w
 
-module _ (a n : ℕ) (w t w′ : List Float) (within : a + n ≤ length w) (long : length t ≡ n) (kept : drop a w′ ≡ drop a (putMid a (a + n - a) w t)) where
-  kept-part : take (a + n - a) (drop a w′) ≡ t
-  kept-part =
-      let k : a + n - a ≡ n = omega arith in
-      rw (kept, drop-at (take a w) (t ++ postOf a (a + n - a) w) a (length-take-le a w (omega arith)), k, take-at t (postOf a n w) n long)
-
-  kept-beyond : (b : ℕ) → a + n ≤ b → drop b w′ ≡ drop b w
-  kept-beyond b h =
-      later a b w′ (putMid a (a + n - a) w t) (omega arith) kept
-      ∙ later (a + n) b (putMid a (a + n - a) w t) w h (drop-put a (a + n) w t (omega arith) within (omega (arith, long)))
-
--- where the multipliers are kept in a workspace of a problem p
-abbrev kept-to : box.Problem → ℕ
-kept-to p = WORKSPACE + box.size p
-
-abbrev keeping : box.Problem → List Float → List Float → List Float
-keeping p work t = putMid WORKSPACE (kept-to p - WORKSPACE) work t
+-- w′ is what a pass over the places before leaves
+pub keeps : (a n : ℕ) (w t w′ : List Float) → n ≤ 32 → a + 32 ≤ length w → length t ≡ n → drop a w′ ≡ drop a (keeping a n w t) → Keeps a n w t w′
+keeps a n w t w′ few room long kept =
+    let k : a + n - a ≡ n = omega arith in
+    record {
+      part = rw (kept, drop-at (take a w) (t ++ postOf a (a + n - a) w) a (length-take-le a w (omega arith)), k, take-at t (postOf a n w) n long);
+      beyond = later a (a + 32) w′ (keeping a n w t) (omega arith) kept
+          ∙ later (a + n) (a + 32) (keeping a n w t) w (omega arith) (drop-put a (a + n) w t (omega arith) (omega arith) (omega (arith, long)));
+    }
 
 module _ (p : box.Problem) (st : List ℕ) (nu : List Float) (rows : List ℕ) (work : List Float) (z : Lent p st nu rows work)
     (e : Exact) (st′ : List ℕ) (v : List Float) (rows′ : List ℕ) (work′ : List Float) where
@@ -118,19 +114,16 @@ module _ (p : box.Problem) (st : List ℕ) (nu : List Float) (rows : List ℕ) (
       (rw (le-leb _ _ q, f) at (h .passed), rw (le-leb _ _ q, f) at (h .workspace))
 
   -- t is the copy of the multipliers that is kept
-  pub attempted : (t : List Float) (g : Sweeping) (nu′ : List Float) → t ≡ nu → Left p st nu rows (keeping p work t) e st′ v rows′ work′
-      → Settled e v (take (kept-to p - WORKSPACE) (drop WORKSPACE work′)) g nu′
-      → (c : Counts) → Worked (def.passed (def.iterate nu st c) (exactPass p st nu)) rows work g nu′ st′ c rows′ work′
+  pub attempted : (t : List Float) (g : Sweeping) (nu′ : List Float) → t ≡ nu → Left p st nu rows (keeping WORKSPACE (box.size p) work t) e st′ v rows′ work′
+      → Settled e v (take (WORKSPACE + box.size p - WORKSPACE) (drop WORKSPACE work′)) g nu′
+      → (c : Counts) → Worked PASS-USED (def.passed (def.iterate nu st c) (exactPass p st nu)) rows work g nu′ st′ c rows′ work′
   attempted t g nu′ s h k c =
-      let few : box.size p ≤ 32 = z .lists .matrix .few in
+      let few = z .lists .matrix .few in
       let long : USED ≤ length work = z .workspace in
       let l : length t ≡ box.size p = ap length s ∙ z .lists .matrix .multipliers in
-      let q : length (keeping p work t) ≡ length work = put-length WORKSPACE (box.size p) work t (omega arith) l in
-      let x = accepted (keeping p work t) (omega arith) h in
-      record {
-        ran = (rw (kept-part WORKSPACE (box.size p) work t work′ (omega arith) l (x .1), s) at k) st c (exactPass p st nu) rows st′ rows′ (x .0);
-        workspace = kept-beyond WORKSPACE (box.size p) work t work′ (omega arith) l (x .1) USED (omega arith);
-      }
+      let x = accepted (keeping WORKSPACE (box.size p) work t) (omega (arith, few, put-length WORKSPACE (box.size p) work t (omega arith) l)) h in
+      let y = keeps WORKSPACE (box.size p) work t work′ few (omega arith) l (x .1) in
+      record { ran = (rw (y .part, s) at k) st c (exactPass p st nu) rows st′ rows′ (x .0); workspace = y .beyond }
 
 -- ---- a check
 
@@ -138,10 +131,10 @@ module _ (p : box.Problem) (st : List ℕ) (nu : List Float) (rows : List ℕ) (
 module _ (cap : ℕ) (p : box.Problem) (nu : List Float) (st : List ℕ) (n : Counts) (rows : List ℕ) (work : List Float) (b : Bool) (due : b ≡ def.checkpoint cap (n .sweeps)) where
   abbrev Checked : Sweeping → Counts → List Float → List ℕ → List ℕ → List Float → Type 0
   Checked g c nu′ st′ rows′ work′ =
-      Counted (def.checked cap p (def.going (def.iterate nu st n))) rows work (n .sweeps) (n .passes + 1) (record { sweeping = g; counts = c }) nu′ st′ rows′ work′
+      Counted PASS-USED (def.checked cap p (def.going (def.iterate nu st n))) rows work (n .sweeps) (n .passes + 1) (record { sweeping = g; counts = c }) nu′ st′ rows′ work′
 
   pub check-tried : (g : Sweeping) (nu′ : List Float) (st′ rows′ : List ℕ) (work′ : List Float) → b ≡ true
-      → ((c : Counts) → Worked (def.passed (def.iterate nu st c) (exactPass p st nu)) rows work g nu′ st′ c rows′ work′)
+      → ((c : Counts) → Worked PASS-USED (def.passed (def.iterate nu st c) (exactPass p st nu)) rows work g nu′ st′ c rows′ work′)
       → Checked g (def.counts (n .sweeps) (n .passes + 1) (n .stopped)) nu′ st′ rows′ work′
   unfolding def.checked
   check-tried g nu′ st′ rows′ work′ t h =

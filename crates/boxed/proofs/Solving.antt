@@ -37,7 +37,7 @@ module _ (cap : ℕ) (p : box.Problem) (m : Watch) (nu : List Float) (st l : Lis
 
   -- g is how the run has ended
   pub some-act : (idle ≡ box.size p → ⊥) → (g : Sweeping) (nu₂ : List Float) (st₂ : List ℕ) (c : Counts) (r : BoxAnswer) (st′ l′ : List ℕ) (w w′ : List Float)
-      → Worked (def.run cap p m (iterate nu₁ st₁ (def.counts 0 0 0)) cap) l w g nu₂ st₂ c l′ w′
+      → Worked USED (def.run cap p m (iterate nu₁ st₁ (def.counts 0 0 0)) cap) l w g nu₂ st₂ c l′ w′
       → Answered p idle g nu₂ st₂ c r st′
       → Left (def.solve cap p m nu st l) r nu₂ st′ l′ w w′
   some-act h g nu₂ st₂ c r st′ l′ w w′ d k =

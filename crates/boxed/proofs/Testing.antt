@@ -54,14 +54,6 @@ all-fit z v rows e h =
       le-leb _ _ h,
     )
 
--- ---- n values at the front of a list
-
-pub front-within : (t y : List Float) (n : ℕ) → length t ≡ n → n ≤ length (t ++ y)
-front-within t y n e = omega (arith, length-append t y)
-
-pub front-length : (t y : List Float) (n : ℕ) → length t ≡ n → length (take n (t ++ y)) ≡ n
-front-length t y n e = rw (take-at t y n e) e
-
 -- ---- the change of the multipliers is the direction of the ray: y is the front of an array that z ends
 
 change-length : (nu before : List Float) (n : ℕ) → length (private.change nu before n) ≡ n
@@ -76,10 +68,10 @@ module _ (nu before y z : List Float) (n : ℕ) (e : y ≡ private.change nu bef
   long = ap length changed ∙ change-length nu before n
 
   pub changed-within : n ≤ length (y ++ z)
-  changed-within = front-within y z n long
+  changed-within = omega (arith, long, length-append y z)
 
   pub changed-length : length (take n (y ++ z)) ≡ n
-  changed-length = front-length y z n long
+  changed-length = rw (take-at y z n long) long
 
   changed-front : take n (y ++ z) ≡ private.change nu before n
   changed-front = take-at y z n long ∙ changed

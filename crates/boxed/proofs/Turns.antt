@@ -1,12 +1,11 @@
 -- One sweep with its tests, from what its calls promise: one law for each return. Then the sweeps as their loop makes them.
-use Prim.Native.Nat.{ℕ, suc, _+_, _≤_, _<_}
+use Prim.Native.Nat.{ℕ, suc, _+_, _-_, _≤_, _<_}
 use mathlib.Core.Path.{_≡_, refl, sym, ap, _∙_}
 use mathlib.Core.Bool.{Bool, true, false, not, true≢false}
-use mathlib.Core.List.{List, _++_}
+use mathlib.Core.List.{List}
 use native.Mathlib.Omega.{arith}
 use native.Mathlib.Numerals.{add-one}
-use lib.ListN.{length, take}
-use lib.Seq.{take-at}
+use lib.ListN.{length, take, drop}
 use borrow.Author.Tests.{not-true, not-false}
 use lib.Ieee.{Float}
 use Rattle.loops.specs.Loops.{turns}
@@ -17,7 +16,8 @@ use Rattle.boxed.specs.Sweep as sweeps
 use Rattle.boxed.specs.Private as private
 use Rattle.boxed.specs.Solve as def
 use Rattle.boxed.specs.Solve.{Run, going, ended, exact, converged, conflict, Iterate, iterate, Watch}
-use Rattle.boxed.specs.Private.{beyond, isGoing, Swept, Ran, Worked, Counted}
+use Rattle.boxed.specs.Private.{PASS-USED, USED, isGoing, TurnLent, Swept, Ran, Worked, Counted}
+use Rattle.boxed.proofs.Checks.{keeping, Keeps, keeps}
 use Rattle.boxed.proofs.Testing.{none-fight, some-fight}
 use Rattle.exact_pass.specs.Promise.{Front}
 use Rattle.boxed.specs.declared.Cause.the-variants as cause
@@ -52,7 +52,7 @@ module _ (l₀ : List ℕ) (g : Sweeping) (nu : List Float) (st : List ℕ) (c :
 
 -- ---- one sweep: nu₁ are the multipliers after it, s rows are stopped, and k are grown
 
-module _ (cap : ℕ) (p : box.Problem) (m : Watch) (nu : List Float) (st : List ℕ) (n : Counts) (i : ℕ) (rows : List ℕ) (work nu₁ old : List Float) (s k : ℕ) (rows₁ : List ℕ)
+module _ (cap : ℕ) (m : Watch) (i : ℕ) {p : box.Problem} {nu : List Float} {st : List ℕ} {n : Counts} {rows : List ℕ} {work nu₁ old : List Float} {s k : ℕ} {rows₁ : List ℕ} (lent : TurnLent p st nu rows work n)
     (swept : Swept (p .w) (p .uFree) (p .lo) (p .hi) st nu nu₁ old s) (grew : Gathering (private.grownAt nu₁ (p .scale)) rows (length nu₁) k rows₁) where
   abbrev c : Counts
   c = def.counts (n .sweeps + 1) (n .passes) s
@@ -62,7 +62,7 @@ module _ (cap : ℕ) (p : box.Problem) (m : Watch) (nu : List Float) (st : List 
 
   -- what this turn comes to
   abbrev TurnCounted : Progress → List Float → List ℕ → List ℕ → List Float → Type 0
-  TurnCounted q nu′ st′ rows′ work′ = Counted (def.turn cap p m i (going (iterate nu st n))) rows work (n .sweeps + 1) (n .passes + 1) q nu′ st′ rows′ work′
+  TurnCounted q nu′ st′ rows′ work′ = Counted USED (def.turn cap p m i (going (iterate nu st n))) rows work (n .sweeps + 1) (n .passes + 1) q nu′ st′ rows′ work′
 
   abbrev fighting : List ℕ
   fighting = sweeps.grown nu₁ (p .scale) (length nu₁)
@@ -78,13 +78,20 @@ module _ (cap : ℕ) (p : box.Problem) (m : Watch) (nu : List Float) (st : List 
   unfolding private.isGrown
   front = record { count = grew .count; front = grew .front }
 
-  pub turn-grown : (k ≡ 0 → ⊥) → TurnCounted (told (sweeping.Infeasible cause.Growth k) c) nu₁ st rows₁ work
+  -- the workspace after the sweep: the multipliers before it are past what a pass uses
+  abbrev work₁ : List Float
+  work₁ = keeping PASS-USED (box.size p) work old
+
+  kept : (w : List Float) → drop PASS-USED w ≡ drop PASS-USED work₁ → Keeps PASS-USED (box.size p) work old w
+  kept w = keeps PASS-USED (box.size p) work old w (lent .lent .lists .matrix .few) (lent .lent .workspace) (swept .before-long)
+
+  pub turn-grown : (k ≡ 0 → ⊥) → TurnCounted (told (sweeping.Infeasible cause.Growth k) c) nu₁ st rows₁ work₁
   turn-grown h =
       let g : Sweeping = sweeping.Infeasible cause.Growth k in
       let r : Ran after rows g nu₁ st c rows₁ = some-fight cause.Growth nu₁ st rows k rows₁ fighting front h c in
       record {
         ran = rw (turn-is, checked-ended rows g nu₁ st c rows₁ cap p after r refl, tested-ended rows g nu₁ st c rows₁ p m nu after r refl) r;
-        workspace = refl;
+        workspace = kept work₁ refl .beyond;
         sweeps = refl;
         passes = omega arith;
       }
@@ -93,8 +100,8 @@ module _ (cap : ℕ) (p : box.Problem) (m : Watch) (nu : List Float) (st : List 
   none-grown h = goes-on rows sweeping.Going nu₁ st c rows₁ after (none-fight cause.Growth nu₁ st rows k rows₁ fighting front h c) refl
 
   -- b tells whether the solve goes on after the check
-  module _ (none : k ≡ 0) (q : Progress) (nu₂ : List Float) (st₂ rows₂ : List ℕ) (work₂ : List Float) (b : Bool)
-      (checked : Counted (def.checked cap p (going (iterate nu₁ st c))) rows₁ work (n .sweeps + 1) (n .passes + 1) q nu₂ st₂ rows₂ work₂) (on : b ≡ isGoing (q .sweeping)) where
+  module _ (none : k ≡ 0) {q : Progress} {nu₂ : List Float} {st₂ rows₂ : List ℕ} {work₂ : List Float} {b : Bool}
+      (checked : Counted PASS-USED (def.checked cap p (going (iterate nu₁ st c))) rows₁ work₁ (n .sweeps + 1) (n .passes + 1) q nu₂ st₂ rows₂ work₂) (on : b ≡ isGoing (q .sweeping)) where
     turn-on : def.turn cap p m i (going (iterate nu st n)) ≡ def.tested p m nu (def.checked cap p (going (iterate nu₁ st c)))
     turn-on = turn-is ∙ ap (λ (r : Run). def.tested p m nu (def.checked cap p r)) (none-grown none .0)
 
@@ -106,20 +113,18 @@ module _ (cap : ℕ) (p : box.Problem) (m : Watch) (nu : List Float) (st : List 
         let r = checked .ran in
         record {
           ran = rw (turn-on, tested-ended rows₁ (q .sweeping) nu₂ st₂ (q .counts) rows₂ p m nu (def.checked cap p (going (iterate nu₁ st c))) r (sym on ∙ not-true b f), ← rows-stay) r;
-          workspace = checked .workspace;
+          workspace = kept work₂ (checked .workspace) .beyond;
           sweeps = checked .sweeps;
           passes = checked .passes;
         }
 
-    -- the copy of the multipliers before the sweep is at the front of an array that y ends
-    pub turn-tested : not b ≡ false → (y : List Float) (g : Sweeping) (rows₃ : List ℕ)
-        → ((d : Counts) → Ran (def.tested p m (take (box.size p) (old ++ y)) (going (iterate nu₂ st₂ d))) rows₂ g nu₂ st₂ d rows₃) → TurnCounted (told g (q .counts)) nu₂ st₂ rows₃ work₂
-    turn-tested f y g rows₃ h =
+    pub turn-tested : not b ≡ false → (g : Sweeping) (rows₃ : List ℕ)
+        → ((d : Counts) → Ran (def.tested p m (take (PASS-USED + box.size p - PASS-USED) (drop PASS-USED work₂)) (going (iterate nu₂ st₂ d))) rows₂ g nu₂ st₂ d rows₃) → TurnCounted (told g (q .counts)) nu₂ st₂ rows₃ work₂
+    turn-tested f g rows₃ h =
         let x = goes-on rows₁ (q .sweeping) nu₂ st₂ (q .counts) rows₂ (def.checked cap p (going (iterate nu₁ st c))) (checked .ran) (sym on ∙ not-false b f) in
-        let e : take (box.size p) (old ++ y) ≡ nu = take-at old y (box.size p) (swept .before-long) ∙ swept .before in
         record {
-          ran = rw (turn-on, x .0, ← rows-stay, ← x .1) (rw e at (h (q .counts)));
-          workspace = checked .workspace;
+          ran = rw (turn-on, x .0, ← rows-stay, ← x .1) (rw (kept work₂ (checked .workspace) .part, swept .before) at (h (q .counts)));
+          workspace = kept work₂ (checked .workspace) .beyond;
           sweeps = checked .sweeps;
           passes = checked .passes;
         }
@@ -142,7 +147,7 @@ first nu st = iterate nu st (def.counts 0 0 0)
 pub record Reached (cap : ℕ) (p : box.Problem) (m : Watch) (nu₀ : List Float) (st₀ rows₀ : List ℕ) (work₀ nu : List Float) (st rows : List ℕ) (work : List Float) (c : Counts) : Type 0 where
   pub run : def.run cap p m (first nu₀ st₀) (c .sweeps) ≡ going (iterate nu st c)
   pub listed : rows ≡ rows₀
-  pub workspace : beyond work ≡ beyond work₀
+  pub workspace : drop USED work ≡ drop USED work₀
 
 module _ (cap : ℕ) (p : box.Problem) (m : Watch) (nu₀ : List Float) (st₀ rows₀ : List ℕ) (work₀ : List Float) where
   pub run-start : Reached cap p m nu₀ st₀ rows₀ work₀ nu₀ st₀ rows₀ work₀ (def.counts 0 0 0)
@@ -150,7 +155,7 @@ module _ (cap : ℕ) (p : box.Problem) (m : Watch) (nu₀ : List Float) (st₀ r
   run-start = record { run = refl; listed = refl; workspace = refl }
 
   module _ (nu : List Float) (st rows : List ℕ) (work : List Float) (c : Counts) (so-far : Reached cap p m nu₀ st₀ rows₀ work₀ nu st rows work c) where
-    pub run-over : c .sweeps ≤ cap → cap ≤ c .sweeps → Worked (def.run cap p m (first nu₀ st₀) cap) rows₀ work₀ sweeping.Going nu st c rows work
+    pub run-over : c .sweeps ≤ cap → cap ≤ c .sweeps → Worked USED (def.run cap p m (first nu₀ st₀) cap) rows₀ work₀ sweeping.Going nu st c rows work
     run-over a b =
         let e : cap ≡ c .sweeps = omega arith in
         let r : def.run cap p m (first nu₀ st₀) cap ≡ going (iterate nu st c) = ap (def.run cap p m (first nu₀ st₀)) e ∙ so-far .run in
@@ -163,7 +168,7 @@ module _ (cap : ℕ) (p : box.Problem) (m : Watch) (nu₀ : List Float) (st₀ r
     unfolding def.run turns
     step = rw (so-far .run)
 
-    module _ (q : Progress) (nu′ : List Float) (st′ rows′ : List ℕ) (work′ : List Float) (b : Bool) (swept : Counted next rows work (c .sweeps + 1) (c .passes + 1) q nu′ st′ rows′ work′) (on : b ≡ isGoing (q .sweeping)) where
+    module _ (q : Progress) (nu′ : List Float) (st′ rows′ : List ℕ) (work′ : List Float) (b : Bool) (swept : Counted USED next rows work (c .sweeps + 1) (c .passes + 1) q nu′ st′ rows′ work′) (on : b ≡ isGoing (q .sweeping)) where
       pub run-again : not b ≡ false → Reached cap p m nu₀ st₀ rows₀ work₀ nu′ st′ rows′ work′ (q .counts)
       run-again f =
           let x = goes-on rows (q .sweeping) nu′ st′ (q .counts) rows′ next (swept .ran) (sym on ∙ not-false b f) in
@@ -173,7 +178,7 @@ module _ (cap : ℕ) (p : box.Problem) (m : Watch) (nu₀ : List Float) (st₀ r
             workspace = swept .workspace ∙ so-far .workspace;
           }
 
-      pub run-ended : not b ≡ true → c .sweeps < cap → Worked (def.run cap p m (first nu₀ st₀) cap) rows₀ work₀ (q .sweeping) nu′ st′ (q .counts) rows′ work′
+      pub run-ended : not b ≡ true → c .sweeps < cap → Worked USED (def.run cap p m (first nu₀ st₀) cap) rows₀ work₀ (q .sweeping) nu′ st′ (q .counts) rows′ work′
       unfolding def.run
       run-ended f h =
           let still = ended-stays rows (q .sweeping) nu′ st′ (q .counts) rows′ cap p m next (swept .ran) (sym on ∙ not-true b f) in

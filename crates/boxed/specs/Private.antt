@@ -108,9 +108,13 @@ pub record TestLists (p : box.Problem) (st : List ℕ) (nu old : List Float) (l 
   pub listed : box.size p ≤ length l
   pub some : 0 < box.size p
 
--- the values of a workspace that a solve uses: an exact pass's, and the multipliers kept
+-- the values of a workspace that a pass uses: an exact pass's own, and the multipliers that it starts from
+abbrev pub PASS-USED : ℕ
+PASS-USED = 1152
+
+-- those that a solve uses: a pass's, and the multipliers before a sweep
 abbrev pub USED : ℕ
-USED = 1152
+USED = 1184
 
 -- the most that a count can be
 abbrev pub MOST : ℕ
@@ -171,19 +175,15 @@ pub record Ran (r : Run) (l₀ : List ℕ) (g : Sweeping) (nu : List Float) (st 
   pub reached : iterate nu st c ≡ iterateOf r
   pub listed : l ≡ listedOf r l₀
 
--- the values of a workspace past those that a solve uses
-abbrev pub beyond : List Float → List Float
-beyond work = drop USED work
-
--- the same, and past what a solve uses the workspace is as it was in work₀
-pub record Worked (r : Run) (l₀ : List ℕ) (work₀ : List Float) (g : Sweeping) (nu : List Float) (st : List ℕ) (c : Counts) (l : List ℕ) (work : List Float) : Type 0 where
+-- the same, and past the first u values the workspace is as it was in work₀
+pub record Worked (u : ℕ) (r : Run) (l₀ : List ℕ) (work₀ : List Float) (g : Sweeping) (nu : List Float) (st : List ℕ) (c : Counts) (l : List ℕ) (work : List Float) : Type 0 where
   pub ran : Ran r l₀ g nu st c l
-  pub workspace : beyond work ≡ beyond work₀
+  pub workspace : drop u work ≡ drop u work₀
 
 -- the same, with k sweeps counted and at most m passes
-pub record Counted (r : Run) (l₀ : List ℕ) (work₀ : List Float) (k m : ℕ) (q : Progress) (nu : List Float) (st l : List ℕ) (work : List Float) : Type 0 where
+pub record Counted (u : ℕ) (r : Run) (l₀ : List ℕ) (work₀ : List Float) (k m : ℕ) (q : Progress) (nu : List Float) (st l : List ℕ) (work : List Float) : Type 0 where
   pub ran : Ran r l₀ (q .sweeping) nu st (q .counts) l
-  pub workspace : beyond work ≡ beyond work₀
+  pub workspace : drop u work ≡ drop u work₀
   pub sweeps : q .counts .sweeps ≡ k
   pub passes : q .counts .passes ≤ m
 

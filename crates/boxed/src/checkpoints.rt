@@ -67,7 +67,7 @@ fn attempt(
 ) -> Sweeping
     requires { ⌜ private.Lent (box.problem (now w) (now «u_free») (now lo) (now hi) (now scale)) (now states) (now nu)
         (now rows) (now work) ⌝ }
-    ensures { λ q. ⌜ ((c : Counts) → private.Worked
+    ensures { λ q. ⌜ ((c : Counts) → private.Worked private.PASS-USED
         (def.passed (def.iterate (now (nu .entry)) (now (states .entry)) c)
         (exactPass
         (box.problem (now (w .entry)) (now («u_free» .entry)) (now (lo .entry)) (now (hi .entry)) (now (scale .entry)))
@@ -97,7 +97,7 @@ pub fn check(
 ) -> Progress
     requires { ⌜ private.CheckLent (box.problem (now w) (now «u_free») (now lo) (now hi) (now scale)) (now states)
         (now nu) (now rows) (now work) counts ⌝ }
-    ensures { λ q. ⌜ private.Counted
+    ensures { λ q. ⌜ private.Counted private.PASS-USED
         (def.checked cap
         (box.problem (now (w .entry)) (now («u_free» .entry)) (now (lo .entry)) (now (hi .entry)) (now (scale .entry)))
         (def.going (def.iterate (now (nu .entry)) (now (states .entry)) counts)))

@@ -24,6 +24,10 @@ pub const MAX_MOTION: usize = 2048;
 
 pub const WORKSPACE: usize = 2304;
 
+// Where the workspace has the multipliers before a sweep: past an exact pass's part and the multipliers that the pass
+// starts from. A local array would have to be cleared in each sweep.
+const BEFORE: usize = exact_pass::WORKSPACE + MAX_ROWS;
+
 // The most sweeps one solve runs.
 pub const SWEEP_CAP: u32 = 200;
 

@@ -42,7 +42,7 @@ fn turn(
 ) -> Progress
     requires { ⌜ private.TurnLent (box.problem (now w) (now «u_free») (now lo) (now hi) (now scale)) (now states)
         (now nu) (now rows) (now work) counts ⌝ }
-    ensures { λ q. ⌜ private.Counted
+    ensures { λ q. ⌜ private.Counted private.USED
         (def.turn (limits .cap)
         (box.problem (now (w .entry)) (now («u_free» .entry)) (now (lo .entry)) (now (hi .entry)) (now (scale .entry)))
         (def.watch (now (motion .entry)) (limits .tolerance)) (counts .sweeps)
@@ -51,8 +51,8 @@ fn turn(
         q (now (nu .exit)) (now (states .exit)) (now (rows .exit)) (now (work .exit)) ⌝ }
 {
     let n = u_free.len();
-    let mut before = [0.0f64; 32];
-    let stopped = sweep::sweep(w, u_free, lo, hi, states, nu, &mut before[..n]);
+    let e = crate::BEFORE + n;
+    let stopped = sweep::sweep(w, u_free, lo, hi, states, nu, &mut work[crate::BEFORE..e]);
     let c = Counts {
         sweeps: counts.sweeps + 1,
         passes: counts.passes,
@@ -83,7 +83,7 @@ fn turn(
             limits.tolerance,
             states,
             nu,
-            &before[..n],
+            &work[crate::BEFORE..e],
             rows,
         ),
         counts: d,
@@ -106,7 +106,7 @@ pub fn run(
 ) -> Progress
     requires { ⌜ private.TurnLent (box.problem (now w) (now «u_free») (now lo) (now hi) (now scale)) (now states)
         (now nu) (now rows) (now work) (def.counts 0 0 0) ⌝ }
-    ensures { λ q. ⌜ private.Worked
+    ensures { λ q. ⌜ private.Worked private.USED
         (def.run (limits .cap)
         (box.problem (now (w .entry)) (now («u_free» .entry)) (now (lo .entry)) (now (hi .entry)) (now (scale .entry)))
         (def.watch (now (motion .entry)) (limits .tolerance))
