@@ -1,15 +1,19 @@
 -- The system of the free rows: its matrix as a loop fills it row by row, and its least-norm solution, from what the calls promise.
 use Rattle.loops.proofs.Common.{ℕ, _+_, _-_, _*_, _≤_, _<_, _≡_, refl, sym, ap, _∙_, Bool, true, false, cond, List, arith, add-one, length, getD, drop, Float, nan, eq-eqb, _++_}
-use lib.Seq.{ext-getD}
+use lib.Seq.{ext-getD, set-set}
+use lib.ListN.{set, length-set}
+use mathlib.Core.Bool.{_||_, or-assoc, or-self}
 use lib.Dec.{eqb}
 use lib.Ieee.{neg}
 use Rattle.loops.proofs.Updates.{updated-here, updated-long}
 use Rattle.floats.specs.Ops.{at, _⊖_, _⊗_}
 use borrow.Author.Tests.{le-leb}
+use native.Mathlib.Nat.{eq-or-lt-of-le}
+use mathlib.Core.Logic.{⊎-elim}
 use Rattle.loops.specs.Loops.{turns, tab}
 use borrow.Rule.Slice.PartMut.{putMid}
 use Rattle.loops.proofs.Parts.{parts-start, parts-again, parts-done}
-use Rattle.loops.proofs.Fill.{tab-length, tab-at}
+use Rattle.loops.proofs.Fill.{tab-length, tab-at, tab-again}
 use Rattle.least_norm.specs.LeastNorm.{leastNorm}
 use Rattle.least_norm.specs.Promise as least
 use Rattle.box_rows.specs.Rows as box
@@ -41,11 +45,35 @@ module _ (w scale : List Float) (l : List ℕ) (m₀ : List Float) where
   unfolding def.matrix row private.matrixRow
   matrix-done i m e f g h = parts-done row (length l) rows-long m₀ i m e f g h
 
--- what the solution leaves of a row, by that row
-pub residual-is : (w scale : List Float) (l : List ℕ) (rhs z : List Float) (i : ℕ)
-    → def.residual w scale l rhs z i ≡ private.residualRow (box.row w (length scale) (getD l i 0)) scale l z (at rhs i) (length l)
+-- ---- what the solution leaves of a row, by that row, and two rows taken in one turn
+
+pub two-put : (i e : ℕ) (y : List Float) {y₁ y₂ : List Float} {a b c d : Float} → y₁ ≡ set y i (neg a) → y₂ ≡ set y₁ e (neg b) → a ≡ c → b ≡ d → y₂ ≡ set (set y i (neg c)) e (neg d)
+two-put i e y p q g h = rw (q, p, g, h)
+
+pub diagonal : {r scale : List Float} {a : ℕ} → length r ≡ length scale → a < length scale → private.DiagonalLent r scale a
+diagonal e h = record { diagonal = rw e h; scales = h }
+
+pub row-is : (w scale : List Float) (l : List ℕ) (rhs z : List Float) (i : ℕ) {a : ℕ} {r : List Float} {b s : Float} → a ≡ getD l i 0 → r ≡ box.row w (length scale) a → b ≡ at rhs i → s ≡ private.residualRow r scale l z b (length l)
+    → (s ≡ def.residual w scale l rhs z i) × (private.tooLarge s (at r a) (at scale a) ≡ private.tooLargeAt w scale l rhs z i)
 unfolding def.residual private.residualRow
-residual-is w scale l rhs z i = refl
+row-is w scale l rhs z i e f g h = (rw (h, g, f, e), rw (h, g, f, e))
+
+module _ {i k e : ℕ} (s : private.Second i k e) where
+  pub tab-two : (f : ℕ → Float) (d y : List Float) → y ≡ tab f i ++ drop i d → length y ≡ length d → k ≤ length d → set (set y i (f i)) e (f e) ≡ tab f (e + 1) ++ drop (e + 1) d
+  tab-two f d y g h b =
+      let one = tab-again f i d y g h (omega arith) in
+      ⊎-elim
+      (λ (q : i ≡ e). rw (← q, set-set) one)
+      (λ (q : i < e). let p : e ≡ i + 1 = omega arith in rw p (tab-again f (i + 1) d (set y i (f i)) one (simp length-set h) (simp length-set (omega (arith, p)))))
+      (eq-or-lt-of-le (s .least))
+
+  pub or-two : (t : ℕ → Bool) (b c : Bool) → b ≡ turns i false (λ i b. b || t i) → c ≡ (t i || t e) → (b || c) ≡ turns (e + 1) false (λ i b. b || t i)
+  unfolding turns
+  or-two t b c g h =
+      ⊎-elim
+      (λ (q : i ≡ e). rw (h, ← q, or-self, g, add-one))
+      (λ (q : i < e). let p : e ≡ i + 1 = omega arith in rw (h, p, ← or-assoc, g, add-one, add-one))
+      (eq-or-lt-of-le (s .least))
 
 -- ---- the right-hand side, column by column
 
@@ -123,13 +151,12 @@ module _ (w uFree scale : List Float) (st : List ℕ) (nu : List Float) (l : Lis
     side-work : drop 1088 work₂ ≡ drop 1088 work₀
     side-work = later 1056 1088 work₂ work₁ (omega arith) solved ∙ later (1056 + length y₁) 1088 work₁ work₀ (omega (arith, side-length, few)) (copied .after)
 
-    module _ (m z y₂ : List Float) (b : Bool) (e : m ≡ def.matrix w scale l (length l)) (f : z ≡ leastNorm (length y₁) (length y₁) m y₁ .x) (g : y₂ ≡ private.downhill w scale l (part 1056 (length l) work₂) z (length l))
-        (h : b ≡ private.inconsistent w scale l (part 1056 (length l) work₂) z (length l)) where
+    module _ (m z y₂ : List Float) (b : Bool) (e : m ≡ def.matrix w scale l (length l)) (f : z ≡ leastNorm (length y₁) (length y₁) m y₁ .x) (g : private.Tested w scale l (part 1056 (length l) work₂) z b y₂) where
       target : private.targeted z y₂ b ≡ def.target w uFree scale st nu l
       unfolding def.target private.tooLarge
       target =
           let zed : z ≡ leastNorm (length l) (length l) (def.matrix w scale l (length l)) (def.rightHandSide w uFree st nu l (length l)) .x = rw (side-length, e, sided) at f in
-          rw (g, h, side-kept, zed)
+          rw (g .downhill, g .inconsistent, side-kept, zed)
 
       pub directed-run : (y₃ work₃ : List Float) → y₃ ≡ def.direction b scale l z nu y₂ → Copied y₃ 1056 work₂ work₃ → length y₃ ≡ length l → private.Directed (def.target w uFree scale st nu l) scale l nu work₀ b work₃
       directed-run y₃ work₃ d laid long =

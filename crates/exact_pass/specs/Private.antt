@@ -16,6 +16,7 @@ use Rattle.exact_pass.specs.Ray.{ray}
 use Rattle.exact_pass.specs.Pass as def
 use Rattle.exact_pass.specs.Walk as walks
 use Rattle.exact_pass.specs.Promise.{Passed}
+use Rattle.exact_pass.specs.declared.Residuals.{Residuals}
 use Rattle.exact_pass.specs.declared.Blocking.{Blocking}
 use Rattle.exact_pass.specs.declared.Worst.{Worst}
 use Rattle.exact_pass.specs.declared.Mark.{Mark}
@@ -131,6 +132,38 @@ pub record Scratch (k : ℕ) (m y z : List Float) : Type 0 where
   pub direction : k ≤ length y
   pub solution : k ≤ length z
 
+-- two rows of a system of the free rows l, and its solution z
+pub record RowsLent (n : ℕ) (a b : List Float) (l : List ℕ) (z : List Float) : Type 0 where
+  pub first : length a ≡ n
+  pub second : length b ≡ n
+  pub listed : Listed n l z
+
+-- row r of a matrix has a value at place a, and so have the scales
+pub record DiagonalLent (r scale : List Float) (a : ℕ) : Type 0 where
+  pub diagonal : a < length r
+  pub scales : a < length scale
+
+-- what the solution z is tested in: the rows l of w, their right-hand side, and y
+pub record TestLent (n : ℕ) (w : List Float) (l : List ℕ) (rhs z y : List Float) : Type 0 where
+  pub square : lists.Square w n
+  pub listed : Listed n l z
+  pub side : length rhs ≡ length l
+  pub direction : length y ≡ length l
+
+-- the same for rows i and e
+pub record TwoLent (n : ℕ) (w : List Float) (l : List ℕ) (rhs z y : List Float) (i e : ℕ) : Type 0 where
+  pub lists : TestLent n w l rhs z y
+  pub first : i < length l
+  pub second : e < length l
+
+-- the same for all rows, with the right-hand side in the workspace
+pub record ResidualLent (n : ℕ) (w : List Float) (l : List ℕ) (work z y : List Float) : Type 0 where
+  pub square : lists.Square w n
+  pub listed : Listed n l z
+  pub direction : length y ≡ length l
+  pub few : length l ≤ 32
+  pub workspace : 1120 ≤ length work
+
 -- r blocks a step by one of n rows, on a bound
 pub record Blocked (n : ℕ) (lo hi : List Float) (st : List ℕ) (r : Blocking) : Type 0 where
   pub row : r .row < n
@@ -202,6 +235,12 @@ pub record Stepped (p : def.Pass) (rows : List ℕ) (work : List Float) (e : Exa
 pub record Ran (p : box.Problem) (st : List ℕ) (nu : List Float) (rows : List ℕ) (work : List Float) (e : Exact) (nu′ : List Float) (st′ rows′ : List ℕ) (work′ : List Float) : Type 0 where
   pub passed : Passed (def.exactPass p st nu) rows e nu′ st′ rows′
   pub workspace : drop 1120 work′ ≡ drop 1120 work
+
+-- e is the row that is taken with row i of k
+pub record Second (i k e : ℕ) : Type 0 where
+  pub least : i ≤ e
+  pub most : e ≤ i + 1
+  pub within : e < k
 
 -- column j of w times v, taken from the right-hand sides of the first k rows of l
 abbrev pub columnTaken : List Float → ℕ → List ℕ → ℕ → Float → ℕ → List Float → List Float
@@ -290,17 +329,39 @@ matrixRow r scale l k = tab (scaled r scale l) k
 unfoldable pub residualRow : List Float → List Float → List ℕ → List Float → Float → ℕ → Float
 residualRow r scale l z b k = turns k (neg b) λ j s. s ⊕ scaled r scale l j ⊗ at z j
 
+-- q is what z leaves of two rows r and s, whose right-hand sides are a and b
+pub record RowsLeft (r s scale : List Float) (l : List ℕ) (z : List Float) (a b : Float) (q : Residuals) : Type 0 where
+  pub first : q .first ≡ residualRow r scale l z a (length l)
+  pub second : q .second ≡ residualRow s scale l z b (length l)
+
 unfoldable pub tooLarge : Float → Float → Float → Bool
 tooLarge r d s = lt 1e-9 (abs (r ⊘ d) ⊘ s)
 
-abbrev pub inconsistent : List Float → List Float → List ℕ → List Float → List Float → ℕ → Bool
-inconsistent w scale l rhs z k =
-    turns k false λ i b.
+-- whether what z leaves of row i is too large
+abbrev pub tooLargeAt : List Float → List Float → List ℕ → List Float → List Float → ℕ → Bool
+tooLargeAt w scale l rhs z i =
     let a = getD l i 0 in
-    b || tooLarge (def.residual w scale l rhs z i) (at (box.row w (length scale) a) a) (at scale a)
+    tooLarge (def.residual w scale l rhs z i) (at (box.row w (length scale) a) a) (at scale a)
+
+abbrev pub inconsistent : List Float → List Float → List ℕ → List Float → List Float → ℕ → Bool
+inconsistent w scale l rhs z k = turns k false λ i b. b || tooLargeAt w scale l rhs z i
+
+abbrev pub downhillAt : List Float → List Float → List ℕ → List Float → List Float → ℕ → Float
+downhillAt w scale l rhs z i = neg (def.residual w scale l rhs z i)
 
 abbrev pub downhill : List Float → List Float → List ℕ → List Float → List Float → ℕ → List Float
-downhill w scale l rhs z k = tab (λ (i : ℕ). neg (def.residual w scale l rhs z i)) k
+downhill w scale l rhs z k = tab (downhillAt w scale l rhs z) k
+
+-- after rows i and e are tested: y′ has minus what z leaves of them, and b tells whether one is too large
+pub record TwoTested (w scale : List Float) (l : List ℕ) (rhs z : List Float) (i e : ℕ) (y : List Float) (b : Bool)
+    (y′ : List Float) : Type 0 where
+  pub downhill : y′ ≡ set (set y i (downhillAt w scale l rhs z i)) e (downhillAt w scale l rhs z e)
+  pub inconsistent : b ≡ (tooLargeAt w scale l rhs z i || tooLargeAt w scale l rhs z e)
+
+-- after all rows are
+pub record Tested (w scale : List Float) (l : List ℕ) (rhs z : List Float) (b : Bool) (y : List Float) : Type 0 where
+  pub downhill : y ≡ downhill w scale l rhs z (length l)
+  pub inconsistent : b ≡ inconsistent w scale l rhs z (length l)
 
 abbrev pub toTarget : List Float → List ℕ → List Float → List Float → ℕ → List Float
 toTarget scale l z nu k = tab (λ (i : ℕ). at scale (getD l i 0) ⊗ at z i ⊖ at nu (getD l i 0)) k

@@ -44,6 +44,12 @@ pub enum Exact {
     Infeasible(usize),
 }
 
+// What a solution leaves of two rows of its system.
+pub struct Residuals {
+    pub first: f64,
+    pub second: f64,
+}
+
 // How far the boxes let a step go, and the row that blocks it with its state there: INSIDE is no row. The state is a
 // whole word: a byte would have the compiler copy what fills up the struct, row by row.
 pub struct Blocking {

@@ -13,6 +13,7 @@ ghost use Rattle.box_rows.specs.Rows as box;
 ghost use Rattle.box_rows.specs.Private as lists;
 ghost use Rattle.exact_pass.specs.Pass as def;
 ghost use Rattle.exact_pass.specs.Private as private;
+use crate::Residuals;
 use crate::read;
 
 // The right-hand side before any column: minus the free motion of each free row.
@@ -114,32 +115,94 @@ pub fn matrix(w: &[f64], scale: &[f64], free: &[u8], m: &mut [f64])
     }
 }
 
-fn residual_row(row: &[f64], scale: &[f64], free: &[u8], z: &[f64], b: f64) -> f64
-    requires { ⌜ (length (now row) ≡ length (now scale)) × private.Below (length (now scale)) (now free)
-        × (length (now z) ≡ length (now free)) ⌝ }
-    ensures { λ q. ⌜ q
-        ≡ private.residualRow (now (row .entry)) (now (scale .entry)) (now (free .entry)) (now (z .entry)) b
-        (length (now (free .entry))) ⌝ }
+// What z leaves of two rows, whose right-hand sides are a and b: their sums do not wait for each other.
+fn residual_rows(
+    first: &[f64],
+    second: &[f64],
+    scale: &[f64],
+    free: &[u8],
+    z: &[f64],
+    a: f64,
+    b: f64,
+) -> Residuals
+    requires { ⌜ private.RowsLent (length (now scale)) (now first) (now second) (now free) (now z) ⌝ }
+    ensures { λ q. ⌜ private.RowsLeft (now (first .entry)) (now (second .entry)) (now (scale .entry))
+        (now (free .entry)) (now (z .entry)) a b q ⌝ }
 {
     let k = free.len();
-    let mut s = -b;
+    let mut s = -a;
+    let mut t = -b;
     let mut j = 0;
     while j < k {
         let c = read::row_number(free, j);
-        s = s + read::at(row, c) * read::at(scale, c) * read::at(z, j);
+        let x = read::at(scale, c);
+        let v = read::at(z, j);
+        s = s + read::at(first, c) * x * v;
+        t = t + read::at(second, c) * x * v;
         j += 1;
     }
-    s
+    Residuals {
+        first: s,
+        second: t,
+    }
 }
 
-// Whether r, what is left of a row of diagonal d and scale s, is too much.
-fn too_large(r: f64, d: f64, s: f64) -> bool
-    ensures { λ q. ⌜ q ≡ private.tooLarge r d s ⌝ }
+// Whether r, what is left of row a of the matrix, is too large for its diagonal and scale.
+fn too_large(r: f64, row: &[f64], scale: &[f64], a: usize) -> bool
+    requires { ⌜ private.DiagonalLent (now row) (now scale) a ⌝ }
+    ensures { λ q. ⌜ q ≡ private.tooLarge r (at (now (row .entry)) a) (at (now (scale .entry)) a) ⌝ }
 {
-    floats::abs(r / d) / s > crate::EXACT_RESIDUAL
+    floats::abs(r / read::at(row, a)) / read::at(scale, a) > crate::EXACT_RESIDUAL
 }
 
-// y is minus what z leaves of each row, whose right-hand side is in the workspace; whether some row's is too large.
+// y gets minus what z leaves of rows i and e at their places; whether one of them is too large.
+fn two_rows(
+    w: &[f64],
+    scale: &[f64],
+    free: &[u8],
+    rhs: &[f64],
+    z: &[f64],
+    i: usize,
+    e: usize,
+    y: &mut [f64],
+) -> bool
+    requires { ⌜ private.TwoLent (length (now scale)) (now w) (now free) (now rhs) (now z) (now y) i e ⌝ }
+    ensures { λ q. ⌜ private.TwoTested (now (w .entry)) (now (scale .entry)) (now (free .entry)) (now (rhs .entry))
+        (now (z .entry)) i e (now (y .entry)) q (now (y .exit)) ⌝ }
+{
+    let n = scale.len();
+    let a = read::row_number(free, i);
+    let b = read::row_number(free, e);
+    let first = read::row(w, n, a);
+    let second = read::row(w, n, b);
+    let r = residual_rows(
+        first,
+        second,
+        scale,
+        free,
+        z,
+        read::at(rhs, i),
+        read::at(rhs, e),
+    );
+    let inconsistent = too_large(r.first, first, scale, a) | too_large(r.second, second, scale, b);
+    read::put(y, i, -r.first);
+    read::put(y, e, -r.second);
+    inconsistent
+}
+
+// The row that is taken with row i of k: the next, or i itself where it is the last.
+fn second_row(i: usize, k: usize) -> usize
+    requires { ⌜ i < k ⌝ }
+    ensures { λ q. ⌜ private.Second i k q ⌝ }
+{
+    if i + 1 < k {
+        return i + 1;
+    }
+    i
+}
+
+// y is minus what z leaves of each row, whose right-hand side is in the workspace; whether some row's is too large. Two
+// rows are taken at a time.
 pub fn residual(
     w: &[f64],
     scale: &[f64],
@@ -148,37 +211,18 @@ pub fn residual(
     z: &[f64],
     y: &mut [f64],
 ) -> bool
-    requires { ⌜ lists.Square (now w) (length (now scale)) × private.Below (length (now scale)) (now free)
-        × (length (now z) ≡ length (now free))
-        × (length (now y) ≡ length (now free)) × (length (now free) ≤ 32) × (1120 ≤ length (now work)) ⌝ }
-    ensures { λ q. ⌜ (now (y .exit)
-        ≡ private.downhill (now (w .entry)) (now (scale .entry)) (now (free .entry))
-        (private.part 1056 (length (now (free .entry))) (now (work .entry))) (now (z .entry))
-        (length (now (free .entry))))
-        ×
-        (q
-        ≡ private.inconsistent (now (w .entry)) (now (scale .entry)) (now (free .entry))
-        (private.part 1056 (length (now (free .entry))) (now (work .entry))) (now (z .entry))
-        (length (now (free .entry))))
-        ⌝ }
+    requires { ⌜ private.ResidualLent (length (now scale)) (now w) (now free) (now work) (now z) (now y) ⌝ }
+    ensures { λ q. ⌜ private.Tested (now (w .entry)) (now (scale .entry)) (now (free .entry))
+        (private.part 1056 (length (now (free .entry))) (now (work .entry))) (now (z .entry)) q (now (y .exit)) ⌝ }
 {
     let k = free.len();
-    let n = scale.len();
+    let rhs = read::part(work, crate::RIGHT_HAND_SIDE, k);
     let mut inconsistent = false;
     let mut i = 0;
     while i < k {
-        let a = read::row_number(free, i);
-        let row = read::row(w, n, a);
-        let r = residual_row(
-            row,
-            scale,
-            free,
-            z,
-            read::at(work, crate::RIGHT_HAND_SIDE + i),
-        );
-        read::put(y, i, -r);
-        inconsistent = inconsistent | too_large(r, read::at(row, a), read::at(scale, a));
-        i += 1;
+        let e = second_row(i, k);
+        inconsistent = inconsistent | two_rows(w, scale, free, rhs, z, i, e, y);
+        i = e + 1;
     }
     inconsistent
 }

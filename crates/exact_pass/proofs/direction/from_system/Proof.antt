@@ -34,7 +34,13 @@ residual-requires c κs =
     let solved = c .before .before .before .before .before .before .before .before .before .before .before in
     let p = entry (to-side solved) .pre in
     let s = solved .solve .kept .1 in
-    rw (p .system .scales) (p .system .square, p .system .below, s .1 .0 ∙ p .solution, s .0 ∙ side-long (to-side solved), p .system .few, omega (arith, s .1 .1 .0, solved .before .before .before .before .before .before .before .before .before .before .before .copy .kept .1 .0, p .system .workspace))
+    rw (p .system .scales) (record {
+      square = p .system .square;
+      listed = record { below = p .system .below; long = s .1 .0 ∙ p .solution };
+      few = p .system .few;
+      direction = s .0 ∙ side-long (to-side solved);
+      workspace = omega (arith, s .1 .1 .0, solved .before .before .before .before .before .before .before .before .before .before .before .copy .kept .1 .0, p .system .workspace);
+    })
 
 direction-requires : tie.Need-direction-requires
 direction-requires c κs =
@@ -51,7 +57,7 @@ returns c =
     let a = entry side .args in
     directed-run (a .w .now) (a .u-free .now) (a .scale .now) (a .states .now) (a .nu .now) (a .free .now) _ _ _ (solved .solve .last .1 .1 .1 .0)
     (side .right-hand-side .ensures) (solved .before .before .before .before .before .before .before .before .before .before .before .copy .ensures) (entry side .pre .system .few) (solved .solve .ensures .1)
-    _ _ _ _ (solved .before .before .before .before .before .before .before .matrix .ensures) (solved .solve .ensures .0) (d .before .before .before .before .before .residual .ensures .0) (d .before .before .before .before .before .residual .ensures .1) _ _ (d .direction .ensures) (c .before .before .copy2 .ensures) (long d)
+    _ _ _ _ (solved .before .before .before .before .before .before .before .matrix .ensures) (solved .solve .ensures .0) (d .before .before .before .before .before .residual .ensures) _ _ (d .direction .ensures) (c .before .before .copy2 .ensures) (long d)
 
 pub from-system-spec : {M : Type 1} → this.Statement.statement M
 from-system-spec =

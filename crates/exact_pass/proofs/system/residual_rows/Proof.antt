@@ -2,14 +2,15 @@ use Rattle.loops.proofs.Common.{_-_, _≤_, _≡_, arith, length, needs}
 use Rattle.exact_pass.proofs.Rows.{free-row}
 use Rattle.exact_pass.specs.Private as private
 use Rattle.loops.proofs.Turns.{turns-from, turns-again, turns-done}
-use Rattle.exact_pass.proofs.system.residual_row as this
+use Rattle.exact_pass.proofs.system.residual_rows as this
 use this.Tie as tie
 
 abbrev Inv-loop : tie.InvT-loop
-Inv-loop row scale free z b k s₀ j₀ s j = (j ≤ k) × (k ≡ length free) × (s ≡ private.residualRow row scale free z b j)
+Inv-loop first second scale free z a b k s₀ t₀ j₀ s t j =
+    (j ≤ k) × (k ≡ length free) × (s ≡ private.residualRow first scale free z a j) × (t ≡ private.residualRow second scale free z b j)
 
 abbrev μ-loop : tie.MeasureT-loop
-μ-loop row scale free z b k s₀ j₀ s j = k - j
+μ-loop first second scale free z a b k s₀ t₀ j₀ s t j = k - j
 
 loop-holds : tie.Need-loop-holds Inv-loop μ-loop
 unfolding private.residualRow
@@ -18,14 +19,15 @@ loop-holds c = search (turns-from, needs)
 loop-again : tie.Need-loop-again Inv-loop μ-loop
 unfolding private.residualRow
 loop-again c =
-    (search needs, search needs, turns-again _ _ _ _ _ (c .before .before .before .before .before .loop .inv .2) (cc))
+    let i = c .before .before .before .before .before .before .loop .inv in
+    (search needs, search needs, turns-again _ _ _ _ _ (i .2) (cc), turns-again _ _ _ _ _ (i .3) (cc))
 
 returns : tie.Need-returns Inv-loop μ-loop
 unfolding private.residualRow
 returns c = search (turns-done, needs)
 
-pub residual-row-spec : {M : Type 1} → this.Statement.statement M
-residual-row-spec =
+pub residual-rows-spec : {M : Type 1} → this.Statement.statement M
+residual-rows-spec =
     tie.close
     (tie.spec
     Inv-loop
@@ -33,8 +35,9 @@ residual-row-spec =
     loop-holds
     (λ c κs. omega arith)
     (λ c κs. search (free-row, needs))
-    (λ c κs. search (free-row, needs))
     (λ c κs. omega arith)
+    (λ c κs. search (free-row, needs))
+    (λ c κs. search (free-row, needs))
     (λ c. omega arith)
     (λ c. omega arith)
     loop-again
