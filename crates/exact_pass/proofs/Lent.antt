@@ -4,7 +4,7 @@ use Rattle.floats.specs.Ops.{0ᶠ}
 use Rattle.loops.proofs.Common.{ℕ, _+_, _*_, _≤_, _≡_, ap, _∙_, List, arith, length, take, drop, Float}
 use native.Mathlib.Nat.{mul-le-mul}
 use lib.Seq.{length-take-le}
-use Rattle.exact_pass.specs.Private.{Below, part, Free, Fit, Listing, Listed, RatioLent, DirectionLent, SystemLent, TargetLent, Scratch, Blocked, RayLent, StepLent, RunLent}
+use Rattle.exact_pass.specs.Private.{Below, part, Free, Fit, Listing, Listed, RatioLent, DirectionLent, SystemLent, TargetLent, Scratch, ScratchLent, Blocked, RayLent, StepLent, RunLent}
 use Rattle.exact_pass.specs.Pass as def
 use Rattle.exact_pass.specs.declared.Blocking.{Blocking}
 use Rattle.exact_pass.proofs.Stepping.{ratio-blocks}
@@ -45,16 +45,16 @@ module _ {n : ℕ} {w lo hi scale : List Float} {st l : List ℕ} {y : List Floa
 -- ---- the direction of the free rows, in scratch
 
 module _ {n : ℕ} {w uFree scale : List Float} {st l : List ℕ} {m y z work : List Float} where
-  pub direction-lent : {y′ z′ : List Float} → TargetLent n w uFree scale st l m y z work → length y′ ≡ length y → length z′ ≡ length z → DirectionLent n scale l z′ y′
-  direction-lent t e f = record { listed = record { below = t .system .below; long = e ∙ t .direction }; scales = t .system .scales; solution = f ∙ t .solution }
+  pub direction-lent : {y′ z′ : List Float} → TargetLent n w uFree scale st l m y z work → length y′ ≡ length l → length z′ ≡ length z → DirectionLent n scale l z′ y′
+  direction-lent t e f = record { listed = record { below = t .system .below; long = e }; scales = t .system .scales; solution = f ∙ t .solution }
 
-  pub target-lent : SystemLent n w uFree scale st l work → Scratch (length l) m y z → TargetLent n w uFree scale st l (take (length l * length l) m) (take (length l) y) (take (length l) z) work
-  target-lent s h =
+  pub target-lent : ScratchLent n w uFree scale st l m y z work → TargetLent n w uFree scale st l (take (length l * length l) m) (take (length l) y) (take (length l) z) work
+  target-lent s =
       record {
-        system = s;
-        matrix = length-take-le (length l * length l) m (h .matrix);
-        direction = length-take-le (length l) y (h .direction);
-        solution = length-take-le (length l) z (h .solution);
+        system = s .system;
+        matrix = length-take-le (length l * length l) m (s .scratch .matrix);
+        direction = length-take-le (length l) y (s .scratch .direction);
+        solution = length-take-le (length l) z (s .scratch .solution);
       }
 
 pub square-few : {n : ℕ} {w uFree scale : List Float} {st l : List ℕ} {work : List Float} → SystemLent n w uFree scale st l work → length l * length l ≤ 1024

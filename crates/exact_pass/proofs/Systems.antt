@@ -133,29 +133,31 @@ replied : (k : ℕ) (a b x : List Float) (room : ℕ) → k ≤ 32 → length a 
 unfolding least.reply
 replied k a b x room f p q r s = rw (le-leb k 32 f, eq-eqb (length a) (k * k) p, eq-eqb (length b) k q, eq-eqb (length x) k r, le-leb 1056 room s)
 
-module _ (k : ℕ) (a b x : List Float) (work : List Float) (f : k ≤ 32) (p : length a ≡ k * k) (q : length b ≡ k) (r : length x ≡ k) (s : 1056 ≤ length work) where
-  pub solved : (x′ work′ : List Float) → x′ ≡ least.xLeft (least.reply k k a b x (length work)) x → drop (least.used (least.reply k k a b x (length work))) work′ ≡ drop (least.used (least.reply k k a b x (length work))) work
-      → (x′ ≡ leastNorm k k a b .x) × (drop 1056 work′ ≡ drop 1056 work)
-  solved x′ work′ e g = let t = replied k a b x (length work) f p q r s in (rw t at e, rw t at g)
+module _ {a x work : List Float} (b : List Float) (s : private.SolveLent (length b) a x work) where
+  abbrev reply : least.Reply
+  reply = least.reply (length b) (length b) a b x (length work)
+
+  pub solved : (x′ work′ : List Float) → x′ ≡ least.xLeft reply x → drop (least.used reply) work′ ≡ drop (least.used reply) work → private.Solved a b work x′ work′
+  solved x′ work′ e g = let t = replied (length b) a b x (length work) (s .few) (s .matrix) refl (s .solution) (s .workspace) in record { solution = rw t at e; workspace = rw t at g }
 
 -- ---- the calls of `from_system`: y₁ is the right-hand side, z and y₂ are the target's, y₃ is the direction
 
 module _ (w uFree scale : List Float) (st : List ℕ) (nu : List Float) (l : List ℕ) (y₁ work₀ work₁ work₂ : List Float) where
-  module _ (sided : y₁ ≡ def.rightHandSide w uFree st nu l (length l)) (copied : Copied y₁ 1056 work₀ work₁) (few : length l ≤ 32) (solved : drop 1056 work₂ ≡ drop 1056 work₁) where
+  module _ (sided : y₁ ≡ def.rightHandSide w uFree st nu l (length l)) (copied : Copied y₁ 1056 work₀ work₁) (few : length l ≤ 32) (m z : List Float) (f : private.Solved m y₁ work₁ z work₂) where
     side-length : length y₁ ≡ length l
     side-length = ap length sided ∙ right-hand-length w uFree st nu l (length l)
 
     side-kept : part 1056 (length l) work₂ ≡ def.rightHandSide w uFree st nu l (length l)
-    side-kept = rw (solved, ← side-length) (copied .part) ∙ sided
+    side-kept = rw (f .workspace, ← side-length) (copied .part) ∙ sided
 
     side-work : drop 1088 work₂ ≡ drop 1088 work₀
-    side-work = later 1056 1088 work₂ work₁ (omega arith) solved ∙ later (1056 + length y₁) 1088 work₁ work₀ (omega (arith, side-length, few)) (copied .after)
+    side-work = later 1056 1088 work₂ work₁ (omega arith) (f .workspace) ∙ later (1056 + length y₁) 1088 work₁ work₀ (omega (arith, side-length, few)) (copied .after)
 
-    module _ (m z y₂ : List Float) (b : Bool) (e : m ≡ def.matrix w scale l (length l)) (f : z ≡ leastNorm (length y₁) (length y₁) m y₁ .x) (g : private.Tested w scale l (part 1056 (length l) work₂) z b y₂) where
+    module _ (y₂ : List Float) (b : Bool) (e : m ≡ def.matrix w scale l (length l)) (g : private.Tested w scale l (part 1056 (length l) work₂) z b y₂) where
       target : private.targeted z y₂ b ≡ def.target w uFree scale st nu l
       unfolding def.target private.tooLarge
       target =
-          let zed : z ≡ leastNorm (length l) (length l) (def.matrix w scale l (length l)) (def.rightHandSide w uFree st nu l (length l)) .x = rw (side-length, e, sided) at f in
+          let zed : z ≡ leastNorm (length l) (length l) (def.matrix w scale l (length l)) (def.rightHandSide w uFree st nu l (length l)) .x = rw (side-length, e, sided) at (f .solution) in
           rw (g .downhill, g .inconsistent, side-kept, zed)
 
       pub directed-run : (y₃ work₃ : List Float) → y₃ ≡ def.direction b scale l z nu y₂ → Copied y₃ 1056 work₂ work₃ → length y₃ ≡ length l → private.Directed (def.target w uFree scale st nu l) scale l nu work₀ b work₃

@@ -10,6 +10,7 @@ use Rattle.loops.specs.Loops.{turns, tab, counted, noted}
 use Rattle.loops.specs.Updates.{updated}
 use Rattle.floats.specs.Ops.{_⊕_, _⊖_, _⊗_, _⊘_, at, 0ᶠ, 1e6, 1e-9}
 use Rattle.floats.specs.Helpers.{larger, abs, isFinite}
+use Rattle.least_norm.specs.LeastNorm.{leastNorm}
 use Rattle.box_rows.specs.Rows as box
 use Rattle.box_rows.specs.Private as lists
 use Rattle.exact_pass.specs.Ray.{ray}
@@ -132,6 +133,48 @@ pub record Scratch (k : ℕ) (m y z : List Float) : Type 0 where
   pub direction : k ≤ length y
   pub solution : k ≤ length z
 
+-- the system, with such scratch
+pub record ScratchLent (n : ℕ) (w uFree scale : List Float) (st l : List ℕ) (m y z work : List Float) : Type 0 where
+  pub system : SystemLent n w uFree scale st l work
+  pub scratch : Scratch (length l) m y z
+
+-- the system of at most j rows
+pub record AtMost (j n : ℕ) (w uFree scale : List Float) (st l : List ℕ) (work : List Float) : Type 0 where
+  pub system : SystemLent n w uFree scale st l work
+  pub most : length l ≤ j
+
+-- what column j is taken in: the rows l of w, and their right-hand side
+pub record ColumnLent (n : ℕ) (w : List Float) (l : List ℕ) (rhs : List Float) (j : ℕ) : Type 0 where
+  pub square : lists.Square w n
+  pub listed : Listed n l rhs
+  pub column : j < n
+
+-- what the right-hand side of the rows l is made from
+pub record RightHandLent (n : ℕ) (w uFree : List Float) (st l : List ℕ) (rhs : List Float) : Type 0 where
+  pub square : lists.Square w n
+  pub motions : length uFree ≡ n
+  pub states : length st ≡ n
+  pub listed : Listed n l rhs
+
+-- what a row of the matrix of the rows l is made from
+pub record MatrixRowLent (n : ℕ) (r : List Float) (l : List ℕ) (out : List Float) : Type 0 where
+  pub row : length r ≡ n
+  pub listed : Listed n l out
+
+-- what all of them are
+pub record MatrixLent (n : ℕ) (w : List Float) (l : List ℕ) (m : List Float) : Type 0 where
+  pub square : lists.Square w n
+  pub below : Below n l
+  pub few : length l ≤ 32
+  pub matrix : length m ≡ length l * length l
+
+-- a system of k rows, at most 32, with room for its solution and the workspace of a least-norm call
+pub record SolveLent (k : ℕ) (m z work : List Float) : Type 0 where
+  pub few : k ≤ 32
+  pub matrix : length m ≡ k * k
+  pub solution : length z ≡ k
+  pub workspace : 1056 ≤ length work
+
 -- two rows of a system of the free rows l, and its solution z
 pub record RowsLent (n : ℕ) (a b : List Float) (l : List ℕ) (z : List Float) : Type 0 where
   pub first : length a ≡ n
@@ -236,6 +279,11 @@ pub record Ran (p : box.Problem) (st : List ℕ) (nu : List Float) (rows : List 
   pub passed : Passed (def.exactPass p st nu) rows e nu′ st′ rows′
   pub workspace : drop 1120 work′ ≡ drop 1120 work
 
+-- after a system of the matrix m and the right-hand side b is solved
+pub record Solved (m b work z work′ : List Float) : Type 0 where
+  pub solution : z ≡ leastNorm (length b) (length b) m b .x
+  pub workspace : drop 1056 work′ ≡ drop 1056 work
+
 -- e is the row that is taken with row i of k
 pub record Second (i k e : ℕ) : Type 0 where
   pub least : i ≤ e
@@ -256,6 +304,11 @@ pub record Directed (t : def.Target) (scale : List Float) (l : List ℕ) (nu wor
   pub direction : part 1056 (length l) work′ ≡ def.direction (t .inconsistent) scale l (t .z) nu (t .y)
   pub inconsistent : b ≡ t .inconsistent
   pub workspace : drop 1088 work′ ≡ drop 1088 work
+
+-- the same for the target of the system that these lists make
+abbrev pub DirectedTo : List Float → List Float → List Float → List ℕ → List Float → List ℕ → List Float → Bool
+    → List Float → Type 0
+DirectedTo w uFree scale st nu l work b work′ = Directed (def.target w uFree scale st nu l) scale l nu work b work′
 
 -- a row that is dropped is 0, one taken 1, one that ends the collecting 2
 unfoldable pub verdict : Bool → Bool → ℕ

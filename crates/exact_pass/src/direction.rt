@@ -42,10 +42,8 @@ fn from_system(
 ) -> bool
     requires { ⌜ private.TargetLent (length (now nu)) (now w) (now «u_free») (now scale) (now states) (now free)
         (now m) (now y) (now z) (now work) ⌝ }
-    ensures { λ q. ⌜ private.Directed
-        (def.target (now (w .entry)) (now («u_free» .entry)) (now (scale .entry)) (now (states .entry))
-        (now (nu .entry)) (now (free .entry)))
-        (now (scale .entry)) (now (free .entry)) (now (nu .entry)) (now (work .entry)) q (now (work .exit)) ⌝ }
+    ensures { λ q. ⌜ private.DirectedTo (now (w .entry)) (now («u_free» .entry)) (now (scale .entry))
+        (now (states .entry)) (now (nu .entry)) (now (free .entry)) (now (work .entry)) q (now (work .exit)) ⌝ }
 {
     system::right_hand_side(w, u_free, states, nu, free, y);
     read::copy(y, work, crate::RIGHT_HAND_SIDE);
@@ -70,13 +68,10 @@ fn in_scratch(
     z: &mut [f64],
     work: &mut [f64],
 ) -> bool
-    requires { ⌜ private.SystemLent (length (now nu)) (now w) (now «u_free») (now scale) (now states) (now free)
-        (now work)
-        × private.Scratch (length (now free)) (now m) (now y) (now z) ⌝ }
-    ensures { λ q. ⌜ private.Directed
-        (def.target (now (w .entry)) (now («u_free» .entry)) (now (scale .entry)) (now (states .entry))
-        (now (nu .entry)) (now (free .entry)))
-        (now (scale .entry)) (now (free .entry)) (now (nu .entry)) (now (work .entry)) q (now (work .exit)) ⌝ }
+    requires { ⌜ private.ScratchLent (length (now nu)) (now w) (now «u_free») (now scale) (now states) (now free)
+        (now m) (now y) (now z) (now work) ⌝ }
+    ensures { λ q. ⌜ private.DirectedTo (now (w .entry)) (now («u_free» .entry)) (now (scale .entry))
+        (now (states .entry)) (now (nu .entry)) (now (free .entry)) (now (work .entry)) q (now (work .exit)) ⌝ }
 {
     let k = free.len();
     let kk = k * k;
@@ -103,13 +98,10 @@ fn of_at_most_2(
     free: &[u8],
     work: &mut [f64],
 ) -> bool
-    requires { ⌜ private.SystemLent (length (now nu)) (now w) (now «u_free») (now scale) (now states) (now free)
-        (now work)
-        × (length (now free) ≤ 2) ⌝ }
-    ensures { λ q. ⌜ private.Directed
-        (def.target (now (w .entry)) (now («u_free» .entry)) (now (scale .entry)) (now (states .entry))
-        (now (nu .entry)) (now (free .entry)))
-        (now (scale .entry)) (now (free .entry)) (now (nu .entry)) (now (work .entry)) q (now (work .exit)) ⌝ }
+    requires { ⌜ private.AtMost 2 (length (now nu)) (now w) (now «u_free») (now scale) (now states) (now free)
+        (now work) ⌝ }
+    ensures { λ q. ⌜ private.DirectedTo (now (w .entry)) (now («u_free» .entry)) (now (scale .entry))
+        (now (states .entry)) (now (nu .entry)) (now (free .entry)) (now (work .entry)) q (now (work .exit)) ⌝ }
 {
     let mut m = [0.0f64; 4];
     let mut y = [0.0f64; 2];
@@ -137,13 +129,10 @@ fn of_at_most_8(
     free: &[u8],
     work: &mut [f64],
 ) -> bool
-    requires { ⌜ private.SystemLent (length (now nu)) (now w) (now «u_free») (now scale) (now states) (now free)
-        (now work)
-        × (length (now free) ≤ 8) ⌝ }
-    ensures { λ q. ⌜ private.Directed
-        (def.target (now (w .entry)) (now («u_free» .entry)) (now (scale .entry)) (now (states .entry))
-        (now (nu .entry)) (now (free .entry)))
-        (now (scale .entry)) (now (free .entry)) (now (nu .entry)) (now (work .entry)) q (now (work .exit)) ⌝ }
+    requires { ⌜ private.AtMost 8 (length (now nu)) (now w) (now «u_free») (now scale) (now states) (now free)
+        (now work) ⌝ }
+    ensures { λ q. ⌜ private.DirectedTo (now (w .entry)) (now («u_free» .entry)) (now (scale .entry))
+        (now (states .entry)) (now (nu .entry)) (now (free .entry)) (now (work .entry)) q (now (work .exit)) ⌝ }
 {
     let mut m = [0.0f64; 64];
     let mut y = [0.0f64; 8];
@@ -172,12 +161,9 @@ fn of_at_most_32(
     work: &mut [f64],
 ) -> bool
     requires { ⌜ private.SystemLent (length (now nu)) (now w) (now «u_free») (now scale) (now states) (now free)
-        (now work)
-        × (length (now free) ≤ 32) ⌝ }
-    ensures { λ q. ⌜ private.Directed
-        (def.target (now (w .entry)) (now («u_free» .entry)) (now (scale .entry)) (now (states .entry))
-        (now (nu .entry)) (now (free .entry)))
-        (now (scale .entry)) (now (free .entry)) (now (nu .entry)) (now (work .entry)) q (now (work .exit)) ⌝ }
+        (now work) ⌝ }
+    ensures { λ q. ⌜ private.DirectedTo (now (w .entry)) (now («u_free» .entry)) (now (scale .entry))
+        (now (states .entry)) (now (nu .entry)) (now (free .entry)) (now (work .entry)) q (now (work .exit)) ⌝ }
 {
     let mut m = [0.0f64; 1024];
     let mut y = [0.0f64; 32];
@@ -208,10 +194,8 @@ pub fn of_free_rows(
 ) -> bool
     requires { ⌜ private.SystemLent (length (now nu)) (now w) (now «u_free») (now scale) (now states) (now free)
         (now work) ⌝ }
-    ensures { λ q. ⌜ private.Directed
-        (def.target (now (w .entry)) (now («u_free» .entry)) (now (scale .entry)) (now (states .entry))
-        (now (nu .entry)) (now (free .entry)))
-        (now (scale .entry)) (now (free .entry)) (now (nu .entry)) (now (work .entry)) q (now (work .exit)) ⌝ }
+    ensures { λ q. ⌜ private.DirectedTo (now (w .entry)) (now («u_free» .entry)) (now (scale .entry))
+        (now (states .entry)) (now (nu .entry)) (now (free .entry)) (now (work .entry)) q (now (work .exit)) ⌝ }
 {
     let k = free.len();
     if k <= 2 {

@@ -2,15 +2,13 @@
 // least norm, and what that leaves of it.
 ghost use mathlib.Core.Path.{_≡_};
 ghost use mathlib.Core.Bool.{cond};
-ghost use Prim.Native.Nat.{ℕ, _*_, _≤_, _<_};
+ghost use Prim.Native.Nat.{ℕ, _<_};
 ghost use lib.Dec.{eqb};
-ghost use lib.ListN.{length, getD, drop};
+ghost use lib.ListN.{length, getD};
 ghost use lib.Ieee.{neg};
 ghost use Rattle.loops.specs.Loops.{tab};
 ghost use Rattle.floats.specs.Ops.{at};
-ghost use Rattle.least_norm.specs.LeastNorm.{leastNorm};
 ghost use Rattle.box_rows.specs.Rows as box;
-ghost use Rattle.box_rows.specs.Private as lists;
 ghost use Rattle.exact_pass.specs.Pass as def;
 ghost use Rattle.exact_pass.specs.Private as private;
 use crate::Residuals;
@@ -18,7 +16,7 @@ use crate::read;
 
 // The right-hand side before any column: minus the free motion of each free row.
 fn right_hand_start(u_free: &[f64], free: &[u8], rhs: &mut [f64])
-    requires { ⌜ private.Below (length (now «u_free»)) (now free) × (length (now rhs) ≡ length (now free)) ⌝ }
+    requires { ⌜ private.Listed (length (now «u_free»)) (now free) (now rhs) ⌝ }
     ensures { λ q. ⌜ now (rhs .exit)
         ≡ tab (λ (i : ℕ). neg (at (now («u_free» .entry)) (getD (now (free .entry)) i 0))) (length (now (free .entry))) ⌝ }
 {
@@ -33,8 +31,7 @@ fn right_hand_start(u_free: &[f64], free: &[u8], rhs: &mut [f64])
 // Column j, whose row has the multiplier v, taken from the right-hand side of each free row where row j is not free: the
 // columns of free rows are on the left.
 fn bound_column(state: u8, w: &[f64], n: usize, free: &[u8], j: usize, v: f64, rhs: &mut [f64])
-    requires { ⌜ lists.Square (now w) n × (j < n) × private.Below n (now free)
-        × (length (now rhs) ≡ length (now free)) ⌝ }
+    requires { ⌜ private.ColumnLent n (now w) (now free) (now rhs) j ⌝ }
     ensures { λ q. ⌜ now (rhs .exit)
         ≡ cond (eqb state box.inside) (now (rhs .entry))
         (private.columnTaken (now (w .entry)) n (now (free .entry)) j v (length (now (free .entry)))
@@ -61,9 +58,8 @@ pub fn right_hand_side(
     free: &[u8],
     rhs: &mut [f64],
 )
-    requires { ⌜ lists.Square (now w) (length (now nu)) × (length (now «u_free») ≡ length (now nu))
-        × (length (now states) ≡ length (now nu))
-        × private.Below (length (now nu)) (now free) × (length (now rhs) ≡ length (now free)) ⌝ }
+    requires { ⌜ private.RightHandLent (length (now nu)) (now w) (now «u_free») (now states) (now free)
+        (now rhs) ⌝ }
     ensures { λ q. ⌜ now (rhs .exit)
         ≡ def.rightHandSide (now (w .entry)) (now («u_free» .entry)) (now (states .entry)) (now (nu .entry))
         (now (free .entry)) (length (now (free .entry))) ⌝ }
@@ -78,8 +74,7 @@ pub fn right_hand_side(
 }
 
 fn matrix_row(row: &[f64], scale: &[f64], free: &[u8], out: &mut [f64])
-    requires { ⌜ (length (now row) ≡ length (now scale)) × private.Below (length (now scale)) (now free)
-        × (length (now out) ≡ length (now free)) ⌝ }
+    requires { ⌜ private.MatrixRowLent (length (now scale)) (now row) (now free) (now out) ⌝ }
     ensures { λ q. ⌜ now (out .exit)
         ≡ private.matrixRow (now (row .entry)) (now (scale .entry)) (now (free .entry)) (length (now (free .entry))) ⌝ }
 {
@@ -93,9 +88,7 @@ fn matrix_row(row: &[f64], scale: &[f64], free: &[u8], out: &mut [f64])
 }
 
 pub fn matrix(w: &[f64], scale: &[f64], free: &[u8], m: &mut [f64])
-    requires { ⌜ lists.Square (now w) (length (now scale)) × private.Below (length (now scale)) (now free)
-        × (length (now free) ≤ 32)
-        × (length (now m) ≡ length (now free) * length (now free)) ⌝ }
+    requires { ⌜ private.MatrixLent (length (now scale)) (now w) (now free) (now m) ⌝ }
     ensures { λ q. ⌜ now (m .exit)
         ≡ def.matrix (now (w .entry)) (now (scale .entry)) (now (free .entry)) (length (now (free .entry))) ⌝ }
 {
@@ -229,12 +222,9 @@ pub fn residual(
 
 // A least-norm call that fits: k rows and columns.
 pub fn solve(m: &mut [f64], b: &mut [f64], z: &mut [f64], work: &mut [f64])
-    requires { ⌜
-        (length (now b) ≤ 32) × (length (now m) ≡ length (now b) * length (now b)) × (length (now z) ≡ length (now b))
-        × (1056 ≤ length (now work)) ⌝ }
-    ensures { λ q. ⌜ (now (z .exit)
-        ≡ leastNorm (length (now (b .entry))) (length (now (b .entry))) (now (m .entry)) (now (b .entry)) .x)
-        × (drop 1056 (now (work .exit)) ≡ drop 1056 (now (work .entry))) ⌝ }
+    requires { ⌜ private.SolveLent (length (now b)) (now m) (now z) (now work) ⌝ }
+    ensures { λ q. ⌜ private.Solved (now (m .entry)) (now (b .entry)) (now (work .entry)) (now (z .exit))
+        (now (work .exit)) ⌝ }
 {
     let k = b.len();
     least_norm::LeastNorm::solve(m, k, k, b, z, work);

@@ -16,7 +16,7 @@ at-requires-2 : tie.Need-at-requires-2 Inv-loop μ-loop
 at-requires-2 c κs =
     let at-row = c .before .before .before in
     let at-pre = at-row .before .before .before .before .before .before .before .before in
-    omega (arith, ap length (at-row .row .ensures) ∙ row-length _ _ _, at-pre .pre .1)
+    omega (arith, ap length (at-row .row .ensures) ∙ row-length _ _ _, at-pre .pre .column)
 
 loop-again : tie.Need-loop-again Inv-loop μ-loop
 loop-again c =

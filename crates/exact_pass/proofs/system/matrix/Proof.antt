@@ -20,7 +20,7 @@ entry c = c .before .before .before .before .before
 
 -- the row that is filled ends within the matrix
 small : (c : tie.At-loop Inv-loop μ-loop) → c .loop .i ≤ 32 → c .loop .i * length (entry c .args .free .now) ≤ 1024
-small c h = product (c .loop .i) (length (entry c .args .free .now)) h (entry c .pre .2)
+small c h = product (c .loop .i) (length (entry c .args .free .now)) h (entry c .pre .few)
 
 part-end : tie.Need-part-matrix-row-end Inv-loop μ-loop
 part-end c =
@@ -32,7 +32,7 @@ matrix-row-requires : tie.Need-matrix-row-requires Inv-loop μ-loop
 matrix-row-requires c κs =
     let at-test = c .before .before .before in
     let p = entry (at-test .before) .pre in
-    (ap length (c .before .row .ensures) ∙ row-length _ _ _, p .1, part-length _ _ _ (at-test .before .loop .inv .3 ∙ p .3) (at-test .loop-test .taken))
+    record { row = ap length (c .before .row .ensures) ∙ row-length _ _ _; listed = record { below = p .below; long = part-length _ _ _ (at-test .before .loop .inv .3 ∙ p .matrix) (at-test .loop-test .taken) } }
 
 loop-again : tie.Need-loop-again Inv-loop μ-loop
 loop-again c =
@@ -60,4 +60,4 @@ matrix-spec =
     (λ c. omega arith)
     loop-again
     (λ c. omega arith)
-    (λ c. matrix-done _ _ _ _ (c .before .loop .i) _ (entry (c .before) .pre .3) (omega arith) (omega arith) (c .before .loop .inv .4)))
+    (λ c. matrix-done _ _ _ _ (c .before .loop .i) _ (entry (c .before) .pre .matrix) (omega arith) (omega arith) (c .before .loop .inv .4)))

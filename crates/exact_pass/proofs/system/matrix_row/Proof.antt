@@ -27,7 +27,7 @@ unfolding private.matrixRow
 returns c =
     let at-loop = c .before in
     let at-pre = at-loop .before .before .before .before .before in
-    tab-filled _ _ _ _ _ (at-loop .loop .inv .3) (at-loop .loop .inv .2) (at-pre .pre .2) (omega arith) (omega arith)
+    tab-filled _ _ _ _ _ (at-loop .loop .inv .3) (at-loop .loop .inv .2) (at-pre .pre .listed .long) (omega arith) (omega arith)
 
 pub matrix-row-spec : {M : Type 1} → this.Statement.statement M
 matrix-row-spec =

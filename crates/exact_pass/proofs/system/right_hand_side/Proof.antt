@@ -23,11 +23,11 @@ right-hand-side-spec =
     (tie.spec
     Inv-loop
     μ-loop
-    (λ c κs. let at-pre = c .before .before .before .before .before .before .before in (rw (at-pre .pre .1) (at-pre .pre .3), at-pre .pre .4))
+    (λ c κs. let p = c .before .before .before .before .before .before .before .pre in rw (p .motions) (p .listed))
     (λ c. (search needs, search needs, search needs, columns-start _ _ _ _ _ _ _ (c .before .before .right-hand-start .ensures)))
     (λ c κs. search needs)
     (λ c κs. search needs)
-    (λ c κs. search needs)
+    (λ c κs. record { square = search needs; listed = record { below = search needs; long = search needs }; column = search needs })
     (λ c. search needs)
     (λ c. search needs)
     loop-again

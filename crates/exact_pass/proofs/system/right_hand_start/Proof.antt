@@ -23,7 +23,7 @@ returns : tie.Need-returns Inv-loop μ-loop
 returns c =
     let at-loop = c .before in
     let at-pre = at-loop .before .before .before .before in
-    tab-filled _ _ _ _ _ (at-loop .loop .inv .3) (at-loop .loop .inv .2) (at-pre .pre .1) (omega arith) (omega arith)
+    tab-filled _ _ _ _ _ (at-loop .loop .inv .3) (at-loop .loop .inv .2) (at-pre .pre .long) (omega arith) (omega arith)
 
 pub right-hand-start-spec : {M : Type 1} → this.Statement.statement M
 right-hand-start-spec =

@@ -1,5 +1,4 @@
 use Rattle.exact_pass.proofs.Systems.{solved}
-use mathlib.Core.Path.{refl}
 use Rattle.exact_pass.proofs.system.solve as this
 use this.Tie as tie
 
@@ -11,7 +10,7 @@ returns c =
     let at-solve = to-solve c in
     let at-args = at-solve .before .before .before .before .before .before .before .before .before in
     let p = at-args .pre in
-    solved _ _ _ _ (at-args .args .work .now) (p .0) (p .1) refl (p .2) (p .3) _ _ (at-solve .solve .ensures .x-left) (at-solve .solve .ensures .workspace-left)
+    solved (at-args .args .b .now) p _ _ (at-solve .solve .ensures .x-left) (at-solve .solve .ensures .workspace-left)
 
 pub solve-spec : {M : Type 1} → this.Statement.statement M
 solve-spec =
