@@ -47,16 +47,13 @@ module _ (w scale : List Float) (l : List ℕ) (m₀ : List Float) where
 
 -- ---- what the solution leaves of a row, by that row, and two rows taken in one turn
 
-pub two-put : (i e : ℕ) (y : List Float) {y₁ y₂ : List Float} {a b c d : Float} → y₁ ≡ set y i (neg a) → y₂ ≡ set y₁ e (neg b) → a ≡ c → b ≡ d → y₂ ≡ set (set y i (neg c)) e (neg d)
-two-put i e y p q g h = rw (q, p, g, h)
-
-pub diagonal : {r scale : List Float} {a : ℕ} → length r ≡ length scale → a < length scale → private.DiagonalLent r scale a
-diagonal e h = record { diagonal = rw e h; scales = h }
-
-pub row-is : (w scale : List Float) (l : List ℕ) (rhs z : List Float) (i : ℕ) {a : ℕ} {r : List Float} {b s : Float} → a ≡ getD l i 0 → r ≡ box.row w (length scale) a → b ≡ at rhs i → s ≡ private.residualRow r scale l z b (length l)
-    → (s ≡ def.residual w scale l rhs z i) × (private.tooLarge s (at r a) (at scale a) ≡ private.tooLargeAt w scale l rhs z i)
+pub residual-is : (w scale : List Float) (l : List ℕ) (rhs z : List Float) (i : ℕ) {a : ℕ} {r : List Float} {b s : Float} → a ≡ getD l i 0 → r ≡ box.row w (length scale) a → b ≡ at rhs i → s ≡ private.residualRow r scale l z b (length l) → s ≡ def.residual w scale l rhs z i
 unfolding def.residual private.residualRow
-row-is w scale l rhs z i e f g h = (rw (h, g, f, e), rw (h, g, f, e))
+residual-is w scale l rhs z i e f g h = rw (h, g, f, e)
+
+pub two-tested : (w scale : List Float) (l : List ℕ) (rhs z : List Float) (i e : ℕ) (y : List Float) {y₁ y₂ : List Float} {a b : Float} {s t : Bool} → y₁ ≡ set y i (neg a) → y₂ ≡ set y₁ e (neg b) → s ≡ private.tooLarge w scale l i a → t ≡ private.tooLarge w scale l e b
+    → a ≡ def.residual w scale l rhs z i → b ≡ def.residual w scale l rhs z e → private.TwoTested w scale l rhs z i e y (s || t) y₂
+two-tested w scale l rhs z i e y p q s t g h = record { downhill = rw (q, p, g, h); inconsistent = rw (s, t, g, h) }
 
 module _ {i k e : ℕ} (s : private.Second i k e) where
   pub tab-two : (f : ℕ → Float) (d y : List Float) → y ≡ tab f i ++ drop i d → length y ≡ length d → k ≤ length d → set (set y i (f i)) e (f e) ≡ tab f (e + 1) ++ drop (e + 1) d

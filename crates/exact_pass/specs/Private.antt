@@ -181,25 +181,21 @@ pub record RowsLent (n : ℕ) (a b : List Float) (l : List ℕ) (z : List Float)
   pub second : length b ≡ n
   pub listed : Listed n l z
 
--- row r of a matrix has a value at place a, and so have the scales
-pub record DiagonalLent (r scale : List Float) (a : ℕ) : Type 0 where
-  pub diagonal : a < length r
-  pub scales : a < length scale
-
--- what the solution z is tested in: the rows l of w, their right-hand side, and y
-pub record TestLent (n : ℕ) (w : List Float) (l : List ℕ) (rhs z y : List Float) : Type 0 where
+-- row i of the rows l of w
+pub record RowLent (n : ℕ) (w : List Float) (l : List ℕ) (i : ℕ) : Type 0 where
   pub square : lists.Square w n
-  pub listed : Listed n l z
+  pub below : Below n l
+  pub row : i < length l
+
+-- what the solution z is tested in for rows i and e: their right-hand sides, and y
+pub record TwoLent (n : ℕ) (w : List Float) (l : List ℕ) (rhs z y : List Float) (i e : ℕ) : Type 0 where
+  pub first : RowLent n w l i
+  pub second : RowLent n w l e
   pub side : length rhs ≡ length l
+  pub solution : length z ≡ length l
   pub direction : length y ≡ length l
 
--- the same for rows i and e
-pub record TwoLent (n : ℕ) (w : List Float) (l : List ℕ) (rhs z y : List Float) (i e : ℕ) : Type 0 where
-  pub lists : TestLent n w l rhs z y
-  pub first : i < length l
-  pub second : e < length l
-
--- the same for all rows, with the right-hand side in the workspace
+-- for all rows, with the right-hand side in the workspace
 pub record ResidualLent (n : ℕ) (w : List Float) (l : List ℕ) (work z y : List Float) : Type 0 where
   pub square : lists.Square w n
   pub listed : Listed n l z
@@ -387,14 +383,14 @@ pub record RowsLeft (r s scale : List Float) (l : List ℕ) (z : List Float) (a 
   pub first : q .first ≡ residualRow r scale l z a (length l)
   pub second : q .second ≡ residualRow s scale l z b (length l)
 
-unfoldable pub tooLarge : Float → Float → Float → Bool
-tooLarge r d s = lt 1e-9 (abs (r ⊘ d) ⊘ s)
-
--- whether what z leaves of row i is too large
-abbrev pub tooLargeAt : List Float → List Float → List ℕ → List Float → List Float → ℕ → Bool
-tooLargeAt w scale l rhs z i =
+-- whether r, what is left of row i, is too large
+unfoldable pub tooLarge : List Float → List Float → List ℕ → ℕ → Float → Bool
+tooLarge w scale l i r =
     let a = getD l i 0 in
-    tooLarge (def.residual w scale l rhs z i) (at (box.row w (length scale) a) a) (at scale a)
+    lt 1e-9 (abs (r ⊘ at (box.row w (length scale) a) a) ⊘ at scale a)
+
+abbrev pub tooLargeAt : List Float → List Float → List ℕ → List Float → List Float → ℕ → Bool
+tooLargeAt w scale l rhs z i = tooLarge w scale l i (def.residual w scale l rhs z i)
 
 abbrev pub inconsistent : List Float → List Float → List ℕ → List Float → List Float → ℕ → Bool
 inconsistent w scale l rhs z k = turns k false λ i b. b || tooLargeAt w scale l rhs z i

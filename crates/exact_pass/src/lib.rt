@@ -100,8 +100,8 @@ fn fits(
 }
 
 // From the multipliers in nu the exact solution, in their place, with the states that the pass leaves; or the rows
-// of a ray, on which the problem falls without end, at the front of `rows`. A call whose lists do not fit, or whose workspace
-// is too short, fails and changes nothing.
+// of a ray, on which the problem falls without end, at the front of `rows`. A call whose lists do not fit, or whose
+// workspace is too short, fails and changes nothing.
 pub fn exact_pass(
     w: &[f64],
     u_free: &[f64],

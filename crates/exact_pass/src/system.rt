@@ -18,7 +18,8 @@ use crate::read;
 fn right_hand_start(u_free: &[f64], free: &[u8], rhs: &mut [f64])
     requires { ⌜ private.Listed (length (now «u_free»)) (now free) (now rhs) ⌝ }
     ensures { λ q. ⌜ now (rhs .exit)
-        ≡ tab (λ (i : ℕ). neg (at (now («u_free» .entry)) (getD (now (free .entry)) i 0))) (length (now (free .entry))) ⌝ }
+        ≡ tab (λ (i : ℕ). neg (at (now («u_free» .entry)) (getD (now (free .entry)) i 0)))
+        (length (now (free .entry))) ⌝ }
 {
     let k = free.len();
     let mut i = 0;
@@ -28,8 +29,8 @@ fn right_hand_start(u_free: &[f64], free: &[u8], rhs: &mut [f64])
     }
 }
 
-// Column j, whose row has the multiplier v, taken from the right-hand side of each free row where row j is not free: the
-// columns of free rows are on the left.
+// Column j, whose row has the multiplier v, taken from the right-hand side of each free row where row j is not free:
+// the columns of free rows are on the left.
 fn bound_column(state: u8, w: &[f64], n: usize, free: &[u8], j: usize, v: f64, rhs: &mut [f64])
     requires { ⌜ private.ColumnLent n (now w) (now free) (now rhs) j ⌝ }
     ensures { λ q. ⌜ now (rhs .exit)
@@ -140,11 +141,14 @@ fn residual_rows(
     }
 }
 
-// Whether r, what is left of row a of the matrix, is too large for its diagonal and scale.
-fn too_large(r: f64, row: &[f64], scale: &[f64], a: usize) -> bool
-    requires { ⌜ private.DiagonalLent (now row) (now scale) a ⌝ }
-    ensures { λ q. ⌜ q ≡ private.tooLarge r (at (now (row .entry)) a) (at (now (scale .entry)) a) ⌝ }
+// Whether r, what is left of row i, is too large for its diagonal and scale.
+fn too_large(r: f64, w: &[f64], scale: &[f64], free: &[u8], i: usize) -> bool
+    requires { ⌜ private.RowLent (length (now scale)) (now w) (now free) i ⌝ }
+    ensures { λ q. ⌜ q ≡ private.tooLarge (now (w .entry)) (now (scale .entry)) (now (free .entry)) i r ⌝ }
 {
+    let n = scale.len();
+    let a = read::row_number(free, i);
+    let row = read::row(w, n, a);
     floats::abs(r / read::at(row, a)) / read::at(scale, a) > crate::EXACT_RESIDUAL
 }
 
@@ -164,20 +168,17 @@ fn two_rows(
         (now (z .entry)) i e (now (y .entry)) q (now (y .exit)) ⌝ }
 {
     let n = scale.len();
-    let a = read::row_number(free, i);
-    let b = read::row_number(free, e);
-    let first = read::row(w, n, a);
-    let second = read::row(w, n, b);
     let r = residual_rows(
-        first,
-        second,
+        read::row(w, n, read::row_number(free, i)),
+        read::row(w, n, read::row_number(free, e)),
         scale,
         free,
         z,
         read::at(rhs, i),
         read::at(rhs, e),
     );
-    let inconsistent = too_large(r.first, first, scale, a) | too_large(r.second, second, scale, b);
+    let inconsistent = too_large(r.first, w, scale, free, i)
+        | too_large(r.second, w, scale, free, e);
     read::put(y, i, -r.first);
     read::put(y, e, -r.second);
     inconsistent

@@ -72,8 +72,7 @@ returns c =
     let r = to-residual d in
     let s = to-solve r in
     let m = to-matrix s in
-    let a = start s .args in
-    directed-run (a .w .now) (a .u-free .now) (a .scale .now) (a .states .now) (a .nu .now) (a .free .now) _ _ _ (s .solve .last .1 .1 .1 .0)
+    directed-run _ _ _ _ _ _ _ _ _ _
     (to-side (to-copy m) .right-hand-side .ensures) (to-copy m .copy .ensures) (start s .pre .system .few) _ _ (s .solve .ensures) _ _ (m .matrix .ensures) (r .residual .ensures) _ _ (d .direction .ensures) (c .before .before .copy2 .ensures) (long d)
 
 pub from-system-spec : {M : Type 1} → this.Statement.statement M

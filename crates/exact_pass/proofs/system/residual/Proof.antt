@@ -23,14 +23,14 @@ to-second c = c .before .before
 
 two-rows-requires : tie.Need-two-rows-requires Inv-loop μ-loop
 two-rows-requires c κs =
-    let s = c .before in
-    let l = s .before .before in
-    let a = entry l .args in
+    let l = c .before .before .before in
     let p = entry l .pre in
     record {
-      lists = record { square = p .square; listed = p .listed; side = part-long 1056 (length (a .free .now)) (a .work .now) (l .before .part .ensures) (omega (arith, p)); direction = l .loop .inv .2 ∙ p .direction };
-      first = omega arith;
-      second = omega arith;
+      first = record { square = p .square; below = p .listed .below; row = omega arith };
+      second = record { square = p .square; below = p .listed .below; row = omega arith };
+      side = part-long 1056 _ (entry l .args .work .now) (l .before .part .ensures) (omega arith);
+      solution = p .listed .long;
+      direction = omega arith;
     }
 
 loop-again : tie.Need-loop-again Inv-loop μ-loop
