@@ -4,7 +4,7 @@ ghost use Prim.Native.Nat.{_+_, _%_};
 ghost use mathlib.Core.Bool.{true, _||_};
 ghost use lib.Dec.{leb};
 ghost use lib.ListN.{length};
-ghost use Rattle.accumulator.specs.Accumulators as def;
+ghost use Rattle.accumulator.specs.Accumulators as acc;
 ghost use Rattle.accumulator.specs.Joins as joins;
 use crate::Accumulator;
 use crate::Added;
@@ -14,7 +14,7 @@ use crate::words;
 fn add_words(words: &mut [u64], other: &[u64])
     requires { ⌜ (length (now words) ≡ 67) × (length (now other) ≡ 67) ⌝ }
     ensures { λ _. ⌜
-        now (words .exit) ≡ def.words ((def.value (now (words .entry)) + def.value (now (other .entry))) % def.size) ⌝ }
+        now (words .exit) ≡ acc.words ((acc.value (now (words .entry)) + acc.value (now (other .entry))) % acc.size) ⌝ }
 {
     let mut carry = 0;
     let mut i = 0;

@@ -1,7 +1,7 @@
 // Exact row sums: a free motion and up to 32 products W_ij * nu_j added without rounding, in a Kulisch (long) accumulator. Each call is total, and its
 // contract is an equation with a definition of specs/. The solver does not use it: its row sums stay rounded.
 ghost use mathlib.Core.Path.{_≡_};
-ghost use Rattle.accumulator.specs.Accumulators as def;
+ghost use Rattle.accumulator.specs.Accumulators as acc;
 
 mod joining;
 mod rows;
@@ -34,7 +34,7 @@ impl Accumulator {
 
     // A free motion is added: 18 if there is one already, then 17 if u is NaN or infinite.
     pub fn add_free(self, u: f64) -> Added
-        ensures { λ r. ⌜ r ≡ def.addFree self u ⌝ }
+        ensures { λ r. ⌜ r ≡ acc.addFree self u ⌝ }
     {
         if self.free {
             return Added {
@@ -62,7 +62,7 @@ impl Accumulator {
 
     // A product is added: 18 if there are 32 already, then 17 if w or nu is NaN or infinite.
     pub fn add_product(self, w: f64, nu: f64) -> Added
-        ensures { λ r. ⌜ r ≡ def.addProduct self w nu ⌝ }
+        ensures { λ r. ⌜ r ≡ acc.addProduct self w nu ⌝ }
     {
         if self.products >= 32 {
             return Added {
@@ -90,7 +90,7 @@ impl Accumulator {
 
     // The sign of the exact sum: -1, 0 or 1.
     pub fn sign(self) -> i8
-        ensures { λ r. ⌜ r ≡ def.signOf (def.meaning (self .words)) ⌝ }
+        ensures { λ r. ⌜ r ≡ acc.signOf (acc.meaning (self .words)) ⌝ }
     {
         let words = self.words;
         sign::sign(&words)
@@ -98,7 +98,7 @@ impl Accumulator {
 }
 
 fn refused(number: u32) -> Added
-    ensures { λ r. ⌜ r ≡ def.refused number def.EMPTY ⌝ }
+    ensures { λ r. ⌜ r ≡ acc.refused number acc.EMPTY ⌝ }
 {
     Added {
         number,
@@ -109,7 +109,7 @@ fn refused(number: u32) -> Added
 // A whole row at once, as from EMPTY by add_free of u and add_product of w[j] and nu[j] for j rising, over the shorter of the two: 18 for more than 32
 // products, then 17 for a value that is NaN or infinite; a refused row answers EMPTY.
 pub fn row(u: f64, w: &[f64], nu: &[f64]) -> Added
-    ensures { λ r. ⌜ r ≡ def.row u (now (w .entry)) (now (nu .entry)) ⌝ }
+    ensures { λ r. ⌜ r ≡ acc.row u (now (w .entry)) (now (nu .entry)) ⌝ }
 {
     let n = rows::shorter(w, nu);
     if n > 32 {

@@ -5,12 +5,12 @@ ghost use Prim.Native.Nat.{_≤_};
 ghost use lib.ListN.{length};
 ghost use Rattle.floats.specs.Helpers as helpers;
 ghost use Rattle.loops.specs.Loops.{every};
-ghost use Rattle.accumulator.specs.Accumulators as def;
+ghost use Rattle.accumulator.specs.Accumulators as acc;
 ghost use Rattle.accumulator.specs.Steps as steps;
 use crate::term;
 
 pub fn shorter(w: &[f64], nu: &[f64]) -> usize
-    ensures { λ r. ⌜ r ≡ def.shorter (now (w .entry)) (now (nu .entry)) ⌝ }
+    ensures { λ r. ⌜ r ≡ acc.shorter (now (w .entry)) (now (nu .entry)) ⌝ }
 {
     if w.len() <= nu.len() {
         return w.len();
@@ -30,7 +30,7 @@ pub fn both_finite(w: f64, nu: f64) -> bool
 // Whether the first n values of both are finite.
 fn all_finite(w: &[f64], nu: &[f64], n: usize) -> bool
     requires { ⌜ (n ≤ length (now w)) × (n ≤ length (now nu)) ⌝ }
-    ensures { λ r. ⌜ r ≡ every (def.bothFinite (now (w .entry)) (now (nu .entry))) n ⌝ }
+    ensures { λ r. ⌜ r ≡ every (acc.bothFinite (now (w .entry)) (now (nu .entry))) n ⌝ }
 {
     let mut j = 0;
     while j < n {
@@ -46,7 +46,7 @@ fn all_finite(w: &[f64], nu: &[f64], n: usize) -> bool
 // Whether a row's values are finite: the free motion, and the first n of both lists.
 pub fn usable(u: f64, w: &[f64], nu: &[f64], n: usize) -> bool
     requires { ⌜ (n ≤ length (now w)) × (n ≤ length (now nu)) ⌝ }
-    ensures { λ r. ⌜ r ≡ helpers.isFinite u && every (def.bothFinite (now (w .entry)) (now (nu .entry))) n ⌝ }
+    ensures { λ r. ⌜ r ≡ helpers.isFinite u && every (acc.bothFinite (now (w .entry)) (now (nu .entry))) n ⌝ }
 {
     if floats::is_finite(u) {
         return all_finite(w, nu, n);
@@ -58,7 +58,7 @@ pub fn usable(u: f64, w: &[f64], nu: &[f64], n: usize) -> bool
 pub fn add_products(words: &mut [u64], w: &[f64], nu: &[f64], n: usize)
     requires { ⌜
         (length (now words) ≡ 67) × (n ≤ length (now w)) × (n ≤ length (now nu))
-        × (every (def.bothFinite (now w) (now nu)) n ≡ true) ⌝ }
+        × (every (acc.bothFinite (now w) (now nu)) n ≡ true) ⌝ }
     ensures { λ _. ⌜ now (words .exit) ≡ steps.products (now (words .entry)) (now (w .entry)) (now (nu .entry)) n ⌝ }
 {
     let mut j = 0;

@@ -4,7 +4,7 @@ ghost use mathlib.Core.Bool.{true};
 ghost use Prim.Native.Nat.{_+_, _*_, _/_, _^_, _<_};
 ghost use lib.ListN.{length};
 ghost use Rattle.floats.specs.Helpers as helpers;
-ghost use Rattle.accumulator.specs.Accumulators as def;
+ghost use Rattle.accumulator.specs.Accumulators as acc;
 ghost use Rattle.accumulator.specs.Steps as steps;
 use crate::words;
 
@@ -79,7 +79,7 @@ fn above(h: u64, middle: u64) -> u64
 // The product of two numbers below 2^53, by halves of 32 bits.
 fn product(m: u64, n: u64) -> Wide
     requires { ⌜ (m < 9007199254740992) × (n < 9007199254740992) ⌝ }
-    ensures { λ r. ⌜ r .low + def.base * r .high ≡ m * n ⌝ }
+    ensures { λ r. ⌜ r .low + acc.base * r .high ≡ m * n ⌝ }
 {
     let a = m / 4294967296;
     let b = m % 4294967296;
@@ -97,7 +97,7 @@ fn product(m: u64, n: u64) -> Wide
 fn add(words: &mut [u64], negative: bool, low: u64, high: u64, places: u64)
     requires { ⌜ (length (now words) ≡ 67) × (places < 4160) ⌝ }
     ensures { λ _. ⌜
-        now (words .exit) ≡ def.added (now (words .entry)) (def.signed negative ((low + def.base * high) * 2 ^ places)) ⌝ }
+        now (words .exit) ≡ acc.added (now (words .entry)) (acc.signed negative ((low + acc.base * high) * 2 ^ places)) ⌝ }
 {
     let k = (places / 64) as usize;
     let b = places % 64;
@@ -114,7 +114,7 @@ fn add(words: &mut [u64], negative: bool, low: u64, high: u64, places: u64)
 // A free motion: 2^1074 units for each 2^-1074.
 pub fn add_free(words: &mut [u64], u: f64)
     requires { ⌜ (length (now words) ≡ 67) × (helpers.isFinite u ≡ true) ⌝ }
-    ensures { λ _. ⌜ now (words .exit) ≡ def.added (now (words .entry)) (def.freeTerm u) ⌝ }
+    ensures { λ _. ⌜ now (words .exit) ≡ acc.added (now (words .entry)) (acc.freeTerm u) ⌝ }
 {
     let x = units(u);
     add(words, x.negative, x.digits, 0, x.places + 1074);
@@ -123,7 +123,7 @@ pub fn add_free(words: &mut [u64], u: f64)
 // A product.
 pub fn add_product(words: &mut [u64], w: f64, nu: f64)
     requires { ⌜ (length (now words) ≡ 67) × (helpers.isFinite w ≡ true) × (helpers.isFinite nu ≡ true) ⌝ }
-    ensures { λ _. ⌜ now (words .exit) ≡ def.added (now (words .entry)) (def.productTerm w nu) ⌝ }
+    ensures { λ _. ⌜ now (words .exit) ≡ acc.added (now (words .entry)) (acc.productTerm w nu) ⌝ }
 {
     let x = units(w);
     let y = units(nu);

@@ -3,7 +3,7 @@ ghost use mathlib.Core.Path.{_≡_};
 ghost use mathlib.Core.Bool.{true, false};
 ghost use Prim.Native.Nat.{_+_, _*_, _^_, _<_, _≤_};
 ghost use lib.ListN.{length};
-ghost use Rattle.accumulator.specs.Accumulators as def;
+ghost use Rattle.accumulator.specs.Accumulators as acc;
 
 // A word, and the carry out of it or the borrow that it owes.
 struct Word {
@@ -13,7 +13,7 @@ struct Word {
 
 // a + b. A sum that wrapped is below both.
 fn add_two(a: u64, b: u64) -> Word
-    ensures { λ r. ⌜ (r .word + def.base * r .carry ≡ a + b) × (r .carry < 2) ⌝ }
+    ensures { λ r. ⌜ (r .word + acc.base * r .carry ≡ a + b) × (r .carry < 2) ⌝ }
 {
     let word = std::num::wrapping_add_u64(a, b);
     if word < a {
@@ -25,7 +25,7 @@ fn add_two(a: u64, b: u64) -> Word
 // a + b + c, with no branch on the words once compiled: they follow no pattern that a processor could foresee.
 fn add_carry(a: u64, b: u64, c: u64) -> Word
     requires { ⌜ c < 2 ⌝ }
-    ensures { λ r. ⌜ (r .word + def.base * r .carry ≡ a + (b + c)) × (r .carry < 2) ⌝ }
+    ensures { λ r. ⌜ (r .word + acc.base * r .carry ≡ a + (b + c)) × (r .carry < 2) ⌝ }
 {
     let s = add_two(a, b);
     let t = add_two(s.word, c);
@@ -38,7 +38,7 @@ fn add_carry(a: u64, b: u64, c: u64) -> Word
 // a - b - c.
 fn sub_borrow(a: u64, b: u64, c: u64) -> Word
     requires { ⌜ c < 2 ⌝ }
-    ensures { λ r. ⌜ (a + def.base * r .carry ≡ r .word + (b + c)) × (r .carry < 2) ⌝ }
+    ensures { λ r. ⌜ (a + acc.base * r .carry ≡ r .word + (b + c)) × (r .carry < 2) ⌝ }
 {
     if b <= a {
         let d = a - b;
@@ -63,7 +63,7 @@ fn sub_borrow(a: u64, b: u64, c: u64) -> Word
 pub fn add_word(words: &mut [u64], i: usize, x: u64, carry: u64) -> u64
     requires { ⌜ (length (now words) ≡ 67) × (i < 67) × (carry < 2) ⌝ }
     ensures { λ r. ⌜
-        (def.value (now (words .exit)) + r * def.base ^ (i + 1) ≡ def.value (now (words .entry)) + (x + carry) * def.base ^ i)
+        (acc.value (now (words .exit)) + r * acc.base ^ (i + 1) ≡ acc.value (now (words .entry)) + (x + carry) * acc.base ^ i)
         × (r < 2) ⌝ }
 {
     let s = add_carry(words[i], x, carry);
@@ -75,7 +75,7 @@ pub fn add_word(words: &mut [u64], i: usize, x: u64, carry: u64) -> u64
 fn sub_word(words: &mut [u64], i: usize, x: u64, borrow: u64) -> u64
     requires { ⌜ (length (now words) ≡ 67) × (i < 67) × (borrow < 2) ⌝ }
     ensures { λ r. ⌜
-        (def.value (now (words .entry)) + r * def.base ^ (i + 1) ≡ def.value (now (words .exit)) + (x + borrow) * def.base ^ i)
+        (acc.value (now (words .entry)) + r * acc.base ^ (i + 1) ≡ acc.value (now (words .exit)) + (x + borrow) * acc.base ^ i)
         × (r < 2) ⌝ }
 {
     let s = sub_borrow(words[i], x, borrow);
@@ -86,7 +86,7 @@ fn sub_word(words: &mut [u64], i: usize, x: u64, borrow: u64) -> u64
 // 1 added to the word at `from`: every full word becomes 0, up to one that is not full. The carry out of the top word.
 fn carry_on(words: &mut [u64], from: usize) -> u64
     requires { ⌜ (length (now words) ≡ 67) × (from ≤ 67) ⌝ }
-    ensures { λ r. ⌜ def.value (now (words .exit)) + r * def.size ≡ def.value (now (words .entry)) + def.base ^ from ⌝ }
+    ensures { λ r. ⌜ acc.value (now (words .exit)) + r * acc.size ≡ acc.value (now (words .entry)) + acc.base ^ from ⌝ }
 {
     let mut i = from;
     while i < 67 {
@@ -104,7 +104,7 @@ fn carry_on(words: &mut [u64], from: usize) -> u64
 // 1 taken from the word at `from`: every 0 becomes a full word, up to one that is not 0. The borrow that the top word owes.
 fn borrow_on(words: &mut [u64], from: usize) -> u64
     requires { ⌜ (length (now words) ≡ 67) × (from ≤ 67) ⌝ }
-    ensures { λ r. ⌜ def.value (now (words .entry)) + r * def.size ≡ def.value (now (words .exit)) + def.base ^ from ⌝ }
+    ensures { λ r. ⌜ acc.value (now (words .entry)) + r * acc.size ≡ acc.value (now (words .exit)) + acc.base ^ from ⌝ }
 {
     let mut i = from;
     while i < 67 {
@@ -123,7 +123,7 @@ fn borrow_on(words: &mut [u64], from: usize) -> u64
 pub fn add(words: &mut [u64], k: usize, x: u64, y: u64, z: u64)
     requires { ⌜ (length (now words) ≡ 67) × (k ≤ 64) ⌝ }
     ensures { λ _. ⌜
-        now (words .exit) ≡ def.added (now (words .entry)) (def.signed false ((x + def.base * (y + def.base * z)) * def.base ^ k)) ⌝ }
+        now (words .exit) ≡ acc.added (now (words .entry)) (acc.signed false ((x + acc.base * (y + acc.base * z)) * acc.base ^ k)) ⌝ }
 {
     let c = add_word(words, k, x, 0);
     let d = add_word(words, k + 1, y, c);
@@ -137,7 +137,7 @@ pub fn add(words: &mut [u64], k: usize, x: u64, y: u64, z: u64)
 pub fn sub(words: &mut [u64], k: usize, x: u64, y: u64, z: u64)
     requires { ⌜ (length (now words) ≡ 67) × (k ≤ 64) ⌝ }
     ensures { λ _. ⌜
-        now (words .exit) ≡ def.added (now (words .entry)) (def.signed true ((x + def.base * (y + def.base * z)) * def.base ^ k)) ⌝ }
+        now (words .exit) ≡ acc.added (now (words .entry)) (acc.signed true ((x + acc.base * (y + acc.base * z)) * acc.base ^ k)) ⌝ }
 {
     let c = sub_word(words, k, x, 0);
     let d = sub_word(words, k + 1, y, c);

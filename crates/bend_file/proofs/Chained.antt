@@ -13,7 +13,7 @@ use Rattle.loops.proofs.Turns.{turns-keep}
 use Rattle.bend_file.specs.Little.{u32}
 use Rattle.bend_file.specs.Trailer.{start, rows, coords, count}
 use Rattle.bend_file.specs.Read.{Problem, problem}
-use Rattle.bend_file.specs.Chain as def
+use Rattle.bend_file.specs.Chain as chain
 use Rattle.bend_file.specs.Chain.{Verdict, refused, taken, Walk, at, ended}
 use Rattle.bend_file.specs.Format.{StepFile, Steps, first, after, ChainFile}
 use Rattle.bend_file.specs.Private.{Kept}
@@ -24,12 +24,12 @@ use Rattle.bend_file.proofs.Walks.{on-first, on-after, verdict, begun}
 -- ---- one step, both ways
 
 module _ (f : List ℕ) (end : ℕ) where
-  link-place : end - 16 - 8 * count f end - 4 ≡ def.linkAt f end
-  unfolding def.linkAt
+  link-place : end - 16 - 8 * count f end - 4 ≡ chain.linkAt f end
+  unfolding chain.linkAt
   link-place = omega arith
 
-  pub step-is-file : Kept f end → StepFile f end (def.link f end) (start f end) (count f end) (def.stepProblem f end)
-  unfolding def.stepProblem def.link problem start rows coords count
+  pub step-is-file : Kept f end → StepFile f end (chain.link f end) (start f end) (count f end) (chain.stepProblem f end)
+  unfolding chain.stepProblem chain.link problem start rows coords count
   step-is-file k =
       record {
         least = k .least;
@@ -57,15 +57,15 @@ module _ (f : List ℕ) (end : ℕ) where
     unfolding start
     same-start = b .at-start
 
-    own-place : def.linkAt f end ≡ end - 16 - 8 * n - 4
+    own-place : chain.linkAt f end ≡ end - 16 - 8 * n - 4
     own-place = rw (← same-count) (sym link-place)
 
-    pub same-link : def.link f end ≡ l
-    unfolding def.link
+    pub same-link : chain.link f end ≡ l
+    unfolding chain.link
     same-link = rw own-place (b .at-link)
 
-    pub same-problem : def.stepProblem f end ≡ p
-    unfolding def.stepProblem rows coords
+    pub same-problem : chain.stepProblem f end ≡ p
+    unfolding chain.stepProblem rows coords
     same-problem = rw (same-link, same-start, b .at-rows, b .at-coords, ← b .values)
 
     pub file-is-step : end ≤ length f → end ≤ 1048576 → Kept f end
@@ -95,12 +95,12 @@ module _ (f : List ℕ) where
     -- the first step tested the whole file's length
     newest : (length s ≡ 0 → end ≡ length f)
     most : (0 < length s → length f ≤ 1048576)
-    before : (t : List ℕ) (l : List Problem) → Steps f end t l → Steps f (length f) (s ++ t) (map (def.stepProblem f) s ++ l)
+    before : (t : List ℕ) (l : List Problem) → Steps f end t l → Steps f (length f) (s ++ t) (map (chain.stepProblem f) s ++ l)
 
   abbrev Sound : ℕ → Walk → Type 0
   Sound i (at end s) = Going i end s
   Sound i (ended (refused k)) = k ≡ 0 → ⊥
-  Sound i (ended (taken s)) = (length s ≤ i) × (length f ≤ 1048576) × Steps f (length f) s (map (def.stepProblem f) s)
+  Sound i (ended (taken s)) = (length s ≤ i) × (length f ≤ 1048576) × Steps f (length f) s (map (chain.stepProblem f) s)
 
   sound-start : Sound 0 (at (length f) [])
   sound-start =
@@ -112,9 +112,9 @@ module _ (f : List ℕ) where
         before = λ t l h. h;
       }
 
-  module _ (i end : ℕ) (s : List ℕ) (g : Going i end s) (e : def.stepNumber f end ≡ 0) where
+  module _ (i end : ℕ) (s : List ℕ) (g : Going i end s) (e : chain.stepNumber f end ≡ 0) where
     abbrev p : Problem
-    p = def.stepProblem f end
+    p = chain.stepProblem f end
 
     here : Kept f end
     here = kept f end e (g .within)
@@ -129,22 +129,22 @@ module _ (f : List ℕ) where
     one-longer : length (s ++ (end ∷ [])) ≡ length s + 1
     one-longer = length-append s (end ∷ [])
 
-    link-within : def.link f end ≤ length f
-    unfolding def.linkAt
+    link-within : chain.link f end ≤ length f
+    unfolding chain.linkAt
     link-within = omega (arith, here .back, here .within)
 
-    follows : Sound (suc i) (def.follow (def.link f end) (s ++ (end ∷ [])))
-    unfolding def.follow
-    follows = go (eqb (def.link f end) 0) refl
+    follows : Sound (suc i) (chain.follow (chain.link f end) (s ++ (end ∷ [])))
+    unfolding chain.follow
+    follows = go (eqb (chain.link f end) 0) refl
       where
-        go : (b : Bool) → eqb (def.link f end) 0 ≡ b
-            → Sound (suc i) (cond b (ended (taken (s ++ (end ∷ [])))) (at (def.link f end) (s ++ (end ∷ []))))
+        go : (b : Bool) → eqb (chain.link f end) 0 ≡ b
+            → Sound (suc i) (cond b (ended (taken (s ++ (end ∷ [])))) (at (chain.link f end) (s ++ (end ∷ []))))
         go true q =
-            let z = eqb-true (def.link f end) 0 q in
+            let z = eqb-true (chain.link f end) 0 q in
             let b : StepFile f end 0 (start f end) (count f end) p = rw (← z) (step-is-file f end here) in (
               omega (arith, one-longer, g .few),
               whole,
-              rw (map-append (def.stepProblem f) s (end ∷ [])) (g .before (end ∷ []) (p ∷ []) (first b)),
+              rw (map-append (chain.stepProblem f) s (end ∷ [])) (g .before (end ∷ []) (p ∷ []) (first b)),
             )
         go false q =
             record {
@@ -153,39 +153,39 @@ module _ (f : List ℕ) where
               newest = λ h. absurd (omega (arith, one-longer));
               most = λ h. whole;
               before =
-                  λ t l h. rw (map-append (def.stepProblem f) s (end ∷ []), append-assoc, append-assoc)
+                  λ t l h. rw (map-append (chain.stepProblem f) s (end ∷ []), append-assoc, append-assoc)
                   (g .before (end ∷ t) (p ∷ l) (after (step-is-file f end here) h));
             }
 
-  sound-step : (i end : ℕ) (s : List ℕ) → Going i end s → Sound (suc i) (def.step f end s)
-  unfolding def.step
-  sound-step i end s g = go (eqb (def.stepNumber f end) 0) refl
+  sound-step : (i end : ℕ) (s : List ℕ) → Going i end s → Sound (suc i) (chain.step f end s)
+  unfolding chain.step
+  sound-step i end s g = go (eqb (chain.stepNumber f end) 0) refl
     where
-      go : (b : Bool) → eqb (def.stepNumber f end) 0 ≡ b
-          → Sound (suc i) (cond b (def.follow (def.link f end) (s ++ (end ∷ []))) (ended (refused (def.stepNumber f end))))
-      go true q = follows i end s g (eqb-true (def.stepNumber f end) 0 q)
-      go false q = eqb-false (def.stepNumber f end) 0 q
+      go : (b : Bool) → eqb (chain.stepNumber f end) 0 ≡ b
+          → Sound (suc i) (cond b (chain.follow (chain.link f end) (s ++ (end ∷ []))) (ended (refused (chain.stepNumber f end))))
+      go true q = follows i end s g (eqb-true (chain.stepNumber f end) 0 q)
+      go false q = eqb-false (chain.stepNumber f end) 0 q
 
-  sound-turn : (i : ℕ) (x : Walk) → i < 40 → Sound i x → Sound (suc i) (def.turn f i x)
-  unfolding def.turn
+  sound-turn : (i : ℕ) (x : Walk) → i < 40 → Sound i x → Sound (suc i) (chain.turn f i x)
+  unfolding chain.turn
   sound-turn i (at end s) b h = sound-step i end s h
   sound-turn i (ended (refused k)) b h = h
   sound-turn i (ended (taken s)) b h = (omega (arith, h .0), h .1, h .2)
 
   abbrev Settled : Verdict (List ℕ) → Type 0
   Settled (refused k) = k ≡ 0 → ⊥
-  Settled (taken s) = ChainFile f s (map (def.stepProblem f) s)
+  Settled (taken s) = ChainFile f s (map (chain.stepProblem f) s)
 
-  settled : Settled (def.ends f)
-  unfolding def.ends def.walked def.settled
-  settled = go (def.walked f 40) (turns-keep (def.turn f) (at (length f) []) Sound 40 sound-start sound-turn)
+  settled : Settled (chain.ends f)
+  unfolding chain.ends chain.walked chain.settled
+  settled = go (chain.walked f 40) (turns-keep (chain.turn f) (at (length f) []) Sound 40 sound-start sound-turn)
     where
-      go : (x : Walk) → Sound 40 x → Settled (def.settled x)
+      go : (x : Walk) → Sound 40 x → Settled (chain.settled x)
       go (at end t) h = λ q. omega arith
       go (ended (refused k)) h = h
       go (ended (taken t)) h = record { most = h .1; few = h .0; steps = h .2 }
 
-  pub accepted-is-chain-file : (s : List ℕ) → def.ends f ≡ taken s → ChainFile f s (map (def.stepProblem f) s)
+  pub accepted-is-chain-file : (s : List ℕ) → chain.ends f ≡ taken s → ChainFile f s (map (chain.stepProblem f) s)
   accepted-is-chain-file s e = rw e at settled
 
   -- ---- every chained bend file is accepted
@@ -199,8 +199,8 @@ module _ (f : List ℕ) where
   link-below b = omega (arith, b .backward)
 
   module _ (most : length f ≤ 1048576) where
-    reaches : {end : ℕ} {t : List ℕ} {l : List Problem} → Steps f end t l → (k : ℕ) (s : List ℕ) → end ≤ length f → def.walked f k ≡ at end s
-        → def.walked f (k + length t) ≡ ended (taken (s ++ t))
+    reaches : {end : ℕ} {t : List ℕ} {l : List Problem} → Steps f end t l → (k : ℕ) (s : List ℕ) → end ≤ length f → chain.walked f k ≡ at end s
+        → chain.walked f (k + length t) ≡ ended (taken (s ++ t))
     reaches (first {end} {start} {count} {p} b) k s h w =
         let e : k + 1 ≡ suc k = omega arith in
         let q = kept-back f end (file-is-step f end 0 start count p b h (omega arith)) in
@@ -213,18 +213,18 @@ module _ (f : List ℕ) where
         rw (e, ← append-assoc s (end ∷ []) ends)
         (reaches more (suc k) (s ++ (end ∷ [])) (omega (arith, link-below b)) (next ∙ rw same))
 
-  their-problems : {end : ℕ} {t : List ℕ} {l : List Problem} → Steps f end t l → map (def.stepProblem f) t ≡ l
+  their-problems : {end : ℕ} {t : List ℕ} {l : List Problem} → Steps f end t l → map (chain.stepProblem f) t ≡ l
   their-problems (first {end} {start} {count} {p} b) = rw (same-problem f end 0 start count p b)
   their-problems (after {end} {link} {start} {count} {p} {ends} {l} b more) = rw (same-problem f end link start count p b, their-problems more)
 
   module _ (s : List ℕ) (l : List Problem) (c : ChainFile f s l) where
-    pub chain-file-is-accepted : def.ends f ≡ taken s
+    pub chain-file-is-accepted : chain.ends f ≡ taken s
     chain-file-is-accepted =
         verdict f (0 + length s) (taken s) (omega (arith, c .few))
         (reaches (c .most) (c .steps) 0 [] (omega arith) (begun f))
 
-    pub chain-file-is-read : def.pull f ≡ taken l
-    unfolding def.pull def.problems
+    pub chain-file-is-read : chain.pull f ≡ taken l
+    unfolding chain.pull chain.problems
     chain-file-is-read = rw (chain-file-is-accepted, their-problems (c .steps))
 
   -- ---- a refusal has a number, and each step of an accepted file keeps its rules
@@ -240,8 +240,8 @@ module _ (f : List ℕ) where
   Fine (refused n) = n ≡ 0 → ⊥
   Fine (taken s) = (length s ≤ 40) × ((k : ℕ) → k < length s → Kept f (getD s k 0))
 
-  pub fine : Fine (def.ends f)
-  fine = go (def.ends f) settled
+  pub fine : Fine (chain.ends f)
+  fine = go (chain.ends f) settled
     where
       go : (v : Verdict (List ℕ)) → Settled v → Fine v
       go (refused n) h = h

@@ -11,7 +11,7 @@ use borrow.Author.Tests.{le-leb, lt-leb, leb-true, leb-false}
 use Rattle.loops.proofs.Every.{both-true}
 use Rattle.bend_file.specs.Trailer.{start, rows, coords, wanted}
 use Rattle.bend_file.specs.Read.{Problem, problem, accepted, Lent, filled, Room}
-use Rattle.bend_file.specs.Chain as def
+use Rattle.bend_file.specs.Chain as chain
 use Rattle.bend_file.specs.Chain.{Verdict, refused, taken, told, Step, past, found, ReadsStep}
 use Rattle.bend_file.specs.Private.{Kept, placed, place}
 use Rattle.bend_file.specs.declared.chain.Chain.{Chain}
@@ -22,17 +22,17 @@ use Rattle.bend_file.proofs.Chained.{Fine, fine}
 -- ---- where the step is: r is what `steps` told
 
 module _ (f : List ℕ) (k : ℕ) where
-  module _ (r : Chain) (e : r ≡ told (def.ends f)) where
-    pub found-refused : (r .number ≡ 0 → ⊥) → Refused (r .number) ≡ place f (def.ends f) k
-    found-refused h = go (def.ends f) e
+  module _ (r : Chain) (e : r ≡ told (chain.ends f)) where
+    pub found-refused : (r .number ≡ 0 → ⊥) → Refused (r .number) ≡ place f (chain.ends f) k
+    found-refused h = go (chain.ends f) e
       where
         go : (v : Verdict (List ℕ)) → r ≡ told v → Refused (r .number) ≡ place f v k
         go (refused n) q = rw q
         go (taken s) q = absurd (h (rw q))
 
     module _ (none : r .number ≡ 0) where
-      pub found-past : r .count ≤ k → Past ≡ place f (def.ends f) k
-      found-past h = go (def.ends f) (fine f) e
+      pub found-past : r .count ≤ k → Past ≡ place f (chain.ends f) k
+      found-past h = go (chain.ends f) (fine f) e
         where
           go : (v : Verdict (List ℕ)) → Fine f v → r ≡ told v → Past ≡ place f v k
           go (refused n) g q = absurd (g (sym (ap (λ (x : Chain). x .number) q) ∙ none))
@@ -43,8 +43,8 @@ module _ (f : List ℕ) (k : ℕ) where
         pub keeps : Kept f (getD (r .ends) k 0)
         pub same : placed f (getD (r .ends) k 0) ≡ place f v k
 
-      pub found-at : k < r .count → Here (def.ends f)
-      found-at h = go (def.ends f) (fine f) e
+      pub found-at : k < r .count → Here (chain.ends f)
+      found-at h = go (chain.ends f) (fine f) e
         where
           go : (v : Verdict (List ℕ)) → Fine f v → r ≡ told v → Here v
           go (refused n) g q = absurd (g (sym (ap (λ (x : Chain). x .number) q) ∙ none))
@@ -56,21 +56,21 @@ module _ (f : List ℕ) (k : ℕ) where
 
 -- ---- the step of the pull
 
-pick-at : (f : List ℕ) (s : List ℕ) (k : ℕ) → k < length s → def.pick (map (def.stepProblem f) s) k ≡ found (def.stepProblem f (getD s k 0))
-unfolding def.pick
+pick-at : (f : List ℕ) (s : List ℕ) (k : ℕ) → k < length s → chain.pick (map (chain.stepProblem f) s) k ≡ found (chain.stepProblem f (getD s k 0))
+unfolding chain.pick
 pick-at f [] k h = absurd (omega arith)
 pick-at f (e ∷ s) zero h = refl
 pick-at f (e ∷ s) (suc k) h = pick-at f s k (omega arith)
 
-pick-past : (f : List ℕ) (s : List ℕ) (k : ℕ) → length s ≤ k → def.pick (map (def.stepProblem f) s) k ≡ past
-unfolding def.pick
+pick-past : (f : List ℕ) (s : List ℕ) (k : ℕ) → length s ≤ k → chain.pick (map (chain.stepProblem f) s) k ≡ past
+unfolding chain.pick
 pick-past f [] k h = refl
 pick-past f (e ∷ s) zero h = absurd (omega arith)
 pick-past f (e ∷ s) (suc k) h = pick-past f s k (omega arith)
 
 -- the lengths that `wide` asks for
-widths : (w u l h s n m : ℕ) → def.wide w u l h s n m ≡ true → (1024 ≤ w) × (32 ≤ u) × (32 ≤ l) × (32 ≤ h) × (32 ≤ s) × (32 ≤ n) × (2048 ≤ m)
-unfolding def.wide
+widths : (w u l h s n m : ℕ) → chain.wide w u l h s n m ≡ true → (1024 ≤ w) × (32 ≤ u) × (32 ≤ l) × (32 ≤ h) × (32 ≤ s) × (32 ≤ n) × (2048 ≤ m)
+unfolding chain.wide
 widths w u l h s n m e =
     let e6 = both-true _ (leb 2048 m) e in
     let e5 = both-true _ (leb 32 n) (e6 .0) in
@@ -92,22 +92,22 @@ module _ (f : List ℕ) (k s n c : ℕ) where
     answer : v ≡ taken (found (problem f s n c))
     room : Room f s n c
 
-  step-found : At s n c ≡ place f (def.ends f) k → Found (def.picked (def.problems f (def.ends f)) k)
-  unfolding def.picked def.problems def.stepProblem
-  step-found e = go (def.ends f) (fine f) e
+  step-found : At s n c ≡ place f (chain.ends f) k → Found (chain.picked (chain.problems f (chain.ends f)) k)
+  unfolding chain.picked chain.problems chain.stepProblem
+  step-found e = go (chain.ends f) (fine f) e
     where
-      go : (v : Verdict (List ℕ)) → Fine f v → At s n c ≡ place f v k → Found (def.picked (def.problems f v) k)
+      go : (v : Verdict (List ℕ)) → Fine f v → At s n c ≡ place f v k → Found (chain.picked (chain.problems f v) k)
       go (refused m) g q = let z : _≡_ {A = ℕ} 0 1 = cc in absurd (omega arith)
       go (taken t) g q = split (leb (length t) k) refl q
         where
           split : (x : Bool) → leb (length t) k ≡ x → At s n c ≡ cond x Past (placed f (getD t k 0))
-              → Found (def.picked (def.problems f (taken t)) k)
+              → Found (chain.picked (chain.problems f (taken t)) k)
           split true i q = let z : _≡_ {A = ℕ} 0 1 = cc in absurd (omega arith)
           split false i q =
               let less = leb-false (length t) k i in
               let end = getD t k 0 in
               let h = g .1 k less in
-              let is-s : s ≡ def.link f end + start f end = cc in
+              let is-s : s ≡ chain.link f end + start f end = cc in
               let is-n : n ≡ rows f end = cc in
               let is-c : c ≡ coords f end = cc in
               rw (is-s, is-n, is-c)
@@ -122,7 +122,7 @@ module _ (f : List ℕ) (k s n c : ℕ) where
     pub boxes : (s + 8 * (n * n + 5 * n) ≤ length f) × (n ≤ u) × (n ≤ l) × (n ≤ h) × (n ≤ sc) × (n ≤ nu)
     pub cells : (s + 8 * wanted n c ≤ length f) × (n * n ≤ w) × (c * n ≤ m)
 
-  pub fits : (w u l h sc nu m : ℕ) → def.wide w u l h sc nu m ≡ true → At s n c ≡ place f (def.ends f) k → Fits w u l h sc nu m
+  pub fits : (w u l h sc nu m : ℕ) → chain.wide w u l h sc nu m ≡ true → At s n c ≡ place f (chain.ends f) k → Fits w u l h sc nu m
   fits w u l h sc nu m e g =
       let v = widths w u l h sc nu m e in
       let r = step-found g .room in
@@ -134,53 +134,53 @@ module _ (f : List ℕ) (k s n c : ℕ) where
       }
 
 module _ (f : List ℕ) (k : ℕ) (b : Lent) where
-  answer-short : def.roomy b ≡ false → def.stepAnswer f k b ≡ refused 10
-  unfolding def.stepAnswer
+  answer-short : chain.roomy b ≡ false → chain.stepAnswer f k b ≡ refused 10
+  unfolding chain.stepAnswer
   answer-short h = rw h
 
-  module _ (wide : def.roomy b ≡ true) where
-    taken-on : def.stepAnswer f k b ≡ def.picked (def.problems f (def.ends f)) k
-    unfolding def.stepAnswer def.pull
+  module _ (wide : chain.roomy b ≡ true) where
+    taken-on : chain.stepAnswer f k b ≡ chain.picked (chain.problems f (chain.ends f)) k
+    unfolding chain.stepAnswer chain.pull
     taken-on = rw wide
 
-    answer-refused : (n : ℕ) → Refused n ≡ place f (def.ends f) k → def.stepAnswer f k b ≡ refused n
-    unfolding def.picked def.problems
-    answer-refused n e = taken-on ∙ go (def.ends f) e
+    answer-refused : (n : ℕ) → Refused n ≡ place f (chain.ends f) k → chain.stepAnswer f k b ≡ refused n
+    unfolding chain.picked chain.problems
+    answer-refused n e = taken-on ∙ go (chain.ends f) e
       where
-        go : (v : Verdict (List ℕ)) → Refused n ≡ place f v k → def.picked (def.problems f v) k ≡ refused n
+        go : (v : Verdict (List ℕ)) → Refused n ≡ place f v k → chain.picked (chain.problems f v) k ≡ refused n
         go (refused m) q = cc
         go (taken s) q = split (leb (length s) k) q
           where
-            split : (t : Bool) → Refused n ≡ cond t Past (placed f (getD s k 0)) → def.picked (def.problems f (taken s)) k ≡ refused n
+            split : (t : Bool) → Refused n ≡ cond t Past (placed f (getD s k 0)) → chain.picked (chain.problems f (taken s)) k ≡ refused n
             split true q = let z : _≡_ {A = ℕ} 0 1 = cc in absurd (omega arith)
             split false q = let z : _≡_ {A = ℕ} 0 1 = cc in absurd (omega arith)
 
-    answer-past : Past ≡ place f (def.ends f) k → def.stepAnswer f k b ≡ taken past
-    unfolding def.picked def.problems
-    answer-past e = taken-on ∙ go (def.ends f) e
+    answer-past : Past ≡ place f (chain.ends f) k → chain.stepAnswer f k b ≡ taken past
+    unfolding chain.picked chain.problems
+    answer-past e = taken-on ∙ go (chain.ends f) e
       where
-        go : (v : Verdict (List ℕ)) → Past ≡ place f v k → def.picked (def.problems f v) k ≡ taken past
+        go : (v : Verdict (List ℕ)) → Past ≡ place f v k → chain.picked (chain.problems f v) k ≡ taken past
         go (refused m) q = let z : _≡_ {A = ℕ} 0 1 = cc in absurd (omega arith)
         go (taken s) q = split (leb (length s) k) refl q
           where
             split : (t : Bool) → leb (length s) k ≡ t → Past ≡ cond t Past (placed f (getD s k 0))
-                → def.picked (def.problems f (taken s)) k ≡ taken past
+                → chain.picked (chain.problems f (taken s)) k ≡ taken past
             split true i q = ap (λ (x : Step). taken x) (pick-past f s k (leb-true (length s) k i))
             split false i q = let z : _≡_ {A = ℕ} 0 1 = cc in absurd (omega arith)
 
   -- ---- the call: its answer and its buffers
 
-  pub reads-short : def.roomy b ≡ false → ReadsStep f k (read.Refused 10) b b
+  pub reads-short : chain.roomy b ≡ false → ReadsStep f k (read.Refused 10) b b
   reads-short h = record { result = rw (answer-short h); buffers = rw (answer-short h) }
 
-  module _ (wide : def.roomy b ≡ true) where
-    pub reads-refused : (n : ℕ) → Refused n ≡ place f (def.ends f) k → ReadsStep f k (read.Refused n) b b
+  module _ (wide : chain.roomy b ≡ true) where
+    pub reads-refused : (n : ℕ) → Refused n ≡ place f (chain.ends f) k → ReadsStep f k (read.Refused n) b b
     reads-refused n e = record { result = rw (answer-refused wide n e); buffers = rw (answer-refused wide n e) }
 
-    pub reads-past : Past ≡ place f (def.ends f) k → ReadsStep f k read.Past b b
+    pub reads-past : Past ≡ place f (chain.ends f) k → ReadsStep f k read.Past b b
     reads-past e = record { result = rw (answer-past wide e); buffers = rw (answer-past wide e) }
 
-    pub reads-found : (s n c : ℕ) (t : Float) (after : Lent) → At s n c ≡ place f (def.ends f) k
+    pub reads-found : (s n c : ℕ) (t : Float) (after : Lent) → At s n c ≡ place f (chain.ends f) k
         → t ≡ problem f s n c .tolerance → after ≡ filled (accepted (problem f s n c)) b → ReadsStep f k (read.Problem n c t) b after
     unfolding problem
     reads-found s n c t after e g h =

@@ -12,7 +12,7 @@ use Rattle.loops.specs.Loops.{tab, turns}
 use Rattle.bend_file.specs.Little.{u16, u32, u64, value, values}
 use Rattle.bend_file.specs.Trailer.{start, rows, coords, count, marked, small, counted}
 use Rattle.bend_file.specs.Read.{Problem, problem}
-use Rattle.bend_file.specs.Chain as def
+use Rattle.bend_file.specs.Chain as chain
 use Rattle.bend_file.specs.Chain.{Verdict, refused, taken}
 use Rattle.bend_file.specs.Examples.{two, four, eight, patterns, mark, trailer, bits, Bits, same, 1ᵇ, NaN, example, exampleBits, none, free}
 
@@ -62,11 +62,11 @@ numbered (taken l) k = false
 
 passes : Case → Bool
 unfolding
-    def.pull def.problems def.ends def.settled def.walked def.turn def.step def.follow def.stepNumber def.fieldsNumber
-    def.linkNumber def.inside def.preceded def.backward def.reachingFrom def.link def.linkAt def.stepProblem problem
+    chain.pull chain.problems chain.ends chain.settled chain.walked chain.turn chain.step chain.follow chain.stepNumber chain.fieldsNumber
+    chain.linkNumber chain.inside chain.preceded chain.backward chain.reachingFrom chain.link chain.linkAt chain.stepProblem problem
     marked small counted start rows coords count value values u16 u32 u64 tab turns ofBits toBits
-passes (gives f b) = reads (def.pull f) b
-passes (gets f k) = numbered (def.pull f) k
+passes (gives f b) = reads (chain.pull f) b
+passes (gets f k) = numbered (chain.pull f) k
 
 every : List Case → Bool
 every [] = true

@@ -2,7 +2,7 @@
 // whole chain, newest step first, so that a refusal at any step is the whole file's. The calls are total, and their
 // contracts are equations with the definitions in specs/Chain.antt.
 ghost use mathlib.Core.Path.{_≡_};
-ghost use Rattle.bend_file.specs.Chain as def;
+ghost use Rattle.bend_file.specs.Chain as chain;
 ghost use Rattle.bend_file.specs.Private as private;
 use crate::parts;
 use crate::step;
@@ -28,7 +28,7 @@ pub enum StepReading {
 }
 
 fn refused(number: u32) -> Chain
-    ensures { λ r. ⌜ r ≡ def.told (def.refused number) ⌝ }
+    ensures { λ r. ⌜ r ≡ chain.told (chain.refused number) ⌝ }
 {
     Chain {
         number,
@@ -39,7 +39,7 @@ fn refused(number: u32) -> Chain
 
 // Where the steps are.
 pub fn steps(file: &[u8]) -> Chain
-    ensures { λ r. ⌜ r ≡ def.told (def.ends (now (file .entry))) ⌝ }
+    ensures { λ r. ⌜ r ≡ chain.told (chain.ends (now (file .entry))) ⌝ }
 {
     let mut ends = [0usize; 40];
     let mut end = file.len();
@@ -65,7 +65,7 @@ pub fn steps(file: &[u8]) -> Chain
 
 // Where step number `step` is, counted from the newest, which is 0.
 fn find(file: &[u8], step: usize) -> step::Place
-    ensures { λ r. ⌜ r ≡ private.place (now (file .entry)) (def.ends (now (file .entry))) step ⌝ }
+    ensures { λ r. ⌜ r ≡ private.place (now (file .entry)) (chain.ends (now (file .entry))) step ⌝ }
 {
     let chain = steps(file);
     let number = chain.number;
@@ -90,7 +90,7 @@ fn wide(
     nu: usize,
     motion: usize,
 ) -> bool
-    ensures { λ r. ⌜ r ≡ def.wide w «u_free» lo hi scale nu motion ⌝ }
+    ensures { λ r. ⌜ r ≡ chain.wide w «u_free» lo hi scale nu motion ⌝ }
 {
     (1024 <= w)
         & (32 <= u_free)
@@ -116,7 +116,7 @@ pub fn read_step(
     nu: &mut [f64],
     motion: &mut [f64],
 ) -> StepReading
-    ensures { λ r. ⌜ def.ReadsStep (now (file .entry)) step r
+    ensures { λ r. ⌜ chain.ReadsStep (now (file .entry)) step r
         (record {
           w = now (w .entry);
           uFree = now («u_free» .entry);

@@ -1,6 +1,6 @@
 // The reader of bend files: document 01's numbers 1 to 4 in their order, and the values of the problem that a file
 // holds. The call is total, and its contract is an equation with the definition of the format in specs/.
-ghost use Rattle.bend_file.specs.Read as def;
+ghost use Rattle.bend_file.specs.Read as read;
 
 pub mod chain;
 mod little;
@@ -32,7 +32,7 @@ pub fn read(
     nu: &mut [f64; 32],
     motion: &mut [f64; 2048],
 ) -> Reading
-    ensures { λ r. ⌜ def.Reads (now (file .entry)) r
+    ensures { λ r. ⌜ read.Reads (now (file .entry)) r
         (record {
           w = now (w .entry);
           uFree = now («u_free» .entry);

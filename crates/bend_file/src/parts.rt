@@ -2,15 +2,15 @@
 ghost use mathlib.Core.Path.{_≡_};
 ghost use Prim.Native.Nat.{_+_, _*_, _≤_};
 ghost use lib.ListN.{length};
-ghost use Rattle.bend_file.specs.Little as def;
-ghost use Rattle.bend_file.specs.Read as reads;
+ghost use Rattle.bend_file.specs.Little as little;
+ghost use Rattle.bend_file.specs.Read as read;
 ghost use Rattle.bend_file.specs.Trailer.{wanted};
 use crate::little;
 
 // The value number `number`, where value 0 is at `start`.
 pub fn value(file: &[u8], start: usize, number: usize) -> f64
     requires { ⌜ start + 8 * (number + 1) ≤ length (now file) ⌝ }
-    ensures { λ r. ⌜ r ≡ def.value (now (file .entry)) (start + 8 * number) ⌝ }
+    ensures { λ r. ⌜ r ≡ little.value (now (file .entry)) (start + 8 * number) ⌝ }
 {
     little::f64_at(file, start + 8 * number)
 }
@@ -19,7 +19,7 @@ pub fn value(file: &[u8], start: usize, number: usize) -> f64
 pub fn fill(file: &[u8], start: usize, first: usize, count: usize, out: &mut [f64])
     requires { ⌜ (start + 8 * (first + count) ≤ length (now file)) × (count ≤ length (now out)) ⌝ }
     ensures { λ r. ⌜ now (out .exit)
-        ≡ def.over (def.values (now (file .entry)) start first count) (now (out .entry)) ⌝ }
+        ≡ little.over (little.values (now (file .entry)) start first count) (now (out .entry)) ⌝ }
 {
     let mut i = 0;
     while i < count {
@@ -45,15 +45,15 @@ pub fn boxes(
         × (rows ≤ length (now scale)) × (rows ≤ length (now nu)) ⌝ }
     ensures { λ r. ⌜
         (now («u_free» .exit) ≡
-        def.over (def.values (now (file .entry)) start first rows) (now («u_free» .entry)))
+        little.over (little.values (now (file .entry)) start first rows) (now («u_free» .entry)))
         × (now (lo .exit) ≡
-        def.over (def.values (now (file .entry)) start (first + rows) rows) (now (lo .entry)))
+        little.over (little.values (now (file .entry)) start (first + rows) rows) (now (lo .entry)))
         × (now (hi .exit) ≡
-        def.over (def.values (now (file .entry)) start (first + 2 * rows) rows) (now (hi .entry)))
+        little.over (little.values (now (file .entry)) start (first + 2 * rows) rows) (now (hi .entry)))
         × (now (scale .exit) ≡
-        def.over (def.values (now (file .entry)) start (first + 3 * rows) rows) (now (scale .entry)))
+        little.over (little.values (now (file .entry)) start (first + 3 * rows) rows) (now (scale .entry)))
         × (now (nu .exit) ≡
-        def.over (def.values (now (file .entry)) start (first + 4 * rows) rows) (now (nu .entry))) ⌝ }
+        little.over (little.values (now (file .entry)) start (first + 4 * rows) rows) (now (nu .entry))) ⌝ }
 {
     fill(file, start, first, rows, u_free);
     fill(file, start, first + rows, rows, lo);
@@ -74,11 +74,11 @@ pub fn cells(
     requires { ⌜ (start + 8 * wanted rows coords ≤ length (now file))
         × (rows * rows ≤ length (now w)) × (coords * rows ≤ length (now motion)) ⌝ }
     ensures { λ r. ⌜
-        (r ≡ def.value (now (file .entry)) (start + 8 * (rows * rows + 5 * rows + coords * rows)))
+        (r ≡ little.value (now (file .entry)) (start + 8 * (rows * rows + 5 * rows + coords * rows)))
         × (now (w .exit) ≡
-        def.over (def.values (now (file .entry)) start 0 (rows * rows)) (now (w .entry)))
+        little.over (little.values (now (file .entry)) start 0 (rows * rows)) (now (w .entry)))
         × (now (motion .exit) ≡
-        def.over (def.values (now (file .entry)) start (rows * rows + 5 * rows) (coords * rows))
+        little.over (little.values (now (file .entry)) start (rows * rows + 5 * rows) (coords * rows))
         (now (motion .entry))) ⌝ }
 {
     let square = rows * rows;
@@ -103,8 +103,8 @@ pub fn problem(
     nu: &mut [f64; 32],
     motion: &mut [f64; 2048],
 ) -> f64
-    requires { ⌜ reads.Room (now file) start rows coords ⌝ }
-    ensures { λ r. ⌜ reads.Filled (reads.problem (now (file .entry)) start rows coords) r
+    requires { ⌜ read.Room (now file) start rows coords ⌝ }
+    ensures { λ r. ⌜ read.Filled (read.problem (now (file .entry)) start rows coords) r
         (record {
           w = now (w .entry);
           uFree = now («u_free» .entry);

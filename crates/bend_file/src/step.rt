@@ -3,8 +3,8 @@
 ghost use mathlib.Core.Path.{_≡_};
 ghost use Prim.Native.Nat.{_≤_};
 ghost use lib.ListN.{length};
-ghost use Rattle.bend_file.specs.Trailer as fields;
-ghost use Rattle.bend_file.specs.Chain as def;
+ghost use Rattle.bend_file.specs.Trailer as trailer;
+ghost use Rattle.bend_file.specs.Chain as chain;
 ghost use Rattle.bend_file.specs.Private as private;
 use crate::little;
 use crate::trailer;
@@ -23,7 +23,7 @@ pub enum Place {
 // The number of the first rule that the step breaks, or 0.
 pub fn number(file: &[u8], end: usize) -> u32
     requires { ⌜ end ≤ length (now file) ⌝ }
-    ensures { λ r. ⌜ r ≡ def.stepNumber (now (file .entry)) end ⌝ }
+    ensures { λ r. ⌜ r ≡ chain.stepNumber (now (file .entry)) end ⌝ }
 {
     if end < 16 {
         return 1;
@@ -40,7 +40,7 @@ pub fn number(file: &[u8], end: usize) -> u32
 // The same from 3 on.
 fn fields_number(file: &[u8], end: usize) -> u32
     requires { ⌜ (16 ≤ end) × (end ≤ length (now file)) ⌝ }
-    ensures { λ r. ⌜ r ≡ def.fieldsNumber (now (file .entry)) end ⌝ }
+    ensures { λ r. ⌜ r ≡ chain.fieldsNumber (now (file .entry)) end ⌝ }
 {
     let rows = little::u16_at(file, end - 12) as usize;
     let coords = little::u16_at(file, end - 10) as usize;
@@ -58,8 +58,8 @@ fn fields_number(file: &[u8], end: usize) -> u32
 // before the numbers.
 fn link_number(file: &[u8], end: usize, count: usize) -> u32
     requires { ⌜ (16 ≤ end) × (end ≤ length (now file))
-        × (count ≤ 4294967295) × (count ≡ fields.count (now file) end) ⌝ }
-    ensures { λ r. ⌜ r ≡ def.linkNumber (now (file .entry)) end ⌝ }
+        × (count ≤ 4294967295) × (count ≡ trailer.count (now file) end) ⌝ }
+    ensures { λ r. ⌜ r ≡ chain.linkNumber (now (file .entry)) end ⌝ }
 {
     let span = 20 + 8 * count;
     if end < span {
@@ -80,7 +80,7 @@ fn link_number(file: &[u8], end: usize, count: usize) -> u32
 // Where the previous step's trailer ends; 0 in the first step.
 pub fn link(file: &[u8], end: usize) -> usize
     requires { ⌜ private.Kept (now file) end ⌝ }
-    ensures { λ r. ⌜ r ≡ def.link (now (file .entry)) end ⌝ }
+    ensures { λ r. ⌜ r ≡ chain.link (now (file .entry)) end ⌝ }
 {
     let count = little::u32_at(file, end - 8) as usize;
     little::u32_at(file, end - (20 + 8 * count)) as usize

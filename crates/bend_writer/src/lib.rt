@@ -1,6 +1,6 @@
 // The writer of chained bend files: document 02's W1, 1 to 40 steps with no free bytes. Each public call is total, and
 // its contract is an equation with the definition of the file in specs/.
-ghost use Rattle.bend_writer.specs.Write as def;
+ghost use Rattle.bend_writer.specs.Write as write;
 
 mod checks;
 mod put;
@@ -25,8 +25,8 @@ pub enum Written {
 // Writes the pull's steps to the front of `out`. What lies past the file stays, and so does everything where the pull
 // is refused.
 pub fn write_chain(pull: Pull, values: &[f64], out: &mut [u8]) -> Written
-    ensures { λ r. ⌜ def.Writes
-        (def.lent (pull .steps) (pull .rows) (pull .coords) (pull .counts) (now (values .entry)))
+    ensures { λ r. ⌜ write.Writes
+        (write.lent (pull .steps) (pull .rows) (pull .coords) (pull .counts) (now (values .entry)))
         r (now (out .entry)) (now (out .exit)) ⌝ }
 {
     let rows = pull.rows;
@@ -44,8 +44,8 @@ pub fn write_steps(
     values: &[f64],
     out: &mut [u8],
 ) -> Written
-    ensures { λ r. ⌜ def.Writes
-        (def.lent steps (now (rows .entry)) (now (coords .entry)) (now (counts .entry)) (now (values .entry)))
+    ensures { λ r. ⌜ write.Writes
+        (write.lent steps (now (rows .entry)) (now (coords .entry)) (now (counts .entry)) (now (values .entry)))
         r (now (out .entry)) (now (out .exit)) ⌝ }
 {
     match checks::checked(steps, rows, coords, counts, values, out.len()) {

@@ -21,7 +21,7 @@ use Rattle.boxed.specs.declared.Cause.the-variants as cause
 use Rattle.boxed.specs.declared.Counts.{Counts}
 use Rattle.boxed.specs.declared.Sweeping.{Sweeping}
 use Rattle.boxed.specs.declared.Sweeping.the-variants as sweeping
-use Rattle.boxed.specs.Solve as def
+use Rattle.boxed.specs.Solve as solve
 use Rattle.boxed.specs.Private.{PASS-USED, USED, Lent, Worked, Counted, Settled}
 use Rattle.boxed.proofs.Testing.{all-fit}
 
@@ -32,16 +32,16 @@ or-false true = refl
 or-false false = refl
 
 module _ (k : ℕ) (l r : List ℕ) (b : Bool) where
-  pub member-skip : (i : ℕ) → i < length l → (k ≡ getD l i 0 → ⊥) → def.member k (drop i l ++ r) ≡ b → def.member k (drop (i + 1) l ++ r) ≡ b
-  unfolding def.member
+  pub member-skip : (i : ℕ) → i < length l → (k ≡ getD l i 0 → ⊥) → solve.member k (drop i l ++ r) ≡ b → solve.member k (drop (i + 1) l ++ r) ≡ b
+  unfolding solve.member
   member-skip i h n e = rw (add-one i) (rw (drop-cons l i 0 h, ne-eqb k (getD l i 0) n) at e)
 
-  pub member-hit : (i : ℕ) → i < length l → k ≡ getD l i 0 → def.member k (drop i l ++ r) ≡ b → true ≡ b
-  unfolding def.member
+  pub member-hit : (i : ℕ) → i < length l → k ≡ getD l i 0 → solve.member k (drop i l ++ r) ≡ b → true ≡ b
+  unfolding solve.member
   member-hit i h n e = rw (drop-cons l i 0 h, eq-eqb k (getD l i 0) n) at e
 
-pub member-end : (k c : ℕ) (l : List ℕ) (b : Bool) (i : ℕ) → length l ≤ i → def.member k (drop i l ++ (c ∷ [])) ≡ b → eqb k c ≡ b
-unfolding def.member
+pub member-end : (k c : ℕ) (l : List ℕ) (b : Bool) (i : ℕ) → length l ≤ i → solve.member k (drop i l ++ (c ∷ [])) ≡ b → eqb k c ≡ b
+unfolding solve.member
 member-end k c l b i h e = sym (or-false (eqb k c)) ∙ rw (drop-of-length-le l {i = i} h) at e
 
 -- ---- how the solve goes on after a pass
@@ -66,7 +66,7 @@ nu-is e = ap (λ (t : Trial). t .nu) e
 
 -- e is the pass's ending x
 pub settled : (e x : Exact) (v nu : List Float) (g : Sweeping) (nu′ : List Float) → e ≡ x → g ≡ goesOn x → nu′ ≡ multipliers x v nu → Settled e v nu g nu′
-unfolding def.passed
+unfolding solve.passed
 settled e x v nu g nu′ i a n st₀ c (moved t) l₀ st l h =
     let y = sym i ∙ h .answer in
     record { answer = rw (a, y); reached = rw (n, y, states-are (h .tried)); listed = h .listed }
@@ -116,7 +116,7 @@ module _ (p : box.Problem) (st : List ℕ) (nu : List Float) (rows : List ℕ) (
   -- t is the copy of the multipliers that is kept
   pub attempted : (t : List Float) (g : Sweeping) (nu′ : List Float) → t ≡ nu → Left p st nu rows (keeping WORKSPACE (box.size p) work t) e st′ v rows′ work′
       → Settled e v (take (WORKSPACE + box.size p - WORKSPACE) (drop WORKSPACE work′)) g nu′
-      → (c : Counts) → Worked PASS-USED (def.passed (def.iterate nu st c) (exactPass p st nu)) rows work g nu′ st′ c rows′ work′
+      → (c : Counts) → Worked PASS-USED (solve.passed (solve.iterate nu st c) (exactPass p st nu)) rows work g nu′ st′ c rows′ work′
   attempted t g nu′ s h k c =
       let few = z .lists .matrix .few in
       let long : USED ≤ length work = z .workspace in
@@ -128,19 +128,19 @@ module _ (p : box.Problem) (st : List ℕ) (nu : List Float) (rows : List ℕ) (
 -- ---- a check
 
 -- b tells whether a pass is due
-module _ (cap : ℕ) (p : box.Problem) (nu : List Float) (st : List ℕ) (n : Counts) (rows : List ℕ) (work : List Float) (b : Bool) (due : b ≡ def.checkpoint cap (n .sweeps)) where
+module _ (cap : ℕ) (p : box.Problem) (nu : List Float) (st : List ℕ) (n : Counts) (rows : List ℕ) (work : List Float) (b : Bool) (due : b ≡ solve.checkpoint cap (n .sweeps)) where
   abbrev Checked : Sweeping → Counts → List Float → List ℕ → List ℕ → List Float → Type 0
   Checked g c nu′ st′ rows′ work′ =
-      Counted PASS-USED (def.checked cap p (def.going (def.iterate nu st n))) rows work (n .sweeps) (n .passes + 1) (record { sweeping = g; counts = c }) nu′ st′ rows′ work′
+      Counted PASS-USED (solve.checked cap p (solve.going (solve.iterate nu st n))) rows work (n .sweeps) (n .passes + 1) (record { sweeping = g; counts = c }) nu′ st′ rows′ work′
 
   pub check-tried : (g : Sweeping) (nu′ : List Float) (st′ rows′ : List ℕ) (work′ : List Float) → b ≡ true
-      → ((c : Counts) → Worked PASS-USED (def.passed (def.iterate nu st c) (exactPass p st nu)) rows work g nu′ st′ c rows′ work′)
-      → Checked g (def.counts (n .sweeps) (n .passes + 1) (n .stopped)) nu′ st′ rows′ work′
-  unfolding def.checked
+      → ((c : Counts) → Worked PASS-USED (solve.passed (solve.iterate nu st c) (exactPass p st nu)) rows work g nu′ st′ c rows′ work′)
+      → Checked g (solve.counts (n .sweeps) (n .passes + 1) (n .stopped)) nu′ st′ rows′ work′
+  unfolding solve.checked
   check-tried g nu′ st′ rows′ work′ t h =
-      let w = h (def.counts (n .sweeps) (suc (n .passes)) (n .stopped)) in
+      let w = h (solve.counts (n .sweeps) (suc (n .passes)) (n .stopped)) in
       record { ran = rw (sym due ∙ t, add-one) (w .ran); workspace = w .workspace; sweeps = refl; passes = omega arith }
 
   pub check-not : b ≡ false → Checked sweeping.Going n nu st rows work
-  unfolding def.checked
+  unfolding solve.checked
   check-not t = record { ran = rw (sym due ∙ t) (record { answer = refl; reached = refl; listed = refl }); workspace = refl; sweeps = refl; passes = omega arith }

@@ -6,7 +6,7 @@ use mathlib.Core.List.{List}
 use lib.Ieee.{Float}
 use Rattle.box_rows.specs.Rows as box
 use Rattle.boxed.specs.Sweep as sweep
-use Rattle.boxed.specs.Solve as def
+use Rattle.boxed.specs.Solve as solve
 use Rattle.boxed.specs.Solve.{going, ended, exact, converged, conflict, Iterate, iterate}
 use Rattle.boxed.specs.Private.{Answered}
 use Rattle.boxed.specs.declared.Counts.{Counts}
@@ -19,10 +19,10 @@ use Rattle.boxed.specs.declared.BoxAnswer.the-variants.{Solved, Infeasib
 
 -- the answer of a solve that had come to s when it ended so, and the states that are left
 abbrev answered : box.Problem → ℕ → Sweeping → Iterate → BoxAnswer
-answered p idle sweeping.Going s = Solved (def.reportOf p idle false false s)
-answered p idle sweeping.Exact s = Solved (def.reportOf p idle true true s)
-answered p idle sweeping.Converged s = Solved (def.reportOf p idle true false s)
-answered p idle (sweeping.Infeasible c k) s = Infeasible c k (def.reportOf p idle false false s)
+answered p idle sweeping.Going s = Solved (solve.reportOf p idle false false s)
+answered p idle sweeping.Exact s = Solved (solve.reportOf p idle true true s)
+answered p idle sweeping.Converged s = Solved (solve.reportOf p idle true false s)
+answered p idle (sweeping.Infeasible c k) s = Infeasible c k (solve.reportOf p idle false false s)
 
 abbrev classified : box.Problem → Iterate → List ℕ
 classified p s = sweep.classified (p .lo) (p .hi) (p .scale) (s .nu) (s .states) (box.size p)
@@ -42,7 +42,7 @@ states-are e = ap (λ (x : Iterate). x .states) e
 module _ (p : box.Problem) (idle : ℕ) (g : Sweeping) (nu : List Float) (st : List ℕ) (c : Counts) where
   finished : (a : BoxAnswer) (st′ : List ℕ) → a ≡ answered p idle g (iterate nu st c) → st′ ≡ statesLeft p g (iterate nu st c)
       → Answered p idle g nu st c a st′
-  unfolding def.result def.unfound
+  unfolding solve.result solve.unfound
   finished a st′ e f (going s) l₀ l h =
       let n = nu-is (h .reached) in
       record { answer = rw (h .answer, h .reached) at e; multipliers = n; states = rw (← n, ← states-are (h .reached)) (rw (h .answer) at f); listed = h .listed }
@@ -60,18 +60,18 @@ module _ (p : box.Problem) (idle : ℕ) (g : Sweeping) (nu : List Float) (st : L
     reported a b = record { sweeps = c .sweeps; «exact_passes» = c .passes; converged = a; exact = b; residual = x; idle = idle; stopped = c .stopped }
 
     pub end-exact : g ≡ sweeping.Exact → q ≡ reported true true → Answered p idle g nu st c (Solved q) st
-    unfolding def.reportOf
+    unfolding solve.reportOf
     end-exact h f = finished (Solved q) st (rw (h, f, e)) (rw h)
 
     pub end-infeasible : (b : Cause) (k : ℕ) → g ≡ sweeping.Infeasible b k → q ≡ reported false false → Answered p idle g nu st c (Infeasible b k q) st
-    unfolding def.reportOf
+    unfolding solve.reportOf
     end-infeasible b k h f = finished (Infeasible b k q) st (rw (h, f, e)) (rw h)
 
     module _ (n : ℕ) (st′ : List ℕ) (s : st′ ≡ sweep.classified (p .lo) (p .hi) (p .scale) nu st n) (m : n ≡ box.size p) where
       pub end-going : g ≡ sweeping.Going → q ≡ reported false false → Answered p idle g nu st c (Solved q) st′
-      unfolding def.reportOf
+      unfolding solve.reportOf
       end-going h f = finished (Solved q) st′ (rw (h, f, e)) (rw (h, s, m))
 
       pub end-converged : g ≡ sweeping.Converged → q ≡ reported true false → Answered p idle g nu st c (Solved q) st′
-      unfolding def.reportOf
+      unfolding solve.reportOf
       end-converged h f = finished (Solved q) st′ (rw (h, f, e)) (rw (h, s, m))

@@ -14,7 +14,7 @@ use Rattle.box_rows.specs.Private.{isStopped}
 use Rattle.boxed.specs.Private.{SweptRow}
 use Rattle.boxed.proofs.Rows.{row-idle, row-acts}
 use Rattle.loops.specs.Loops.{turns, counted}
-use Rattle.boxed.specs.Sweep as def
+use Rattle.boxed.specs.Sweep as sweep
 use Rattle.boxed.specs.Private as private
 
 -- a count of rows is at most the number of rows
@@ -51,7 +51,7 @@ module _ (w uFree lo hi : List Float) (st : List ℕ) (i : ℕ) (nu : List Float
 
 module _ (w uFree lo hi : List Float) (st : List ℕ) (nu : List Float) where
   -- v are the multipliers when the sweep comes to row i
-  pub stopped-again : (i k k′ : ℕ) (v : List Float) → k ≡ def.stopped w uFree lo hi st nu i → v ≡ def.sweep w uFree lo hi st nu i → k′ ≡ counted (private.stops w uFree lo hi st i v) k
-      → k′ ≡ def.stopped w uFree lo hi st nu (i + 1)
-  unfolding def.stopped private.stops counted turns
+  pub stopped-again : (i k k′ : ℕ) (v : List Float) → k ≡ sweep.stopped w uFree lo hi st nu i → v ≡ sweep.sweep w uFree lo hi st nu i → k′ ≡ counted (private.stops w uFree lo hi st i v) k
+      → k′ ≡ sweep.stopped w uFree lo hi st nu (i + 1)
+  unfolding sweep.stopped private.stops counted turns
   stopped-again i k k′ v e f g = rw (add-one i, g, f, e)

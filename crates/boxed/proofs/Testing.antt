@@ -15,7 +15,7 @@ use Rattle.exact_pass.specs.Ray.{ray}
 use Rattle.exact_pass.specs.Promise.{fits, rayReply, Front}
 use Rattle.boxed.specs.Sweep as sweep
 use Rattle.boxed.specs.Private as private
-use Rattle.boxed.specs.Solve as def
+use Rattle.boxed.specs.Solve as solve
 use Rattle.boxed.specs.Solve.{iterate, watch, going}
 use Rattle.boxed.specs.Private.{Ran, Lists, TestLists}
 use Rattle.boxed.specs.declared.Cause.{Cause}
@@ -27,13 +27,13 @@ use Rattle.boxed.specs.declared.Sweeping.the-variants as sweeping
 -- ---- rows that fight end a solve, and none do not: they are k at the front of what was rows
 
 module _ (a : Cause) (nu : List Float) (st rows : List ℕ) (k : ℕ) (rows′ : List ℕ) where
-  pub none-fight : (l : List ℕ) → Front l rows k rows′ → k ≡ 0 → (c : Counts) → Ran (def.unless a (iterate nu st c) l) rows sweeping.Going nu st c rows′
-  unfolding def.unless
+  pub none-fight : (l : List ℕ) → Front l rows k rows′ → k ≡ 0 → (c : Counts) → Ran (solve.unless a (iterate nu st c) l) rows sweeping.Going nu st c rows′
+  unfolding solve.unless
   none-fight [] f h c = record { answer = refl; reached = refl; listed = f .front }
   none-fight (b ∷ l) f h c = absurd (omega (arith, f .count, h))
 
-  pub some-fight : (l : List ℕ) → Front l rows k rows′ → (k ≡ 0 → ⊥) → (c : Counts) → Ran (def.unless a (iterate nu st c) l) rows (sweeping.Infeasible a k) nu st c rows′
-  unfolding def.unless
+  pub some-fight : (l : List ℕ) → Front l rows k rows′ → (k ≡ 0 → ⊥) → (c : Counts) → Ran (solve.unless a (iterate nu st c) l) rows (sweeping.Infeasible a k) nu st c rows′
+  unfolding solve.unless
   some-fight [] f h c = absurd (h (f .count))
   some-fight (b ∷ l) f h c = record { answer = ap (sweeping.Infeasible a) (f .count); reached = refl; listed = f .front }
 
@@ -88,25 +88,25 @@ module _ (p : box.Problem) (st : List ℕ) (nu before y z : List Float) (rows : 
       let d = changed-front nu before y z (box.size p) e n in
       rw (← d) (rw (all-fit (lent .lists) (take (box.size p) (y ++ z)) rows (changed-length nu before y z (box.size p) e n) (lent .listed)) at f)
 
-  pub no-ray : k ≡ 0 → (c : Counts) → Ran (def.unless cause.Sweep (iterate nu st c) fighting) rows sweeping.Going nu st c rows′
+  pub no-ray : k ≡ 0 → (c : Counts) → Ran (solve.unless cause.Sweep (iterate nu st c) fighting) rows sweeping.Going nu st c rows′
   no-ray h = none-fight cause.Sweep nu st rows k rows′ fighting ray-front h
 
-  pub some-ray : (k ≡ 0 → ⊥) → (c : Counts) → Ran (def.unless cause.Sweep (iterate nu st c) fighting) rows (sweeping.Infeasible cause.Sweep k) nu st c rows′
+  pub some-ray : (k ≡ 0 → ⊥) → (c : Counts) → Ran (solve.unless cause.Sweep (iterate nu st c) fighting) rows (sweeping.Infeasible cause.Sweep k) nu st c rows′
   some-ray h = some-fight cause.Sweep nu st rows k rows′ fighting ray-front h
 
 -- ---- the tests: v is the motion, and r the residual
 
 module _ (p : box.Problem) (motion : List Float) (tolerance : Float) (nu before : List Float) (st rows : List ℕ) (v : Float)
     (e : v ≡ sweep.moved motion nu before (length motion / length nu)) where
-  pub still-moves : le v tolerance ≡ false → (c : Counts) → Ran (def.tested p (watch motion tolerance) before (going (iterate nu st c))) rows sweeping.Going nu st c rows
-  unfolding def.tested
+  pub still-moves : le v tolerance ≡ false → (c : Counts) → Ran (solve.tested p (watch motion tolerance) before (going (iterate nu st c))) rows sweeping.Going nu st c rows
+  unfolding solve.tested
   still-moves h c = rw (← e, h) (record { answer = refl; reached = refl; listed = refl })
 
   module _ (h : le v tolerance ≡ true) (r : Float) (f : r ≡ sweep.residual p st nu (box.size p)) where
-    pub has-converged : le r 1e-9 ≡ true → (c : Counts) → Ran (def.tested p (watch motion tolerance) before (going (iterate nu st c))) rows sweeping.Converged nu st c rows
-    unfolding def.tested
+    pub has-converged : le r 1e-9 ≡ true → (c : Counts) → Ran (solve.tested p (watch motion tolerance) before (going (iterate nu st c))) rows sweeping.Converged nu st c rows
+    unfolding solve.tested
     has-converged g c = rw (← e, h, ← f, g) (record { answer = refl; reached = refl; listed = refl })
 
-    pub tries-ray : le r 1e-9 ≡ false → (q : Sweeping) (rows′ : List ℕ) → ((c : Counts) → Ran (def.unless cause.Sweep (iterate nu st c) (ray p st (private.change nu before (box.size p)))) rows q nu st c rows′) → (c : Counts) → Ran (def.tested p (watch motion tolerance) before (going (iterate nu st c))) rows q nu st c rows′
-    unfolding def.tested private.change
+    pub tries-ray : le r 1e-9 ≡ false → (q : Sweeping) (rows′ : List ℕ) → ((c : Counts) → Ran (solve.unless cause.Sweep (iterate nu st c) (ray p st (private.change nu before (box.size p)))) rows q nu st c rows′) → (c : Counts) → Ran (solve.tested p (watch motion tolerance) before (going (iterate nu st c))) rows q nu st c rows′
+    unfolding solve.tested private.change
     tries-ray g q rows′ m c = rw (← e, h, ← f, g) (m c)

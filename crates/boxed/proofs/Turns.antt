@@ -12,9 +12,9 @@ use Rattle.loops.specs.Loops.{turns}
 use Rattle.loops.specs.Gathering.{Gathering}
 use Rattle.loops.proofs.Turns.{stays}
 use Rattle.box_rows.specs.Rows as box
-use Rattle.boxed.specs.Sweep as sweeps
+use Rattle.boxed.specs.Sweep as sweep
 use Rattle.boxed.specs.Private as private
-use Rattle.boxed.specs.Solve as def
+use Rattle.boxed.specs.Solve as solve
 use Rattle.boxed.specs.Solve.{Run, going, ended, exact, converged, conflict, Iterate, iterate, Watch}
 use Rattle.boxed.specs.Private.{PASS-USED, USED, isGoing, TurnLent, Swept, Ran, Worked, Counted}
 use Rattle.boxed.proofs.Checks.{keeping, Keeps, keeps}
@@ -35,18 +35,18 @@ module _ (l₀ : List ℕ) (g : Sweeping) (nu : List Float) (st : List ℕ) (c :
   goes-on (ended converged s) h f = absurd (true≢false (sym (rw (h .answer) at f)))
   goes-on (ended (conflict k r) s) h f = absurd (true≢false (sym (rw (h .answer) at f)))
 
-  tested-ended : (p : box.Problem) (m : Watch) (before : List Float) (r : Run) → Ran r l₀ g nu st c l → isGoing g ≡ false → def.tested p m before r ≡ r
-  unfolding def.tested
+  tested-ended : (p : box.Problem) (m : Watch) (before : List Float) (r : Run) → Ran r l₀ g nu st c l → isGoing g ≡ false → solve.tested p m before r ≡ r
+  unfolding solve.tested
   tested-ended p m before (going s) h f = absurd (true≢false (rw (h .answer) at f))
   tested-ended p m before (ended e s) h f = refl
 
-  checked-ended : (cap : ℕ) (p : box.Problem) (r : Run) → Ran r l₀ g nu st c l → isGoing g ≡ false → def.checked cap p r ≡ r
-  unfolding def.checked
+  checked-ended : (cap : ℕ) (p : box.Problem) (r : Run) → Ran r l₀ g nu st c l → isGoing g ≡ false → solve.checked cap p r ≡ r
+  unfolding solve.checked
   checked-ended cap p (going s) h f = absurd (true≢false (rw (h .answer) at f))
   checked-ended cap p (ended e s) h f = refl
 
-  ended-stays : (cap : ℕ) (p : box.Problem) (m : Watch) (r : Run) → Ran r l₀ g nu st c l → isGoing g ≡ false → (i : ℕ) → def.turn cap p m i r ≡ r
-  unfolding def.turn
+  ended-stays : (cap : ℕ) (p : box.Problem) (m : Watch) (r : Run) → Ran r l₀ g nu st c l → isGoing g ≡ false → (i : ℕ) → solve.turn cap p m i r ≡ r
+  unfolding solve.turn
   ended-stays cap p m (going s) h f i = absurd (true≢false (rw (h .answer) at f))
   ended-stays cap p m (ended e s) h f i = refl
 
@@ -55,23 +55,23 @@ module _ (l₀ : List ℕ) (g : Sweeping) (nu : List Float) (st : List ℕ) (c :
 module _ (cap : ℕ) (m : Watch) (i : ℕ) {p : box.Problem} {nu : List Float} {st : List ℕ} {n : Counts} {rows : List ℕ} {work nu₁ old : List Float} {s k : ℕ} {rows₁ : List ℕ} (lent : TurnLent p st nu rows work n)
     (swept : Swept (p .w) (p .uFree) (p .lo) (p .hi) st nu nu₁ old s) (grew : Gathering (private.grownAt nu₁ (p .scale)) rows (length nu₁) k rows₁) where
   abbrev c : Counts
-  c = def.counts (n .sweeps + 1) (n .passes) s
+  c = solve.counts (n .sweeps + 1) (n .passes) s
 
   abbrev told : Sweeping → Counts → Progress
   told g c = record { sweeping = g; counts = c }
 
   -- what this turn comes to
   abbrev TurnCounted : Progress → List Float → List ℕ → List ℕ → List Float → Type 0
-  TurnCounted q nu′ st′ rows′ work′ = Counted USED (def.turn cap p m i (going (iterate nu st n))) rows work (n .sweeps + 1) (n .passes + 1) q nu′ st′ rows′ work′
+  TurnCounted q nu′ st′ rows′ work′ = Counted USED (solve.turn cap p m i (going (iterate nu st n))) rows work (n .sweeps + 1) (n .passes + 1) q nu′ st′ rows′ work′
 
   abbrev fighting : List ℕ
-  fighting = sweeps.grown nu₁ (p .scale) (length nu₁)
+  fighting = sweep.grown nu₁ (p .scale) (length nu₁)
 
   abbrev after : Run
-  after = def.unless cause.Growth (iterate nu₁ st c) fighting
+  after = solve.unless cause.Growth (iterate nu₁ st c) fighting
 
-  turn-is : def.turn cap p m i (going (iterate nu st n)) ≡ def.tested p m nu (def.checked cap p after)
-  unfolding def.turn
+  turn-is : solve.turn cap p m i (going (iterate nu st n)) ≡ solve.tested p m nu (solve.checked cap p after)
+  unfolding solve.turn
   turn-is = rw (swept .long, add-one, swept .stopped, swept .multipliers)
 
   front : Front fighting rows k rows₁
@@ -101,9 +101,9 @@ module _ (cap : ℕ) (m : Watch) (i : ℕ) {p : box.Problem} {nu : List Float} {
 
   -- b tells whether the solve goes on after the check
   module _ (none : k ≡ 0) {q : Progress} {nu₂ : List Float} {st₂ rows₂ : List ℕ} {work₂ : List Float} {b : Bool}
-      (checked : Counted PASS-USED (def.checked cap p (going (iterate nu₁ st c))) rows₁ work₁ (n .sweeps + 1) (n .passes + 1) q nu₂ st₂ rows₂ work₂) (on : b ≡ isGoing (q .sweeping)) where
-    turn-on : def.turn cap p m i (going (iterate nu st n)) ≡ def.tested p m nu (def.checked cap p (going (iterate nu₁ st c)))
-    turn-on = turn-is ∙ ap (λ (r : Run). def.tested p m nu (def.checked cap p r)) (none-grown none .0)
+      (checked : Counted PASS-USED (solve.checked cap p (going (iterate nu₁ st c))) rows₁ work₁ (n .sweeps + 1) (n .passes + 1) q nu₂ st₂ rows₂ work₂) (on : b ≡ isGoing (q .sweeping)) where
+    turn-on : solve.turn cap p m i (going (iterate nu st n)) ≡ solve.tested p m nu (solve.checked cap p (going (iterate nu₁ st c)))
+    turn-on = turn-is ∙ ap (λ (r : Run). solve.tested p m nu (solve.checked cap p r)) (none-grown none .0)
 
     rows-stay : rows₁ ≡ rows
     rows-stay = none-grown none .1
@@ -112,16 +112,16 @@ module _ (cap : ℕ) (m : Watch) (i : ℕ) {p : box.Problem} {nu : List Float} {
     turn-ended f =
         let r = checked .ran in
         record {
-          ran = rw (turn-on, tested-ended rows₁ (q .sweeping) nu₂ st₂ (q .counts) rows₂ p m nu (def.checked cap p (going (iterate nu₁ st c))) r (sym on ∙ not-true b f), ← rows-stay) r;
+          ran = rw (turn-on, tested-ended rows₁ (q .sweeping) nu₂ st₂ (q .counts) rows₂ p m nu (solve.checked cap p (going (iterate nu₁ st c))) r (sym on ∙ not-true b f), ← rows-stay) r;
           workspace = kept work₂ (checked .workspace) .beyond;
           sweeps = checked .sweeps;
           passes = checked .passes;
         }
 
     pub turn-tested : not b ≡ false → (g : Sweeping) (rows₃ : List ℕ)
-        → ((d : Counts) → Ran (def.tested p m (take (PASS-USED + box.size p - PASS-USED) (drop PASS-USED work₂)) (going (iterate nu₂ st₂ d))) rows₂ g nu₂ st₂ d rows₃) → TurnCounted (told g (q .counts)) nu₂ st₂ rows₃ work₂
+        → ((d : Counts) → Ran (solve.tested p m (take (PASS-USED + box.size p - PASS-USED) (drop PASS-USED work₂)) (going (iterate nu₂ st₂ d))) rows₂ g nu₂ st₂ d rows₃) → TurnCounted (told g (q .counts)) nu₂ st₂ rows₃ work₂
     turn-tested f g rows₃ h =
-        let x = goes-on rows₁ (q .sweeping) nu₂ st₂ (q .counts) rows₂ (def.checked cap p (going (iterate nu₁ st c))) (checked .ran) (sym on ∙ not-false b f) in
+        let x = goes-on rows₁ (q .sweeping) nu₂ st₂ (q .counts) rows₂ (solve.checked cap p (going (iterate nu₁ st c))) (checked .ran) (sym on ∙ not-false b f) in
         record {
           ran = rw (turn-on, x .0, ← rows-stay, ← x .1) (rw (kept work₂ (checked .workspace) .part, swept .before) at (h (q .counts)));
           workspace = kept work₂ (checked .workspace) .beyond;
@@ -141,31 +141,31 @@ pub record Kept (cap : ℕ) (st₀ st : List ℕ) (nu₀ nu : List Float) (rows�
   pub of-work : length work ≡ length work₀
 
 abbrev pub first : List Float → List ℕ → Iterate
-first nu st = iterate nu st (def.counts 0 0 0)
+first nu st = iterate nu st (solve.counts 0 0 0)
 
 -- what its sweeps have come to
 pub record Reached (cap : ℕ) (p : box.Problem) (m : Watch) (nu₀ : List Float) (st₀ rows₀ : List ℕ) (work₀ nu : List Float) (st rows : List ℕ) (work : List Float) (c : Counts) : Type 0 where
-  pub run : def.run cap p m (first nu₀ st₀) (c .sweeps) ≡ going (iterate nu st c)
+  pub run : solve.run cap p m (first nu₀ st₀) (c .sweeps) ≡ going (iterate nu st c)
   pub listed : rows ≡ rows₀
   pub workspace : drop USED work ≡ drop USED work₀
 
 module _ (cap : ℕ) (p : box.Problem) (m : Watch) (nu₀ : List Float) (st₀ rows₀ : List ℕ) (work₀ : List Float) where
-  pub run-start : Reached cap p m nu₀ st₀ rows₀ work₀ nu₀ st₀ rows₀ work₀ (def.counts 0 0 0)
-  unfolding def.run turns
+  pub run-start : Reached cap p m nu₀ st₀ rows₀ work₀ nu₀ st₀ rows₀ work₀ (solve.counts 0 0 0)
+  unfolding solve.run turns
   run-start = record { run = refl; listed = refl; workspace = refl }
 
   module _ (nu : List Float) (st rows : List ℕ) (work : List Float) (c : Counts) (so-far : Reached cap p m nu₀ st₀ rows₀ work₀ nu st rows work c) where
-    pub run-over : c .sweeps ≤ cap → cap ≤ c .sweeps → Worked USED (def.run cap p m (first nu₀ st₀) cap) rows₀ work₀ sweeping.Going nu st c rows work
+    pub run-over : c .sweeps ≤ cap → cap ≤ c .sweeps → Worked USED (solve.run cap p m (first nu₀ st₀) cap) rows₀ work₀ sweeping.Going nu st c rows work
     run-over a b =
         let e : cap ≡ c .sweeps = omega arith in
-        let r : def.run cap p m (first nu₀ st₀) cap ≡ going (iterate nu st c) = ap (def.run cap p m (first nu₀ st₀)) e ∙ so-far .run in
+        let r : solve.run cap p m (first nu₀ st₀) cap ≡ going (iterate nu st c) = ap (solve.run cap p m (first nu₀ st₀)) e ∙ so-far .run in
         record { ran = rw r (record { answer = refl; reached = refl; listed = so-far .listed }); workspace = so-far .workspace }
 
     abbrev next : Run
-    next = def.turn cap p m (c .sweeps) (going (iterate nu st c))
+    next = solve.turn cap p m (c .sweeps) (going (iterate nu st c))
 
-    step : def.run cap p m (first nu₀ st₀) (suc (c .sweeps)) ≡ next
-    unfolding def.run turns
+    step : solve.run cap p m (first nu₀ st₀) (suc (c .sweeps)) ≡ next
+    unfolding solve.run turns
     step = rw (so-far .run)
 
     module _ (q : Progress) (nu′ : List Float) (st′ rows′ : List ℕ) (work′ : List Float) (b : Bool) (swept : Counted USED next rows work (c .sweeps + 1) (c .passes + 1) q nu′ st′ rows′ work′) (on : b ≡ isGoing (q .sweeping)) where
@@ -173,16 +173,16 @@ module _ (cap : ℕ) (p : box.Problem) (m : Watch) (nu₀ : List Float) (st₀ r
       run-again f =
           let x = goes-on rows (q .sweeping) nu′ st′ (q .counts) rows′ next (swept .ran) (sym on ∙ not-false b f) in
           record {
-            run = ap (def.run cap p m (first nu₀ st₀)) (swept .sweeps ∙ add-one (c .sweeps)) ∙ step ∙ x .0;
+            run = ap (solve.run cap p m (first nu₀ st₀)) (swept .sweeps ∙ add-one (c .sweeps)) ∙ step ∙ x .0;
             listed = x .1 ∙ so-far .listed;
             workspace = swept .workspace ∙ so-far .workspace;
           }
 
-      pub run-ended : not b ≡ true → c .sweeps < cap → Worked USED (def.run cap p m (first nu₀ st₀) cap) rows₀ work₀ (q .sweeping) nu′ st′ (q .counts) rows′ work′
-      unfolding def.run
+      pub run-ended : not b ≡ true → c .sweeps < cap → Worked USED (solve.run cap p m (first nu₀ st₀) cap) rows₀ work₀ (q .sweeping) nu′ st′ (q .counts) rows′ work′
+      unfolding solve.run
       run-ended f h =
           let still = ended-stays rows (q .sweeping) nu′ st′ (q .counts) rows′ cap p m next (swept .ran) (sym on ∙ not-true b f) in
           record {
-            ran = rw (stays (def.turn cap p m) (going (first nu₀ st₀)) next (suc (c .sweeps)) step (λ i g. still i) cap h, ← so-far .listed) (swept .ran);
+            ran = rw (stays (solve.turn cap p m) (going (first nu₀ st₀)) next (suc (c .sweeps)) step (λ i g. still i) cap h, ← so-far .listed) (swept .ran);
             workspace = swept .workspace ∙ so-far .workspace;
           }

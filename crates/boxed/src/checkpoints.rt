@@ -4,7 +4,7 @@ ghost use Prim.Native.Nat.{_+_};
 ghost use lib.ListN.{length};
 ghost use Rattle.box_rows.specs.Rows as box;
 ghost use Rattle.exact_pass.specs.Pass.{exactPass};
-ghost use Rattle.boxed.specs.Solve as def;
+ghost use Rattle.boxed.specs.Solve as solve;
 ghost use Rattle.boxed.specs.Private as private;
 ghost use Rattle.boxed.specs.declared.Counts.{Counts};
 use crate::CHECKPOINTS;
@@ -17,7 +17,7 @@ use exact_pass::Exact;
 
 // Whether a pass is tried after sweep k.
 fn checkpoint(cap: u32, k: u32) -> bool
-    ensures { λ q. ⌜ q ≡ def.checkpoint cap k ⌝ }
+    ensures { λ q. ⌜ q ≡ solve.checkpoint cap k ⌝ }
 {
     let mut i = 0;
     while i < 8 {
@@ -68,7 +68,7 @@ fn attempt(
     requires { ⌜ private.Lent (box.problem (now w) (now «u_free») (now lo) (now hi) (now scale)) (now states) (now nu)
         (now rows) (now work) ⌝ }
     ensures { λ q. ⌜ ((c : Counts) → private.Worked private.PASS-USED
-        (def.passed (def.iterate (now (nu .entry)) (now (states .entry)) c)
+        (solve.passed (solve.iterate (now (nu .entry)) (now (states .entry)) c)
         (exactPass
         (box.problem (now (w .entry)) (now («u_free» .entry)) (now (lo .entry)) (now (hi .entry)) (now (scale .entry)))
         (now (states .entry)) (now (nu .entry))))
@@ -98,9 +98,9 @@ pub fn check(
     requires { ⌜ private.CheckLent (box.problem (now w) (now «u_free») (now lo) (now hi) (now scale)) (now states)
         (now nu) (now rows) (now work) counts ⌝ }
     ensures { λ q. ⌜ private.Counted private.PASS-USED
-        (def.checked cap
+        (solve.checked cap
         (box.problem (now (w .entry)) (now («u_free» .entry)) (now (lo .entry)) (now (hi .entry)) (now (scale .entry)))
-        (def.going (def.iterate (now (nu .entry)) (now (states .entry)) counts)))
+        (solve.going (solve.iterate (now (nu .entry)) (now (states .entry)) counts)))
         (now (rows .entry)) (now (work .entry)) (counts .sweeps) (counts .passes + 1)
         q (now (nu .exit)) (now (states .exit)) (now (rows .exit)) (now (work .exit)) ⌝ }
 {

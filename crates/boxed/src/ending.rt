@@ -2,7 +2,7 @@
 ghost use mathlib.Core.Path.{_≡_};
 ghost use lib.ListN.{length};
 ghost use Rattle.box_rows.specs.Rows as box;
-ghost use Rattle.boxed.specs.Sweep as sweeps;
+ghost use Rattle.boxed.specs.Sweep as sweep;
 ghost use Rattle.boxed.specs.Private as private;
 use crate::BoxAnswer;
 use crate::BoxReport;
@@ -51,7 +51,7 @@ fn classify_row(lo: &[f64], hi: &[f64], scale: &[f64], nu: &[f64], states: &mut 
 fn classify(lo: &[f64], hi: &[f64], scale: &[f64], nu: &[f64], states: &mut [u8])
     requires { ⌜ private.Scaled (length (now nu)) (now lo) (now hi) (now scale) (now states) (now nu) ⌝ }
     ensures { λ q. ⌜ now (states .exit)
-        ≡ sweeps.classified (now (lo .entry)) (now (hi .entry)) (now (scale .entry)) (now (nu .entry))
+        ≡ sweep.classified (now (lo .entry)) (now (hi .entry)) (now (scale .entry)) (now (nu .entry))
         (now (states .entry)) (length (now (nu .entry))) ⌝ }
 {
     let n = nu.len();

@@ -3,7 +3,7 @@
 ghost use mathlib.Core.Path.{_≡_};
 ghost use lib.ListN.{length, take};
 ghost use Rattle.box_rows.specs.Rows as box;
-ghost use Rattle.boxed.specs.Solve as def;
+ghost use Rattle.boxed.specs.Solve as solve;
 ghost use Rattle.boxed.specs.Private as private;
 
 // The steps of a solve, in their order.
@@ -110,10 +110,10 @@ fn solve_rows(
 ) -> BoxAnswer
     requires { ⌜ private.Lent (box.problem (now w) (now «u_free») (now lo) (now hi) (now scale)) (now states) (now nu)
         (now rows) (now work) ⌝ }
-    ensures { λ q. ⌜ def.Left
-        (def.solve def.SWEEP_CAP
+    ensures { λ q. ⌜ solve.Left
+        (solve.solve solve.SWEEP_CAP
         (box.problem (now (w .entry)) (now («u_free» .entry)) (now (lo .entry)) (now (hi .entry)) (now (scale .entry)))
-        (def.watch (now (motion .entry)) tolerance)
+        (solve.watch (now (motion .entry)) tolerance)
         (now (nu .entry)) (now (states .entry)) (now (rows .entry)))
         q (now (nu .exit)) (now (states .exit)) (now (rows .exit)) (now (work .entry)) (now (work .exit)) ⌝ }
 {
@@ -159,7 +159,7 @@ impl BoxSolver {
         rows: &[usize],
         workspace: usize,
     ) -> u32
-        ensures { λ r. ⌜ r ≡ def.refusal
+        ensures { λ r. ⌜ r ≡ solve.refusal
             (box.problem (now (w .entry)) (now («u_free» .entry)) (now (lo .entry)) (now (hi .entry))
             (now (scale .entry)))
             (now (motion .entry)) (now (nu .entry)) (now (states .entry)) (now (rows .entry)) workspace ⌝ }
@@ -195,11 +195,11 @@ impl BoxSolver {
         workspace: &mut [f64],
     ) -> BoxAnswer
         ensures { λ r. ⌜
-            def.Left
-            (def.solveReply
+            solve.Left
+            (solve.solveReply
             (box.problem (now (w .entry)) (now («u_free» .entry)) (now (lo .entry)) (now (hi .entry))
             (now (scale .entry)))
-            (def.watch (now (motion .entry)) tolerance)
+            (solve.watch (now (motion .entry)) tolerance)
             (now (nu .entry)) (now (states .entry)) (now (rows .entry)) (length (now (workspace .entry))))
             r (now (nu .exit)) (now (states .exit)) (now (rows .exit))
             (now (workspace .entry)) (now (workspace .exit)) ⌝ }

@@ -4,9 +4,9 @@ ghost use mathlib.Core.Bool.{not, _&&_, _||_};
 ghost use Prim.Native.Nat.{_*_, _%_, _≤_};
 ghost use lib.Dec.{ltb, eqb};
 ghost use lib.ListN.{length};
-ghost use Rattle.loops.specs.Loops as loop;
+ghost use Rattle.loops.specs.Loops as loops;
 ghost use Rattle.box_rows.specs.Rows as box;
-ghost use Rattle.boxed.specs.Solve as def;
+ghost use Rattle.boxed.specs.Solve as solve;
 ghost use Rattle.boxed.specs.Private as private;
 use crate::read;
 
@@ -56,7 +56,7 @@ fn good_scale(s: f64) -> bool
 
 fn good_scales(scale: &[f64], n: usize) -> bool
     requires { ⌜ length (now scale) ≡ n ⌝ }
-    ensures { λ r. ⌜ r ≡ loop.every (private.goodScaleAt (now (scale .entry))) n ⌝ }
+    ensures { λ r. ⌜ r ≡ loops.every (private.goodScaleAt (now (scale .entry))) n ⌝ }
 {
     let mut good = true;
     let mut i = 0;
@@ -103,7 +103,7 @@ pub fn refusal(
     rows: &[usize],
     workspace: usize,
 ) -> u32
-    ensures { λ r. ⌜ r ≡ def.refusal
+    ensures { λ r. ⌜ r ≡ solve.refusal
         (box.problem (now (w .entry)) (now («u_free» .entry)) (now (lo .entry)) (now (hi .entry)) (now (scale .entry)))
         (now (motion .entry)) (now (nu .entry)) (now (states .entry)) (now (rows .entry)) workspace ⌝ }
 {

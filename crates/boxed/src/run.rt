@@ -2,7 +2,7 @@
 ghost use mathlib.Core.Path.{_≡_};
 ghost use Prim.Native.Nat.{_+_};
 ghost use Rattle.box_rows.specs.Rows as box;
-ghost use Rattle.boxed.specs.Solve as def;
+ghost use Rattle.boxed.specs.Solve as solve;
 ghost use Rattle.boxed.specs.Private as private;
 use crate::Cause;
 use crate::Counts;
@@ -43,10 +43,10 @@ fn turn(
     requires { ⌜ private.TurnLent (box.problem (now w) (now «u_free») (now lo) (now hi) (now scale)) (now states)
         (now nu) (now rows) (now work) counts ⌝ }
     ensures { λ q. ⌜ private.Counted private.USED
-        (def.turn (limits .cap)
+        (solve.turn (limits .cap)
         (box.problem (now (w .entry)) (now («u_free» .entry)) (now (lo .entry)) (now (hi .entry)) (now (scale .entry)))
-        (def.watch (now (motion .entry)) (limits .tolerance)) (counts .sweeps)
-        (def.going (def.iterate (now (nu .entry)) (now (states .entry)) counts)))
+        (solve.watch (now (motion .entry)) (limits .tolerance)) (counts .sweeps)
+        (solve.going (solve.iterate (now (nu .entry)) (now (states .entry)) counts)))
         (now (rows .entry)) (now (work .entry)) (counts .sweeps + 1) (counts .passes + 1)
         q (now (nu .exit)) (now (states .exit)) (now (rows .exit)) (now (work .exit)) ⌝ }
 {
@@ -105,12 +105,12 @@ pub fn run(
     work: &mut [f64],
 ) -> Progress
     requires { ⌜ private.TurnLent (box.problem (now w) (now «u_free») (now lo) (now hi) (now scale)) (now states)
-        (now nu) (now rows) (now work) (def.counts 0 0 0) ⌝ }
+        (now nu) (now rows) (now work) (solve.counts 0 0 0) ⌝ }
     ensures { λ q. ⌜ private.Worked private.USED
-        (def.run (limits .cap)
+        (solve.run (limits .cap)
         (box.problem (now (w .entry)) (now («u_free» .entry)) (now (lo .entry)) (now (hi .entry)) (now (scale .entry)))
-        (def.watch (now (motion .entry)) (limits .tolerance))
-        (def.iterate (now (nu .entry)) (now (states .entry)) (def.counts 0 0 0)) (limits .cap))
+        (solve.watch (now (motion .entry)) (limits .tolerance))
+        (solve.iterate (now (nu .entry)) (now (states .entry)) (solve.counts 0 0 0)) (limits .cap))
         (now (rows .entry)) (now (work .entry))
         (q .sweeping) (now (nu .exit)) (now (states .exit)) (q .counts) (now (rows .exit)) (now (work .exit)) ⌝ }
 {

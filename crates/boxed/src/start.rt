@@ -3,7 +3,7 @@
 ghost use mathlib.Core.Path.{_≡_};
 ghost use Prim.Native.Nat.{_+_};
 ghost use lib.ListN.{length};
-ghost use Rattle.boxed.specs.Sweep as def;
+ghost use Rattle.boxed.specs.Sweep as sweep;
 ghost use Rattle.boxed.specs.Private as private;
 use crate::read;
 
@@ -38,7 +38,7 @@ fn start_row(
 pub fn start(w: &[f64], lo: &[f64], hi: &[f64], states: &mut [u8], nu: &mut [f64]) -> usize
     requires { ⌜ private.Matrix (length (now lo)) (now w) (now lo) (now hi) (now states) (now nu) ⌝ }
     ensures { λ q. ⌜ private.Started
-        (def.start (now (w .entry)) (length (now (lo .entry))) (now (lo .entry)) (now (hi .entry))
+        (sweep.start (now (w .entry)) (length (now (lo .entry))) (now (lo .entry)) (now (hi .entry))
         (now (nu .entry)) (now (states .entry)) (length (now (lo .entry))))
         (length (now (lo .entry))) (now (nu .exit)) (now (states .exit)) q ⌝ }
 {

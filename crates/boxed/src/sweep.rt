@@ -3,14 +3,14 @@ ghost use mathlib.Core.Path.{_≡_};
 ghost use Prim.Native.Nat.{_+_, _<_};
 ghost use lib.ListN.{length};
 ghost use Rattle.loops.specs.Loops.{counted};
-ghost use Rattle.box_rows.specs.Private as lists;
+ghost use Rattle.box_rows.specs.Private.{isStopped};
 ghost use Rattle.boxed.specs.Private as private;
 use crate::read;
 
 // k, and one more where an update is stopped at this side.
 fn count(side: u8, k: u32) -> u32
     requires { ⌜ k < private.MOST ⌝ }
-    ensures { λ q. ⌜ q ≡ counted (lists.isStopped side) k ⌝ }
+    ensures { λ q. ⌜ q ≡ counted (isStopped side) k ⌝ }
 {
     if side == floats::NONE {
         return k;

@@ -5,7 +5,7 @@ ghost use Prim.Native.Nat.{_/_};
 ghost use lib.ListN.{length};
 ghost use Rattle.box_rows.specs.Rows as box;
 ghost use Rattle.exact_pass.specs.Ray.{ray};
-ghost use Rattle.boxed.specs.Sweep as def;
+ghost use Rattle.boxed.specs.Sweep as sweep;
 ghost use Rattle.boxed.specs.Solve as solve;
 ghost use Rattle.boxed.specs.Private as private;
 ghost use Rattle.boxed.specs.declared.Counts.{Counts};
@@ -60,7 +60,7 @@ pub fn residual(
 ) -> f64
     requires { ⌜
         private.Lists (box.problem (now w) (now «u_free») (now lo) (now hi) (now scale)) (now states) (now nu) ⌝ }
-    ensures { λ q. ⌜ q ≡ def.residual
+    ensures { λ q. ⌜ q ≡ sweep.residual
         (box.problem (now (w .entry)) (now («u_free» .entry)) (now (lo .entry)) (now (hi .entry)) (now (scale .entry)))
         (now (states .entry)) (now (nu .entry)) (length (now («u_free» .entry))) ⌝ }
 {
@@ -93,7 +93,7 @@ fn coordinate(row: &[f64], nu: &[f64], before: &[f64]) -> f64
 // The most that a coordinate moved.
 fn moved(motion: &[f64], nu: &[f64], before: &[f64]) -> f64
     requires { ⌜ private.Measured (length (now nu)) (now before) ⌝ }
-    ensures { λ q. ⌜ q ≡ def.moved (now (motion .entry)) (now (nu .entry)) (now (before .entry))
+    ensures { λ q. ⌜ q ≡ sweep.moved (now (motion .entry)) (now (nu .entry)) (now (before .entry))
         (length (now (motion .entry)) / length (now (nu .entry))) ⌝ }
 {
     let n = nu.len();

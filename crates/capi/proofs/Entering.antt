@@ -14,16 +14,16 @@ use Rattle.tally.specs.Tally.{Call, tallied}
 use Rattle.tallied.specs.Joining.{Entered}
 use Rattle.tallied.specs.declared.Tallied.{Tallied}
 use Rattle.capi.specs.Solves as plain
-use Rattle.capi.specs.Tallies as def
+use Rattle.capi.specs.Tallies as tallies
 use Rattle.capi.proofs.Solving as solving
 
-module _ (tally : List ℕ) (kept : List Float) (counts : List ℕ) (residual : List Float) (h : def.taken tally kept counts residual ≡ true) where
+module _ (tally : List ℕ) (kept : List Float) (counts : List ℕ) (residual : List Float) (h : tallies.taken tally kept counts residual ≡ true) where
   pub ten : 10 ≤ length tally
-  unfolding def.taken
+  unfolding tallies.taken
   ten = leb-true 10 (length tally) (both-true (leb 10 (length tally)) (leb 1 (length kept) && plain.taken counts residual) h .0)
 
   one-and : leb 1 (length kept) && plain.taken counts residual ≡ true
-  unfolding def.taken
+  unfolding tallies.taken
   one-and = both-true (leb 10 (length tally)) (leb 1 (length kept) && plain.taken counts residual) h .1
 
   pub one : 1 ≤ length kept
@@ -33,9 +33,9 @@ module _ (tally : List ℕ) (kept : List Float) (counts : List ℕ) (residual : 
   room = solving.room counts residual (both-true (leb 1 (length kept)) (plain.taken counts residual) one-and .1)
 
 module _ (t : SolveReport) (c : Call) (tally : List ℕ) (kept : List Float) (counts : List ℕ) (residual : List Float) where
-  pub no-room : (w : List Float) → def.taken tally kept counts residual ≡ false
-      → def.Answered (def.reply (def.taken tally kept counts residual) t c) 10 tally tally kept kept (c .nu) (c .states) (c .listed) counts counts residual residual w w
-  unfolding def.reply def.countsKept def.residualKept
+  pub no-room : (w : List Float) → tallies.taken tally kept counts residual ≡ false
+      → tallies.Answered (tallies.reply (tallies.taken tally kept counts residual) t c) 10 tally tally kept kept (c .nu) (c .states) (c .listed) counts counts residual residual w w
+  unfolding tallies.reply tallies.countsKept tallies.residualKept
   no-room w h =
       rw h (record {
         answer-is = record { number-is = refl; nu-is = refl; states-are = refl; rows-are = refl; counts-are = refl; residual-is = refl; workspace-left = refl };
@@ -45,11 +45,11 @@ module _ (t : SolveReport) (c : Call) (tally : List ℕ) (kept : List Float) (co
 
   -- the solve is given the tally that was read, and the number r of the call is that of the answer
   pub answered : (t′ : SolveReport) (s : Tallied) (k r : ℕ) (nu′ : List Float) (st′ q′ counts′ : List ℕ) (residual′ : List Float) (tally′ : List ℕ) (kept′ w w′ : List Float)
-      → def.taken tally kept counts residual ≡ true → t′ ≡ t → Entered (tallied t′ c) (s .tally) (s .answer) nu′ st′ q′ w w′
+      → tallies.taken tally kept counts residual ≡ true → t′ ≡ t → Entered (tallied t′ c) (s .tally) (s .answer) nu′ st′ q′ w w′
       → k ≡ plain.number (s .answer) → counts′ ≡ plain.countsLeft (s .answer) counts → residual′ ≡ plain.residualLeft (s .answer) residual
-      → r ≡ k → tally′ ≡ def.countsKept k (s .tally) tally → kept′ ≡ def.residualKept k (s .tally) kept
-      → def.Answered (def.reply (def.taken tally kept counts residual) t c) r tally tally′ kept kept′ nu′ st′ q′ counts counts′ residual residual′ w w′
-  unfolding def.reply
+      → r ≡ k → tally′ ≡ tallies.countsKept k (s .tally) tally → kept′ ≡ tallies.residualKept k (s .tally) kept
+      → tallies.Answered (tallies.reply (tallies.taken tally kept counts residual) t c) r tally tally′ kept kept′ nu′ st′ q′ counts counts′ residual residual′ w w′
+  unfolding tallies.reply
   answered t′ s k r nu′ st′ q′ counts′ residual′ tally′ kept′ w w′ h g x′ n e f same a b =
       let x : Entered (tallied t c) (s .tally) (s .answer) nu′ st′ q′ w w′ = rw g at x′ in
       let l = x .left in

@@ -6,9 +6,9 @@ ghost use lib.ListN.{length};
 ghost use Rattle.box_rows.specs.Rows as box;
 ghost use Rattle.boxed.specs.Solve as solve;
 ghost use Rattle.floats.specs.Sqrt as root;
-ghost use Rattle.report.specs.Joins as join;
-ghost use Rattle.capi.specs.LeastNorm as least;
-ghost use Rattle.capi.specs.Reports as def;
+ghost use Rattle.report.specs.Joins as joins;
+ghost use Rattle.capi.specs.LeastNorm as call;
+ghost use Rattle.capi.specs.Reports as report;
 ghost use Rattle.capi.specs.Solves as plain;
 use boxed::BoxSolver;
 use least_norm::LeastNorm;
@@ -40,8 +40,8 @@ pub extern "C" fn piskorlu_least_norm(
     rank: &mut [u32],
 ) -> u32
     ensures { λ r. ⌜
-        least.Answered
-        (least.reply m n (now (a .entry)) (now (b .entry)) (now (x .entry)) (length (now (workspace .entry)))
+        call.Answered
+        (call.reply m n (now (a .entry)) (now (b .entry)) (now (x .entry)) (length (now (workspace .entry)))
         (now (rank .entry)))
         r (now (a .entry)) (now (a .exit)) (now (b .entry)) (now (b .exit)) (now (x .entry)) (now (x .exit))
         (now (workspace .entry)) (now (workspace .exit)) (now (rank .entry)) (now (rank .exit)) ⌝ }
@@ -70,10 +70,10 @@ pub extern "C" fn piskorlu_and(
     residual: &mut [f64],
 ) -> u32
     ensures { λ r. ⌜
-        def.Left
-        (def.reply
-        (def.taken (now (a .entry)) (now (b .entry)) (now (counts .entry)) (now (residual .entry)))
-        (join.and (def.read (now (a .entry)) «a_residual») (def.read (now (b .entry)) «b_residual»)))
+        report.Left
+        (report.reply
+        (report.taken (now (a .entry)) (now (b .entry)) (now (counts .entry)) (now (residual .entry)))
+        (joins.and (report.read (now (a .entry)) «a_residual») (report.read (now (b .entry)) «b_residual»)))
         r (now (counts .entry)) (now (counts .exit)) (now (residual .entry)) (now (residual .exit)) ⌝ }
 {
     if reports::taken(a, b, counts, residual) {
@@ -95,10 +95,10 @@ pub extern "C" fn piskorlu_continued(
     residual: &mut [f64],
 ) -> u32
     ensures { λ r. ⌜
-        def.Left
-        (def.reply
-        (def.taken (now (a .entry)) (now (b .entry)) (now (counts .entry)) (now (residual .entry)))
-        (join.continued (def.read (now (a .entry)) «a_residual») (def.read (now (b .entry)) «b_residual»)))
+        report.Left
+        (report.reply
+        (report.taken (now (a .entry)) (now (b .entry)) (now (counts .entry)) (now (residual .entry)))
+        (joins.continued (report.read (now (a .entry)) «a_residual») (report.read (now (b .entry)) «b_residual»)))
         r (now (counts .entry)) (now (counts .exit)) (now (residual .entry)) (now (residual .exit)) ⌝ }
 {
     if reports::taken(a, b, counts, residual) {

@@ -2,8 +2,8 @@
 ghost use mathlib.Core.Path.{_≡_};
 ghost use Prim.Native.Nat.{_≤_};
 ghost use lib.ListN.{length, set};
-ghost use Rattle.report.specs.Joins as join;
-ghost use Rattle.capi.specs.Reports as def;
+ghost use Rattle.report.specs.Joins as joins;
+ghost use Rattle.capi.specs.Reports as report;
 use flags::flag;
 use flags::flagged;
 use report::Joined;
@@ -11,7 +11,7 @@ use report::SolveReport;
 
 pub fn read(counts: &[u32], residual: f64) -> SolveReport
     requires { ⌜ 10 ≤ length (now counts) ⌝ }
-    ensures { λ r. ⌜ r ≡ def.read (now (counts .entry)) residual ⌝ }
+    ensures { λ r. ⌜ r ≡ report.read (now (counts .entry)) residual ⌝ }
 {
     SolveReport {
         increments: counts[0],
@@ -30,7 +30,7 @@ pub fn read(counts: &[u32], residual: f64) -> SolveReport
 
 pub fn write(r: SolveReport, counts: &mut [u32])
     requires { ⌜ 10 ≤ length (now counts) ⌝ }
-    ensures { λ _. ⌜ now (counts .exit) ≡ def.written r (now (counts .entry)) ⌝ }
+    ensures { λ _. ⌜ now (counts .exit) ≡ report.written r (now (counts .entry)) ⌝ }
 {
     counts[0] = r.increments;
     counts[1] = r.iterations;
@@ -47,7 +47,7 @@ pub fn write(r: SolveReport, counts: &mut [u32])
 // What a join came to, left in the lent slices: 0, or the number of a refusal and nothing written.
 pub fn leave(joined: Joined, counts: &mut [u32], residual: &mut [f64]) -> u32
     requires { ⌜ (10 ≤ length (now counts)) × (1 ≤ length (now residual)) ⌝ }
-    ensures { λ r. ⌜ def.Left (join.answer joined) r (now (counts .entry)) (now (counts .exit))
+    ensures { λ r. ⌜ report.Left (joins.answer joined) r (now (counts .entry)) (now (counts .exit))
         (now (residual .entry)) (now (residual .exit)) ⌝ }
 {
     match joined {
@@ -62,7 +62,7 @@ pub fn leave(joined: Joined, counts: &mut [u32], residual: &mut [f64]) -> u32
 
 // Whether the slices hold ten counts each, and one residual.
 pub fn taken(a: &[u32], b: &[u32], counts: &[u32], residual: &[f64]) -> bool
-    ensures { λ r. ⌜ r ≡ def.taken (now (a .entry)) (now (b .entry)) (now (counts .entry)) (now (residual .entry)) ⌝ }
+    ensures { λ r. ⌜ r ≡ report.taken (now (a .entry)) (now (b .entry)) (now (counts .entry)) (now (residual .entry)) ⌝ }
 {
     if a.len() < 10 {
         return false;

@@ -2,14 +2,14 @@
 ghost use mathlib.Core.Path.{_≡_};
 ghost use Prim.Native.Nat.{_≤_};
 ghost use lib.ListN.{length, set};
-ghost use Rattle.capi.specs.Solves as def;
+ghost use Rattle.capi.specs.Solves as plain;
 use boxed::BoxAnswer;
 use boxed::BoxReport;
 use boxed::Cause;
 use flags::flag;
 
 fn cause_number(c: Cause) -> usize
-    ensures { λ r. ⌜ r ≡ def.causeNumber c ⌝ }
+    ensures { λ r. ⌜ r ≡ plain.causeNumber c ⌝ }
 {
     match c {
         Cause::Growth => 1,
@@ -20,7 +20,7 @@ fn cause_number(c: Cause) -> usize
 
 fn write(outcome: usize, r: BoxReport, listed: usize, counts: &mut [usize])
     requires { ⌜ 8 ≤ length (now counts) ⌝ }
-    ensures { λ _. ⌜ now (counts .exit) ≡ def.written outcome r listed (now (counts .entry)) ⌝ }
+    ensures { λ _. ⌜ now (counts .exit) ≡ plain.written outcome r listed (now (counts .entry)) ⌝ }
 {
     counts[0] = outcome;
     counts[1] = r.sweeps as usize;
@@ -35,8 +35,8 @@ fn write(outcome: usize, r: BoxReport, listed: usize, counts: &mut [usize])
 // An answer left in the lent slices: 0, or the number of a refusal and nothing written.
 pub fn leave(answer: BoxAnswer, counts: &mut [usize], residual: &mut [f64]) -> u32
     requires { ⌜ (8 ≤ length (now counts)) × (1 ≤ length (now residual)) ⌝ }
-    ensures { λ r. ⌜ (r ≡ def.number answer) × (now (counts .exit) ≡ def.countsLeft answer (now (counts .entry)))
-        × (now (residual .exit) ≡ def.residualLeft answer (now (residual .entry))) ⌝ }
+    ensures { λ r. ⌜ (r ≡ plain.number answer) × (now (counts .exit) ≡ plain.countsLeft answer (now (counts .entry)))
+        × (now (residual .exit) ≡ plain.residualLeft answer (now (residual .entry))) ⌝ }
 {
     match answer {
         BoxAnswer::Solved(r) => {
@@ -55,7 +55,7 @@ pub fn leave(answer: BoxAnswer, counts: &mut [usize], residual: &mut [f64]) -> u
 
 // Whether the slices hold eight counts and one residual.
 pub fn taken(counts: &[usize], residual: &[f64]) -> bool
-    ensures { λ r. ⌜ r ≡ def.taken (now (counts .entry)) (now (residual .entry)) ⌝ }
+    ensures { λ r. ⌜ r ≡ plain.taken (now (counts .entry)) (now (residual .entry)) ⌝ }
 {
     if counts.len() < 8 {
         return false;

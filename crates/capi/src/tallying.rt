@@ -2,19 +2,19 @@
 ghost use mathlib.Core.Path.{_≡_};
 ghost use Prim.Native.Nat.{_≤_};
 ghost use lib.ListN.{length};
-ghost use Rattle.floats.specs.Ops as float;
+ghost use Rattle.floats.specs.Ops as ops;
 ghost use Rattle.box_rows.specs.Rows as box;
 ghost use Rattle.boxed.specs.Solve as solve;
-ghost use Rattle.tallied.specs.Joining as lent;
+ghost use Rattle.tallied.specs.Joining as joining;
 ghost use Rattle.capi.specs.Reports as report;
-ghost use Rattle.capi.specs.Tallies as def;
+ghost use Rattle.capi.specs.Tallies as tallies;
 use crate::reports;
 use crate::solves;
 use report::SolveReport;
 
 // Whether the slices hold ten counts and a residual of the tally, eight counts and a residual of the answer.
 pub fn taken(tally: &[u32], tally_residual: &[f64], counts: &[usize], residual: &[f64]) -> bool
-    ensures { λ r. ⌜ r ≡ def.taken (now (tally .entry)) (now («tally_residual» .entry))
+    ensures { λ r. ⌜ r ≡ tallies.taken (now (tally .entry)) (now («tally_residual» .entry))
         (now (counts .entry)) (now (residual .entry)) ⌝ }
 {
     if tally.len() < 10 {
@@ -29,8 +29,8 @@ pub fn taken(tally: &[u32], tally_residual: &[f64], counts: &[usize], residual: 
 // The tally that a solve left, in the lent slices, unless a number refused it.
 pub fn keep(number: u32, t: SolveReport, tally: &mut [u32], tally_residual: &mut [f64]) -> u32
     requires { ⌜ (10 ≤ length (now tally)) × (1 ≤ length (now «tally_residual»)) ⌝ }
-    ensures { λ r. ⌜ (r ≡ number) × (now (tally .exit) ≡ def.countsKept number t (now (tally .entry)))
-        × (now («tally_residual» .exit) ≡ def.residualKept number t (now («tally_residual» .entry))) ⌝ }
+    ensures { λ r. ⌜ (r ≡ number) × (now (tally .exit) ≡ tallies.countsKept number t (now (tally .entry)))
+        × (now («tally_residual» .exit) ≡ tallies.residualKept number t (now («tally_residual» .entry))) ⌝ }
 {
     if number != 0 {
         return number;
@@ -61,11 +61,11 @@ pub extern "C" fn piskorlu_tallied(
     residual: &mut [f64],
 ) -> u32
     ensures { λ r. ⌜
-        def.Answered
-        (def.reply
-        (def.taken (now (tally .entry)) (now («tally_residual» .entry)) (now (counts .entry)) (now (residual .entry)))
-        (report.read (now (tally .entry)) (float.at (now («tally_residual» .entry)) 0))
-        (lent.call
+        tallies.Answered
+        (tallies.reply
+        (tallies.taken (now (tally .entry)) (now («tally_residual» .entry)) (now (counts .entry)) (now (residual .entry)))
+        (report.read (now (tally .entry)) (ops.at (now («tally_residual» .entry)) 0))
+        (joining.call
         (box.problem (now (w .entry)) (now («u_free» .entry)) (now (lo .entry)) (now (hi .entry)) (now (scale .entry)))
         (solve.watch (now (motion .entry)) tolerance)
         (now (nu .entry)) (now (states .entry)) (now (rows .entry)) (length (now (workspace .entry)))))

@@ -1,10 +1,10 @@
 // The solve of a triangle by plain numbers, and the tallied one.
 ghost use mathlib.Core.Path.{_≡_};
 ghost use lib.ListN.{length};
-ghost use Rattle.floats.specs.Ops as float;
+ghost use Rattle.floats.specs.Ops as ops;
 ghost use Rattle.boxed.specs.Solve as solve;
-ghost use Rattle.triangle.specs.Triangle as lower;
-ghost use Rattle.tallied.specs.Joining as lent;
+ghost use Rattle.triangle.specs.Triangle as triangle;
+ghost use Rattle.tallied.specs.Joining as joining;
 ghost use Rattle.capi.specs.Reports as report;
 ghost use Rattle.capi.specs.Solves as plain;
 ghost use Rattle.capi.specs.Tallies as tallies;
@@ -34,7 +34,7 @@ pub extern "C" fn piskorlu_solve_triangle(
     ensures { λ r. ⌜
         plain.Answered
         (def.reply (plain.taken (now (counts .entry)) (now (residual .entry))) (length (now (t .entry)))
-        (lower.problem (now (t .entry)) (now («u_free» .entry)) (now (lo .entry)) (now (hi .entry))
+        (triangle.problem (now (t .entry)) (now («u_free» .entry)) (now (lo .entry)) (now (hi .entry))
         (now (scale .entry)))
         (solve.watch (now (motion .entry)) tolerance)
         (now (nu .entry)) (now (states .entry)) (now (rows .entry)) (length (now (workspace .entry))))
@@ -85,9 +85,9 @@ pub extern "C" fn piskorlu_tallied_triangle(
         (tallies.reply
         (tallies.taken (now (tally .entry)) (now («tally_residual» .entry)) (now (counts .entry))
         (now (residual .entry)))
-        (report.read (now (tally .entry)) (float.at (now («tally_residual» .entry)) 0))
-        (lent.triangleCall (length (now (t .entry)))
-        (lower.problem (now (t .entry)) (now («u_free» .entry)) (now (lo .entry)) (now (hi .entry))
+        (report.read (now (tally .entry)) (ops.at (now («tally_residual» .entry)) 0))
+        (joining.triangleCall (length (now (t .entry)))
+        (triangle.problem (now (t .entry)) (now («u_free» .entry)) (now (lo .entry)) (now (hi .entry))
         (now (scale .entry)))
         (solve.watch (now (motion .entry)) tolerance)
         (now (nu .entry)) (now (states .entry)) (now (rows .entry)) (length (now (workspace .entry)))))

@@ -4,7 +4,7 @@ ghost use mathlib.Core.Path.{_≡_};
 ghost use Prim.Native.Nat.{_≤_};
 ghost use lib.ListN.{length, take};
 ghost use Rattle.loops.specs.Loops as loops;
-ghost use Rattle.accumulator.specs.Accumulators as exact;
+ghost use Rattle.accumulator.specs.Accumulators as acc;
 ghost use Rattle.accumulator.specs.Joins as joins;
 ghost use Rattle.capi_exact.specs.Exact as def;
 use accumulator::Accumulator;
@@ -95,7 +95,7 @@ pub extern "C" fn piskorlu_exact_free(u: f64, words: &mut [u64], counts: &mut [u
     ensures { λ r. ⌜
         def.Left
         (def.reply (def.taken (now (words .entry)) (now (counts .entry)))
-        (exact.addFree (def.state (now (words .entry)) (now (counts .entry))) u))
+        (acc.addFree (def.state (now (words .entry)) (now (counts .entry))) u))
         r (now (words .entry)) (now (words .exit)) (now (counts .entry)) (now (counts .exit)) ⌝ }
 {
     if taken(words, counts) {
@@ -116,7 +116,7 @@ pub extern "C" fn piskorlu_exact_product(
     ensures { λ r. ⌜
         def.Left
         (def.reply (def.taken (now (words .entry)) (now (counts .entry)))
-        (exact.addProduct (def.state (now (words .entry)) (now (counts .entry))) w nu))
+        (acc.addProduct (def.state (now (words .entry)) (now (counts .entry))) w nu))
         r (now (words .entry)) (now (words .exit)) (now (counts .entry)) (now (counts .exit)) ⌝ }
 {
     if taken(words, counts) {
@@ -138,7 +138,7 @@ pub extern "C" fn piskorlu_exact_row(
     ensures { λ r. ⌜
         def.Left
         (def.reply (def.taken (now (words .entry)) (now (counts .entry)))
-        (exact.row u (now (w .entry)) (now (nu .entry))))
+        (acc.row u (now (w .entry)) (now (nu .entry))))
         r (now (words .entry)) (now (words .exit)) (now (counts .entry)) (now (counts .exit)) ⌝ }
 {
     if taken(words, counts) {

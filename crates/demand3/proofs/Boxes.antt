@@ -18,7 +18,7 @@ use Rattle.floats.proofs.Box.{inBox, clamped}
 use Rattle.box_rows.specs.Rows.{Problem, size, state, acts, isIdle, rowSum, update}
 use Rattle.box_rows.specs.Private.{rowOf}
 use Rattle.boxed.specs.Sweep as sweep
-use Rattle.boxed.specs.Private as sweeps
+use Rattle.boxed.specs.Private.{startRow, started, sweepRow}
 use Rattle.demand3.specs.Claims.{oneSweep}
 
 -- ---- boxes
@@ -55,9 +55,9 @@ module _ (p : Problem) (nu : List Float) (i : ℕ) (b : i < size p) (v : Float) 
       go u j d false e = h u j d e
 
 pub sweep-boxed : (p : Problem) (st : List ℕ) (nu : List Float) → Boxed p nu → Boxed p (oneSweep p st nu)
-unfolding sweep.sweep sweeps.sweepRow update
+unfolding sweep.sweep sweepRow update
 sweep-boxed p st nu h =
-    turns-keep (sweeps.sweepRow (p .w) (p .uFree) (p .lo) (p .hi) st) nu (λ i. Boxed p) (size p) h λ i x b k. go i x b k (acts st i)
+    turns-keep (sweepRow (p .w) (p .uFree) (p .lo) (p .hi) st) nu (λ i. Boxed p) (size p) h λ i x b k. go i x b k (acts st i)
   where
     go : (i : ℕ) (x : List Float) → i < size p → Boxed p x → (a : Bool)
         → Boxed p (cond a (set x i (boxed p i (at x i ⊖ rowSum (rowOf p i) (at (p .uFree) i) x ⊘ at (rowOf p i) i))) x)
@@ -81,7 +81,7 @@ pub record StartedTo (p : Problem) (k : ℕ) (s : sweep.Start) : Type 0 where
 
 -- a first state stored at i, with a clamped multiplier
 module _ (p : Problem) (i : ℕ) (b : i < size p) (x : sweep.Start) (h : StartedTo p i x) where
-  started-one : (s : ℕ) (v : Float) (k : ℕ) → s ≡ firstState p i → StartedTo p (suc i) (sweeps.started (set (x .nu) i (boxed p i v)) (set (x .states) i s) k)
+  started-one : (s : ℕ) (v : Float) (k : ℕ) → s ≡ firstState p i → StartedTo p (suc i) (started (set (x .nu) i (boxed p i v)) (set (x .states) i s) k)
   started-one s v k e =
       let l = h .long in
       record {
@@ -94,23 +94,23 @@ module _ (p : Problem) (i : ℕ) (b : i < size p) (x : sweep.Start) (h : Started
       go j d true f = e ∙ sym (ap (firstState p) (eqb-true j i f))
       go j d false f = h .states j (lt-of-le-ne (le-of-suc-le-suc d) (eqb-false j i f))
 
-  started-row : StartedTo p (suc i) (sweeps.startRow (at (rowOf p i) i) (at (p .lo) i) (at (p .hi) i) i x)
-  unfolding sweeps.startRow
+  started-row : StartedTo p (suc i) (startRow (at (rowOf p i) i) (at (p .lo) i) (at (p .hi) i) i x)
+  unfolding startRow
   started-row = go (idleRow p i) refl
     where
       go : (a : Bool) → idleRow p i ≡ a
           → StartedTo p (suc i)
           (cond a
-          (sweeps.started (set (x .nu) i (boxed p i 0ᶠ)) (set (x .states) i 3) (suc (x .idle)))
-          (sweeps.started (set (x .nu) i (boxed p i (at (x .nu) i))) (set (x .states) i 0) (x .idle)))
+          (started (set (x .nu) i (boxed p i 0ᶠ)) (set (x .states) i 3) (suc (x .idle)))
+          (started (set (x .nu) i (boxed p i (at (x .nu) i))) (set (x .states) i 0) (x .idle)))
       go true e = started-one 3 0ᶠ (suc (x .idle)) (rw e)
       go false e = started-one 0 (at (x .nu) i) (x .idle) (rw e)
 
 pub start-started : (p : Problem) (nu : List Float) (st : List ℕ) → length nu ≡ size p → length st ≡ size p
     → StartedTo p (size p) (sweep.start (p .w) (size p) (p .lo) (p .hi) nu st (size p))
-unfolding sweep.start sweeps.startRow
+unfolding sweep.start startRow
 start-started p nu st l m =
-    turns-keep (λ i s. sweeps.startRow (at (rowOf p i) i) (at (p .lo) i) (at (p .hi) i) i s) (sweeps.started nu st 0) (StartedTo p) (size p)
+    turns-keep (λ i s. startRow (at (rowOf p i) i) (at (p .lo) i) (at (p .hi) i) i s) (started nu st 0) (StartedTo p) (size p)
     (record {
       boxed = record { long = l; boxes = λ u i d. absurd (not-suc-le-zero d) };
       long = m;

@@ -18,8 +18,8 @@ use Rattle.flags.specs.Flags.{flag, flagged}
 use Rattle.tally.specs.Tally.{Call, Tallied, tallied, answerOn, numberOn, with}
 use Rattle.tallied.specs.Joining.{Entered}
 use Rattle.capi.specs.Reports as report
-use Rattle.capi.specs.Solves as solve
-use Rattle.capi.specs.Tallies as tally
+use Rattle.capi.specs.Solves as plain
+use Rattle.capi.specs.Tallies as tallies
 use Rattle.demand3.specs.Called.{Told, toldOf, Workspace, Made}
 use Rattle.demand3.specs.CalledFromC.{Buffers, held, Long, Lent, Answer, MadeFromC, taken, solves, unless, Tells, AtOnce, OneTells, EachTells, ListOfSolves, FromC, DemandFromC}
 use Rattle.demand3.proofs.Called.{demand3-of-code}
@@ -54,16 +54,16 @@ written-length : (t : SolveReport) (l : List ℕ) → length (report.written t l
 unfolding report.written
 written-length t l = simp (length-set)
 
-counts-length : (k : ℕ) (t : SolveReport) (l : List ℕ) → length (tally.countsKept k t l) ≡ length l
-unfolding tally.countsKept
+counts-length : (k : ℕ) (t : SolveReport) (l : List ℕ) → length (tallies.countsKept k t l) ≡ length l
+unfolding tallies.countsKept
 counts-length k t l = go (eqb k 0)
   where
     go : (b : Bool) → length (cond b (report.written t l) l) ≡ length l
     go true = written-length t l
     go false = refl
 
-residual-length : (k : ℕ) (t : SolveReport) (l : List Float) → length (tally.residualKept k t l) ≡ length l
-unfolding tally.residualKept
+residual-length : (k : ℕ) (t : SolveReport) (l : List Float) → length (tallies.residualKept k t l) ≡ length l
+unfolding tallies.residualKept
 residual-length k t l = go (eqb k 0)
   where
     go : (b : Bool) → length (cond b (set l 0 (t .residual)) l) ≡ length l
@@ -73,7 +73,7 @@ residual-length k t l = go (eqb k 0)
 -- ---- what a tallied solve leaves is what the next one reads
 
 -- an answer that frees the workspace is not refused
-not-refused : (x : Outcome) → used x ≡ 2304 → solve.number (answerOf x) ≡ 0
+not-refused : (x : Outcome) → used x ≡ 2304 → plain.number (answerOf x) ≡ 0
 not-refused (refused k) h = absurd (omega (arith, h))
 not-refused (solved r) h = refl
 not-refused (infeasible c l r) h = refl
@@ -81,7 +81,7 @@ not-refused (infeasible c l r) h = refl
 module _ (t : Buffers) (long : Long t) (c : Call) where
   -- the buffers that a number k and a tally s leave
   abbrev next : ℕ → SolveReport → Buffers
-  next k s = record { counts = tally.countsKept k s (t .counts); residual = tally.residualKept k s (t .residual) }
+  next k s = record { counts = tallies.countsKept k s (t .counts); residual = tallies.residualKept k s (t .residual) }
 
   next-long : (k : ℕ) (s : SolveReport) → Long (next k s)
   next-long k s =
@@ -91,38 +91,38 @@ module _ (t : Buffers) (long : Long t) (c : Call) where
       }
 
   joined : (s : SolveReport) → held (next 0 s) ≡ s
-  unfolding tally.countsKept tally.residualKept
+  unfolding tallies.countsKept tallies.residualKept
   joined s = read-written s (t .counts) (at (set (t .residual) 0 (s .residual)) 0) (long .ten) (first-set (t .residual) (s .residual) (long .one))
 
   kept : (k : ℕ) (s : SolveReport) → held (next (suc k) s) ≡ held t
-  unfolding tally.countsKept tally.residualKept
+  unfolding tallies.countsKept tallies.residualKept
   kept k s = rw (ne-eqb (suc k) 0 (λ e. omega (arith, e)))
 
-  replies : (k : ℕ) → held (next (solve.number (answerOf (reply SWEEP_CAP (c .problem) (c .watch) (c .nu) (c .states) (c .listed) k .outcome)))
+  replies : (k : ℕ) → held (next (plain.number (answerOf (reply SWEEP_CAP (c .problem) (c .watch) (c .nu) (c .states) (c .listed) k .outcome)))
       (with (held t) (reply SWEEP_CAP (c .problem) (c .watch) (c .nu) (c .states) (c .listed) k) .tally)) ≡ with (held t) (reply SWEEP_CAP (c .problem) (c .watch) (c .nu) (c .states) (c .listed) k) .tally
   unfolding reply with
   replies zero = rw (not-refused _ (solve-uses SWEEP_CAP (c .problem) (c .watch) (c .nu) (take (size (c .problem)) (c .states)) (c .listed))) (joined _)
   replies (suc k) = kept k _
 
-  pub reads : held (next (solve.number (answerOf (tallied (held t) c .answer .outcome))) (tallied (held t) c .tally)) ≡ tallied (held t) c .tally
+  pub reads : held (next (plain.number (answerOf (tallied (held t) c .answer .outcome))) (tallied (held t) c .tally)) ≡ tallied (held t) c .tally
   unfolding tallied answerOn with
   reads = replies (numberOn (held t) c)
 
 -- ---- one call
 
 -- the tally's buffers being long, the lengths of the answer's decide
-taken-is : (t : Buffers) (c : Lent) → Long t → tally.taken (t .counts) (t .residual) (c .counts) (c .residual) ≡ taken c
-unfolding tally.taken
+taken-is : (t : Buffers) (c : Lent) → Long t → tallies.taken (t .counts) (t .residual) (c .counts) (c .residual) ≡ taken c
+unfolding tallies.taken
 taken-is t c long = rw (le-leb 10 (length (t .counts)) (long .ten), le-leb 1 (length (t .residual)) (long .one))
 
 abbrev Called : Bool → Buffers → Buffers → Lent → Answer → Type 0
 Called b t s c a =
-    tally.Answered (tally.reply b (held t) (c .call)) (a .number)
+    tallies.Answered (tallies.reply b (held t) (c .call)) (a .number)
     (t .counts) (s .counts) (t .residual) (s .residual) (a .nu) (a .states) (a .listed) (c .counts) (a .counts) (c .residual) (a .residual) (c .workspace) (a .workspace)
 
 -- a call that is refused at once leaves the tally as it was
 at-once : (t s : Buffers) (c : Lent) (a : Answer) → Called false t s c a → (s ≡ t) × AtOnce c a
-unfolding tally.reply tally.countsKept tally.residualKept
+unfolding tallies.reply tallies.countsKept tallies.residualKept
 at-once t s c a h =
     let x = h .answer-is in
     let n = x .number-is in
@@ -142,21 +142,21 @@ module _ (t s : Buffers) (c : Lent) (a : Answer) (long : Long t) (h : Called tru
   abbrev workspace : Workspace
   workspace = record { before = c .workspace; after = a .workspace }
 
-  left : s ≡ next t long (c .call) (solve.number (answerOf (x .answer .outcome))) (x .tally)
-  unfolding tally.reply
+  left : s ≡ next t long (c .call) (plain.number (answerOf (x .answer .outcome))) (x .tally)
+  unfolding tallies.reply
   left =
       let n = h .answer-is .number-is in
       ap (λ (l : List ℕ). record { counts = l; residual = s .residual }) (rw n at (h .tally-is))
-      ∙ ap (λ (l : List Float). record { counts = tally.countsKept (solve.number (answerOf (x .answer .outcome))) (x .tally) (t .counts); residual = l }) (rw n at (h .kept-is))
+      ∙ ap (λ (l : List Float). record { counts = tallies.countsKept (plain.number (answerOf (x .answer .outcome))) (x .tally) (t .counts); residual = l }) (rw n at (h .kept-is))
 
   tells : Tells c a told
-  unfolding tally.reply
+  unfolding tallies.reply
   tells =
       let y = h .answer-is in
       record { number = y .number-is; nu = y .nu-is; states = y .states-are; listed = y .rows-are; counts = y .counts-are; residual = y .residual-is }
 
   entered : Entered x (held s) (told .answer) (told .nu) (told .states) (told .listed) (c .workspace) (a .workspace)
-  unfolding tally.reply
+  unfolding tallies.reply
   entered =
       record {
         tally = ap held left ∙ reads t long (c .call);

@@ -17,7 +17,7 @@ use Rattle.exact_pass.specs.Ray.{ray}
 use Rattle.exact_pass.specs.Pass as pass
 use Rattle.exact_pass.specs.Pass.{Pass, exactPass}
 use Rattle.boxed.specs.Sweep as sweep
-use Rattle.boxed.specs.Private as sweeps
+use Rattle.boxed.specs.Private.{change}
 use Rattle.boxed.specs.Solve.{converged, Iterate, iterate, counts, Run, going, ended, unless, checkpoint, passed, checked, Watch, tested, turn, run, SWEEP_CAP}
 use Rattle.boxed.specs.declared.Cause.the-variants as cause
 use Rattle.boxed.specs.declared.Counts.{Counts}
@@ -50,11 +50,11 @@ checked-counts p s = go (checkpoint SWEEP_CAP (s .counts .sweeps))
     go false = ap (λ (k : ℕ). counts (s .counts .sweeps) k (s .counts .stopped)) (omega arith)
 
 tested-counts : (p : Problem) (m : Watch) (before : List Float) (x : Run) → countsOf (tested p m before x) ≡ countsOf x
-unfolding tested sweeps.change unless
+unfolding tested change unless
 tested-counts p m before (ended e s) = refl
 tested-counts p m before (going s) =
     go (le (sweep.moved (m .motion) (s .nu) before (length (m .motion) / length (s .nu))) (m .tolerance)) (le (sweep.residual p (s .states) (s .nu) (size p)) 1e-9)
-    (ray p (s .states) (sweeps.change (s .nu) before (size p)))
+    (ray p (s .states) (change (s .nu) before (size p)))
   where
     go : (a b : Bool) (l : List ℕ) → countsOf (cond a (cond b (ended converged s) (unless cause.Sweep s l)) (going s)) ≡ s .counts
     go true true l = refl

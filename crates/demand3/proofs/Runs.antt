@@ -16,7 +16,7 @@ use Rattle.exact_pass.specs.Ray.{ray}
 use Rattle.exact_pass.specs.Pass as pass
 use Rattle.exact_pass.specs.Pass.{trial, Pass, found, exactPass}
 use Rattle.boxed.specs.Sweep as sweep
-use Rattle.boxed.specs.Private as sweeps
+use Rattle.boxed.specs.Private.{change, isGrown}
 use Rattle.boxed.specs.Solve.{Ending, exact, converged, conflict, Iterate, iterate, counts, Run, going, ended, unless, checkpoint, passed, checked, Watch, tested, turn, run, SWEEP_CAP}
 use Rattle.boxed.specs.declared.Cause.the-variants as cause
 use Rattle.boxed.specs.declared.Counts.{Counts}
@@ -74,7 +74,7 @@ pub record Exact (p : Problem) (nu₀ : List Float) (s : Iterate) : Type 0 where
 pub record Grew (p : Problem) (nu₀ : List Float) (s : Iterate) (l : List ℕ) : Type 0 where
   pub standing : Stands p nu₀ (s .counts .sweeps - 1) s
   pub some : 0 < length l
-  pub these : Gathered (λ i. sweeps.isGrown (at (s .nu) i) (at (p .scale) i) ≡ true) (size p) l
+  pub these : Gathered (λ i. isGrown (at (s .nu) i) (at (p .scale) i) ≡ true) (size p) l
 
 pub record Unmet (p : Problem) (nu₀ : List Float) (s : Iterate) (l : List ℕ) : Type 0 where
   pub standing : Stands p nu₀ (s .counts .sweeps) s
@@ -97,7 +97,7 @@ module _ (p : Problem) (m : Watch) (nu₀ : List Float) (k : ℕ) (few : k < 200
   recount s c d e h = subst (λ (c : ℕ). Stands p nu₀ c s) e h
 
   grown-runs : (s : Iterate) (l : List ℕ) → s .counts .sweeps ≡ suc k → Stands p nu₀ k s
-      → Gathered (λ i. sweeps.isGrown (at (s .nu) i) (at (p .scale) i) ≡ true) (size p) l → Runs p nu₀ (suc k) k (unless cause.Growth s l)
+      → Gathered (λ i. isGrown (at (s .nu) i) (at (p .scale) i) ≡ true) (size p) l → Runs p nu₀ (suc k) k (unless cause.Growth s l)
   unfolding unless
   grown-runs s [] q h g = (q, h)
   grown-runs s (a ∷ l) q h g =
@@ -159,12 +159,12 @@ module _ (p : Problem) (m : Watch) (nu₀ : List Float) (k : ℕ) (few : k < 200
       (omega arith, omega arith, record { standing = recount s (suc k) (s .counts .sweeps) (sym q) h; rows = record { some = omega arith; these = g } })
 
   tested-runs : (before : List Float) (x : Run) → Runs p nu₀ (suc k) (suc k) x → Runs p nu₀ (suc k) (suc k) (tested p m before x)
-  unfolding tested sweeps.change
+  unfolding tested change
   tested-runs before (ended e s) h = h
   tested-runs before (going s) h = go (le (sweep.moved (m .motion) (s .nu) before (length (m .motion) / length (s .nu))) (m .tolerance)) (le (sweep.residual p (s .states) (s .nu) (size p)) 1e-9) refl
     where
       y : List Float
-      y = sweeps.change (s .nu) before (size p)
+      y = change (s .nu) before (size p)
 
       go : (a b : Bool) → le (sweep.residual p (s .states) (s .nu) (size p)) 1e-9 ≡ b
           → Runs p nu₀ (suc k) (suc k) (cond a (cond b (ended converged s) (unless cause.Sweep s (ray p (s .states) y))) (going s))

@@ -27,7 +27,7 @@ use Rattle.box_rows.specs.Rows.{Problem, size, state, acts, isIdle, rowSum, upd
 use Rattle.box_rows.specs.Private.{rowOf}
 use Rattle.exact_pass.specs.Private.{pushed}
 use Rattle.boxed.specs.Sweep as sweep
-use Rattle.boxed.specs.Private as sweeps
+use Rattle.boxed.specs.Private.{isGrown, residualRow}
 use Rattle.boxed.specs.Private.{left, nothing}
 use Rattle.boxed.specs.Solve.{Ending, exact, converged, conflict, Iterate, counts, Run, going, ended, Watch, run, Outcome, refused, solved, infeasible, Result, reportOf, unfound, result, solve, reply, SWEEP_CAP}
 use Rattle.boxed.proofs.Accepting.{Accepted, accepted}
@@ -49,8 +49,8 @@ use Rattle.demand3.proofs.Runs.{Stands, Exact, Runs, run-runs, started-
 -- ---- the residual is a value that an f64 holds
 
 residual-fits : (p : Problem) (st : List ℕ) (nu : List Float) → Fits (sweep.residual p st nu (size p))
-unfolding sweep.residual sweeps.residualRow residualAt naturalResidual
-residual-fits p st nu = turns-keep (sweeps.residualRow p st nu) 0ᶠ (λ i x. Fits x) (size p) (ofBits-fits binary64 0) λ i x b h. go i x h (acts st i)
+unfolding sweep.residual residualRow residualAt naturalResidual
+residual-fits p st nu = turns-keep (residualRow p st nu) 0ᶠ (λ i x. Fits x) (size p) (ofBits-fits binary64 0) λ i x b h. go i x h (acts st i)
   where
     go : (i : ℕ) (x : Float) → Fits x → (a : Bool) → Fits (cond a (larger x (residualAt p nu i)) x)
     go i x h true =
@@ -274,8 +274,8 @@ module _ (c : Call) (zeroth : number c ≡ 0) (fair : BoundsInOrder (c .problem)
         reasons = why;
       }
 
-  grew-reason : (nu : List Float) (i : ℕ) → sweeps.isGrown (at nu i) (at (p .scale) i) ≡ true → Reason p nu cause.Growth i
-  unfolding sweeps.isGrown
+  grew-reason : (nu : List Float) (i : ℕ) → isGrown (at nu i) (at (p .scale) i) ≡ true → Reason p nu cause.Growth i
+  unfolding isGrown
   grew-reason nu i h = sym (lt-abs (1e6 ⊗ at (p .scale) i) (at nu i)) ∙ h
 
   unlimited-reason : (nu : List Float) (st : List ℕ) (i : ℕ) → Stated p st → i < size p → ActsUnlimited p st i → Reason p nu cause.Pass i
@@ -319,7 +319,7 @@ module _ (c : Call) (zeroth : number c ≡ 0) (fair : BoundsInOrder (c .problem)
         plain-sound _ idle false true s refl (ended-in (conflict cause.Growth r) s o (h .0) n) (h .1) (g .boxed) (g .alone)
             (ended-below (s .counts .passes) (s .counts .sweeps) (h .0) (h .1) (g .passes)) (λ z. absurd (true≢false (sym z))) (g .stopped),
         listed-rows _ cause.Growth r refl (h .2 .some) (h .2 .these)
-            (λ k b. grew-reason (s .nu) (getD r k 0) (each-at (λ i. sweeps.isGrown (at (s .nu) i) (at (p .scale) i) ≡ true) r (h .2 .these .passing) k b)),
+            (λ k b. grew-reason (s .nu) (getD r k 0) (each-at (λ i. isGrown (at (s .nu) i) (at (p .scale) i) ≡ true) r (h .2 .these .passing) k b)),
       )
   result-claims idle (ended (conflict cause.Pass r) s) o n h =
       let g = h .2 .standing in

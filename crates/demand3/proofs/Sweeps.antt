@@ -17,7 +17,7 @@ use Rattle.floats.specs.Helpers.{clamp}
 use Rattle.box_rows.specs.Private.{rowOf}
 use Rattle.box_rows.specs.Rows.{Problem, size, acts, rowSum, update}
 use Rattle.boxed.specs.Sweep as sweep
-use Rattle.boxed.specs.Private as sweeps
+use Rattle.boxed.specs.Private.{startRow, started, stops, sweepRow}
 use Rattle.demand3.specs.Claims.{within, acting, NoneActs, clampedTo, unclamped, updatedAt, sweptTo, isStoppedAt, stoppedTo, sweepsAlone, stoppedByLast}
 use Rattle.demand3.proofs.Words.{sum-is, diagonal, above-acts, idle-not-above}
 use Rattle.demand3.proofs.Boxes.{idleRow}
@@ -45,20 +45,20 @@ module _ (p : Problem) where
   clamped-later nu (suc i) j h = getD-set-other (clampedTo p nu i) i j _ nan (λ e. omega arith) ∙ clamped-later nu i j (omega arith)
 
   start-row : (i : ℕ) → i < size p → (s : sweep.Start)
-      → sweeps.startRow (at (rowOf p i) i) (at (p .lo) i) (at (p .hi) i) i s .nu ≡ set (s .nu) i (within (cond (acting p i) (at (s .nu) i) 0ᶠ) (at (p .lo) i) (at (p .hi) i))
-  unfolding sweeps.startRow clamp
+      → startRow (at (rowOf p i) i) (at (p .lo) i) (at (p .hi) i) i s .nu ≡ set (s .nu) i (within (cond (acting p i) (at (s .nu) i) 0ᶠ) (at (p .lo) i) (at (p .hi) i))
+  unfolding startRow clamp
   start-row i h s = rw (idle-not-acting i h) (go (acting p i))
     where
       go : (b : Bool)
           → cond (not b)
-          (sweeps.started (set (s .nu) i (within 0ᶠ (at (p .lo) i) (at (p .hi) i))) (set (s .states) i 3) (suc (s .idle)))
-          (sweeps.started (set (s .nu) i (within (at (s .nu) i) (at (p .lo) i) (at (p .hi) i))) (set (s .states) i 0) (s .idle)) .nu
+          (started (set (s .nu) i (within 0ᶠ (at (p .lo) i) (at (p .hi) i))) (set (s .states) i 3) (suc (s .idle)))
+          (started (set (s .nu) i (within (at (s .nu) i) (at (p .lo) i) (at (p .hi) i))) (set (s .states) i 0) (s .idle)) .nu
           ≡ set (s .nu) i (within (cond b (at (s .nu) i) 0ᶠ) (at (p .lo) i) (at (p .hi) i))
       go true = refl
       go false = refl
 
   pub start-is : (nu : List Float) (st : List ℕ) (i : ℕ) → i ≤ size p → sweep.start (p .w) (size p) (p .lo) (p .hi) nu st i .nu ≡ clampedTo p nu i
-  unfolding sweep.start sweeps.startRow turns clampedTo
+  unfolding sweep.start startRow turns clampedTo
   start-is nu st zero h = refl
   start-is nu st (suc i) h =
       start-row i h (sweep.start (p .w) (size p) (p .lo) (p .hi) nu st i)
@@ -66,12 +66,12 @@ module _ (p : Problem) where
 
   -- ---- the rows that the start counts as Idle
 
-  idle-row : (i : ℕ) → i < size p → (s : sweep.Start) → sweeps.startRow (at (rowOf p i) i) (at (p .lo) i) (at (p .hi) i) i s .idle ≡ s .idle + cond (acting p i) 0 1
-  unfolding sweeps.startRow
+  idle-row : (i : ℕ) → i < size p → (s : sweep.Start) → startRow (at (rowOf p i) i) (at (p .lo) i) (at (p .hi) i) i s .idle ≡ s .idle + cond (acting p i) 0 1
+  unfolding startRow
   idle-row i h s = rw (idle-not-acting i h) (go (acting p i) (clamp 0ᶠ (at (p .lo) i) (at (p .hi) i)) (clamp (at (s .nu) i) (at (p .lo) i) (at (p .hi) i)))
     where
       go : (b : Bool) (x y : Float)
-          → cond (not b) (sweeps.started (set (s .nu) i x) (set (s .states) i 3) (suc (s .idle))) (sweeps.started (set (s .nu) i y) (set (s .states) i 0) (s .idle)) .idle
+          → cond (not b) (started (set (s .nu) i x) (set (s .states) i 3) (suc (s .idle))) (started (set (s .nu) i y) (set (s .states) i 0) (s .idle)) .idle
           ≡ s .idle + cond b 0 1
       go true x y = omega arith
       go false x y = omega arith
@@ -81,7 +81,7 @@ module _ (p : Problem) where
     idleTo i = sweep.start (p .w) (size p) (p .lo) (p .hi) nu st i .idle
 
     idle-next : (i : ℕ) → i < size p → idleTo (suc i) ≡ idleTo i + cond (acting p i) 0 1
-    unfolding sweep.start sweeps.startRow turns
+    unfolding sweep.start startRow turns
     idle-next i h = idle-row i h (sweep.start (p .w) (size p) (p .lo) (p .hi) nu st i)
 
     idle-few : (i : ℕ) → i ≤ size p → idleTo i ≤ i
@@ -131,21 +131,21 @@ module _ (p : Problem) where
         twice true = refl
         twice false = refl
 
-    row-is : (nu : List Float) → length nu ≡ size p → (i : ℕ) → i < size p → sweeps.sweepRow (p .w) (p .uFree) (p .lo) (p .hi) st i nu ≡ updatedAt p i nu
-    unfolding sweeps.sweepRow updatedAt update clamp
+    row-is : (nu : List Float) → length nu ≡ size p → (i : ℕ) → i < size p → sweepRow (p .w) (p .uFree) (p .lo) (p .hi) st i nu ≡ updatedAt p i nu
+    unfolding sweepRow updatedAt update clamp
     row-is nu l i h = rw (acts-is i h, unclamped-is nu l i h)
 
     pub swept-is : (nu : List Float) → length nu ≡ size p → (i : ℕ) → i ≤ size p → sweep.sweep (p .w) (p .uFree) (p .lo) (p .hi) st nu i ≡ sweptTo p nu i
-    unfolding sweep.sweep sweeps.sweepRow turns sweptTo
+    unfolding sweep.sweep sweepRow turns sweptTo
     swept-is nu l zero h = refl
     swept-is nu l (suc i) h =
-        ap (sweeps.sweepRow (p .w) (p .uFree) (p .lo) (p .hi) st i) (swept-is nu l i (omega arith))
+        ap (sweepRow (p .w) (p .uFree) (p .lo) (p .hi) st i) (swept-is nu l i (omega arith))
         ∙ row-is (sweptTo p nu i) (swept-long nu l i) i h
 
     -- ---- the rows that it stops
 
-    stops-is : (nu : List Float) → length nu ≡ size p → (i : ℕ) → i < size p → sweeps.stops (p .w) (p .uFree) (p .lo) (p .hi) st i nu ≡ isStoppedAt p nu i
-    unfolding sweeps.stops
+    stops-is : (nu : List Float) → length nu ≡ size p → (i : ℕ) → i < size p → stops (p .w) (p .uFree) (p .lo) (p .hi) st i nu ≡ isStoppedAt p nu i
+    unfolding stops
     stops-is nu l i h = rw (acts-is i h, unclamped-is nu l i h)
 
     counted-is : (b : Bool) (k : ℕ) → cond b (suc k) k ≡ k + cond b 1 0
@@ -153,7 +153,7 @@ module _ (p : Problem) where
     counted-is false k = omega arith
 
     pub stopped-is : (nu : List Float) → length nu ≡ size p → (i : ℕ) → i ≤ size p → sweep.stopped (p .w) (p .uFree) (p .lo) (p .hi) st nu i ≡ stoppedTo p nu i
-    unfolding sweep.stopped sweeps.stops turns stoppedTo
+    unfolding sweep.stopped stops turns stoppedTo
     stopped-is nu l zero h = refl
     stopped-is nu l (suc i) h =
         rw (swept-is nu l i (omega arith), stops-is (sweptTo p nu i) (swept-long nu l i) i h, stopped-is nu l i (omega arith))

@@ -20,7 +20,7 @@ use Rattle.box_rows.specs.Private.{rowOf}
 use Rattle.exact_pass.specs.Ray.{ray}
 use Rattle.exact_pass.specs.Pass as pass
 use Rattle.exact_pass.specs.Pass.{Trial, trial, Pass, moved, found, failed, infeasible, placed, freeRows, exactPass}
-use Rattle.exact_pass.specs.Private as passes
+use Rattle.exact_pass.specs.Private.{freeStep, nearer, ratioRow, releaseRow, startRow, started, takeStep, unbounded, worstRow}
 use Rattle.exact_pass.specs.Private.{pushed, worse}
 use Rattle.exact_pass.specs.declared.Blocking.{Blocking}
 use Rattle.exact_pass.specs.declared.Worst.{Worst}
@@ -133,8 +133,8 @@ module _ (p : Problem) (base : List Float) (i : ℕ) (b : i < size p) where
       lower : (j v : ℕ) → (v ≡ 3 → ⊥) → j < suc i → state (t .states) j ≡ v → j < i
       lower j v n d e = lt-of-le-ne (le-of-suc-le-suc d) (λ q. n (sym e ∙ ap (state (t .states)) q ∙ idle))
 
-  start-row : (s : pass.Start) → TriesTo p base i (s .trial) → TriesTo p base (suc i) (passes.startRow (p .lo) (p .hi) (p .scale) i s .trial)
-  unfolding passes.startRow
+  start-row : (s : pass.Start) → TriesTo p base i (s .trial) → TriesTo p base (suc i) (startRow (p .lo) (p .hi) (p .scale) i s .trial)
+  unfolding startRow
   start-row s h = go (acts (s .trial .states) i) refl
     where
       v : Float
@@ -146,7 +146,7 @@ module _ (p : Problem) (base : List Float) (i : ℕ) (b : i < size p) where
       go : (a : Bool) → acts (s .trial .states) i ≡ a
           → TriesTo p base (suc i)
           (cond a
-          (passes.started (set (s .trial .nu) i (placed (at (p .lo) i) (at (p .hi) i) (stateOf (at (p .lo) i) (at (p .hi) i) (at (p .scale) i) (at (s .trial .nu) i)) (at (s .trial .nu) i)))
+          (started (set (s .trial .nu) i (placed (at (p .lo) i) (at (p .hi) i) (stateOf (at (p .lo) i) (at (p .hi) i) (at (p .scale) i) (at (s .trial .nu) i)) (at (s .trial .nu) i)))
           (set (s .trial .states) i (stateOf (at (p .lo) i) (at (p .hi) i) (at (p .scale) i) (at (s .trial .nu) i))) (suc (s .acting))) s .trial)
       go true e =
           set-tries p base i classified (placed (at (p .lo) i) (at (p .hi) i) classified v) b (acts-not-idle p (s .trial .states) i (h .stated) b e)
@@ -155,9 +155,9 @@ module _ (p : Problem) (base : List Float) (i : ℕ) (b : i < size p) where
       go false e = skip-tries (s .trial) (eqb-true (state (s .trial .states) i) 3 (not-false (eqb (state (s .trial .states) i) 3) e)) h
 
 start-tries : (p : Problem) (st : List ℕ) (nu : List Float) → Stated p st → length nu ≡ size p → Tries p nu (firstTried p st nu)
-unfolding pass.start passes.startRow
+unfolding pass.start startRow
 start-tries p st nu m l =
-    turns-keep (passes.startRow (p .lo) (p .hi) (p .scale)) (passes.started nu st 0) (λ k s. TriesTo p nu k (s .trial)) (size p)
+    turns-keep (startRow (p .lo) (p .hi) (p .scale)) (started nu st 0) (λ k s. TriesTo p nu k (s .trial)) (size p)
     (record { stated = m; long = l; low = λ i d e. absurd (not-suc-le-zero d); high = λ i d e. absurd (not-suc-le-zero d); rest = λ i d e. refl })
     λ i s b h. start-row p nu i b s h
 
@@ -182,28 +182,28 @@ data Blocks (p : Problem) (st : List ℕ) (r : Blocking) : Type 0 where
   there : (r .state ≡ 0 → ⊥) → r .state ≤ 2 → r .row < size p → state st (r .row) ≡ 0 → Blocks p st r
 
 module _ (p : Problem) (st : List ℕ) where
-  nearer-blocks : (a s : ℕ) (ratio : Float) (r : Blocking) → (s ≡ 0 → ⊥) → s ≤ 2 → a < size p → state st a ≡ 0 → Blocks p st r → Blocks p st (passes.nearer a s ratio r)
-  unfolding passes.nearer
+  nearer-blocks : (a s : ℕ) (ratio : Float) (r : Blocking) → (s ≡ 0 → ⊥) → s ≤ 2 → a < size p → state st a ≡ 0 → Blocks p st r → Blocks p st (nearer a s ratio r)
+  unfolding nearer
   nearer-blocks a s ratio r n few b e h = go (lt ratio (r .alpha))
     where
       go : (c : Bool) → Blocks p st (cond c (record { alpha = larger ratio 0ᶠ; row = a; state = s }) r)
       go true = there n few b e
       go false = h
 
-  row-blocks : (a : ℕ) (v y lo hi : Float) (r : Blocking) → a < size p → state st a ≡ 0 → Blocks p st r → Blocks p st (passes.ratioRow a v y lo hi r)
-  unfolding passes.ratioRow
+  row-blocks : (a : ℕ) (v y lo hi : Float) (r : Blocking) → a < size p → state st a ≡ 0 → Blocks p st r → Blocks p st (ratioRow a v y lo hi r)
+  unfolding ratioRow
   row-blocks a v y lo hi r b e h = go (lt 0ᶠ y) (lt y 0ᶠ)
     where
-      go : (c d : Bool) → Blocks p st (cond c (passes.nearer a 2 ((hi ⊖ v) ⊘ y) r) (cond d (passes.nearer a 1 ((lo ⊖ v) ⊘ y) r) r))
+      go : (c d : Bool) → Blocks p st (cond c (nearer a 2 ((hi ⊖ v) ⊘ y) r) (cond d (nearer a 1 ((lo ⊖ v) ⊘ y) r) r))
       go true d = nearer-blocks a 2 ((hi ⊖ v) ⊘ y) r (λ z. omega arith) (omega arith) b e h
       go false true = nearer-blocks a 1 ((lo ⊖ v) ⊘ y) r (λ z. omega arith) (omega arith) b e h
       go false false = h
 
   test-blocks : (nu y : List Float) (alpha : Float) → Blocks p st (pass.ratioTest (p .lo) (p .hi) (freeRows st (size p)) nu y alpha (length (freeRows st (size p))))
-  unfolding pass.ratioTest passes.ratioRow passes.nearer
+  unfolding pass.ratioTest ratioRow nearer
   test-blocks nu y alpha =
       let l = freeRows st (size p) in
-      turns-keep (λ i r. passes.ratioRow (getD l i 0) (at nu (getD l i 0)) (at y i) (at (p .lo) (getD l i 0)) (at (p .hi) (getD l i 0)) r)
+      turns-keep (λ i r. ratioRow (getD l i 0) (at nu (getD l i 0)) (at y i) (at (p .lo) (getD l i 0)) (at (p .hi) (getD l i 0)) r)
       (record { alpha = alpha; row = 0; state = 0 }) (λ i. Blocks p st) (length l) (nowhere refl)
       λ i r c h. row-blocks (getD l i 0) (at nu (getD l i 0)) (at y i) (at (p .lo) (getD l i 0)) (at (p .hi) (getD l i 0)) r (free-below st (size p) i c) (free-is st (size p) i c) h
 
@@ -227,8 +227,8 @@ below-more {P} k h q i b = go (eqb i k) refl
     go false e = h i (lt-of-le-ne (le-of-suc-le-suc b) (eqb-false i k e))
 
 module _ (p : Problem) (st : List ℕ) (nu : List Float) where
-  row-released : (i : ℕ) (b : Worst) → i < size p → Released p st nu i b → Released p st nu (suc i) (passes.releaseRow p st nu i b)
-  unfolding passes.releaseRow worse
+  row-released : (i : ℕ) (b : Worst) → i < size p → Released p st nu i b → Released p st nu (suc i) (releaseRow p st nu i b)
+  unfolding releaseRow worse
   row-released i b c (nothing e w h) = go (pushedAt p st nu i) refl (lt (b .residual) (residualAt p nu i)) refl
     where
       go : (x : Bool) → pushedAt p st nu i ≡ x → (z : Bool) → lt (b .residual) (residualAt p nu i) ≡ z
@@ -243,9 +243,9 @@ module _ (p : Problem) (st : List ℕ) (nu : List Float) where
       go true f false = this l w
       go false f z = this l w
 
-  worst-released : Released p st nu (size p) (passes.worstRow p st nu (size p))
+  worst-released : Released p st nu (size p) (worstRow p st nu (size p))
   worst-released =
-      turns-keep (passes.releaseRow p st nu) (record { residual = 1e-9; row = size p }) (Released p st nu) (size p) (nothing refl refl λ i b. absurd (not-suc-le-zero b))
+      turns-keep (releaseRow p st nu) (record { residual = 1e-9; row = size p }) (Released p st nu) (size p) (nothing refl refl λ i b. absurd (not-suc-le-zero b))
       λ i x c k. row-released i x c k
 
 pushed-acts : (s : ℕ) (u : Float) → pushed s u ≡ true → eqb s 3 ≡ false
@@ -281,8 +281,8 @@ record Wrote (p : Problem) (first : Trial) (nu : List Float) (st : List ℕ) : T
 module _ (p : Problem) (base : List Float) (first : Trial) where
   release-passing : (t : Trial) → Tries p base t → (w : Wrote p first (t .nu) (t .states)) → pass.steps p first (suc (w .before)) ≡ pass.release p t
       → Passing p base first (pass.release p t)
-  unfolding pass.release passes.releaseRow pushed worse
-  release-passing t h w came = go (passes.worstRow p (t .states) (t .nu) (size p)) (worst-released p (t .states) (t .nu)) came
+  unfolding pass.release releaseRow pushed worse
+  release-passing t h w came = go (worstRow p (t .states) (t .nu) (size p)) (worst-released p (t .states) (t .nu)) came
     where
       go : (b : Worst) → Released p (t .states) (t .nu) (size p) b
           → pass.steps p first (suc (w .before)) ≡ cond (eqb (b .row) (size p)) (found t) (moved (trial (t .nu) (set (t .states) (b .row) 0)))
@@ -335,10 +335,10 @@ module _ (p : Problem) (base : List Float) (first : Trial) where
     abbrev stepped : Blocking → Pass
     stepped r =
         let u = trial (pass.advance (freeIn p t) (directionOf p t) (r .alpha) (t .nu) (length (freeIn p t))) (t .states) in
-        cond (isFinite (r .alpha)) (cond (eqb (r .state) 0) (pass.release p u) (moved (pass.hold (p .lo) (p .hi) u r))) (passes.unbounded p t (freeIn p t) (directionOf p t))
+        cond (isFinite (r .alpha)) (cond (eqb (r .state) 0) (pass.release p u) (moved (pass.hold (p .lo) (p .hi) u r))) (unbounded p t (freeIn p t) (directionOf p t))
 
     stepped-passing : (r : Blocking) → r .alpha ≡ stepLength p t → Blocks p (t .states) r → next ≡ stepped r → Passing p base first (stepped r)
-    unfolding passes.unbounded wrote
+    unfolding unbounded wrote
     stepped-passing r e s came = pick (isFinite (r .alpha)) came
       where
         u : Trial
@@ -352,17 +352,17 @@ module _ (p : Problem) (base : List Float) (first : Trial) where
         pick true c = blocked-passing u r (advanced-tries p base t (directionOf p t) (r .alpha) h) (wrote (r .alpha) e) s c
         pick false c = unmet-passing t (ray p (t .states) y) h (ray-gathered p (t .states) y)
 
-    free-step-passing : next ≡ passes.freeStep p t (freeIn p t) → Passing p base first (passes.freeStep p t (freeIn p t))
-    unfolding passes.freeStep passes.takeStep directionOf stepLength
+    free-step-passing : next ≡ freeStep p t (freeIn p t) → Passing p base first (freeStep p t (freeIn p t))
+    unfolding freeStep takeStep directionOf stepLength
     free-step-passing came =
         stepped-passing (pass.ratioTest (p .lo) (p .hi) (freeIn p t) (t .nu) (directionOf p t) (pass.longest (targetOf p t .inconsistent)) (length (freeIn p t))) refl
         (test-blocks p (t .states) (t .nu) (directionOf p t) (pass.longest (targetOf p t .inconsistent))) came
 
     free-passing : (l : List ℕ) → l ≡ freeIn p t → next ≡ pass.stepOf p t l → Passing p base first (pass.stepOf p t l)
-    unfolding pass.stepOf passes.freeStep passes.takeStep passes.unbounded
+    unfolding pass.stepOf freeStep takeStep unbounded
     free-passing [] e came =
         release-passing t h (record { before = k; from = t .nu; tried = tried; written = λ i b z. absurd (none-free (t .states) (size p) i (sym e) b z) }) came
-    free-passing (a ∷ l) e came = subst (λ (l : List ℕ). next ≡ passes.freeStep p t l → Passing p base first (passes.freeStep p t l)) (sym e) free-step-passing came
+    free-passing (a ∷ l) e came = subst (λ (l : List ℕ). next ≡ freeStep p t l → Passing p base first (freeStep p t l)) (sym e) free-step-passing came
 
   step-passing : (k : ℕ) (x : Pass) → pass.steps p first k ≡ x → pass.steps p first (suc k) ≡ pass.step p k x → Passing p base first x → Passing p base first (pass.step p k x)
   unfolding pass.step

@@ -11,8 +11,8 @@ use Rattle.report.specs.Joins.{NOTHING}
 use Rattle.report.specs.declared.SolveReport.{SolveReport}
 use Rattle.tally.specs.Tally.{Call, number, all}
 use Rattle.capi.specs.Reports as report
-use Rattle.capi.specs.Solves as solve
-use Rattle.capi.specs.Tallies as tally
+use Rattle.capi.specs.Solves as plain
+use Rattle.capi.specs.Tallies as tallies
 use Rattle.demand3.specs.Claims.{BoundsInOrder}
 use Rattle.demand3.specs.Demand.{Every, Demanded}
 use Rattle.demand3.specs.Called.{Told, toldOf, Workspace, Made}
@@ -55,7 +55,7 @@ MadeFromC t [] (a ∷ r) u = ⊥
 MadeFromC t (c ∷ l) [] u = ⊥
 MadeFromC t (c ∷ l) (a ∷ r) u =
     (s : Buffers) ×
-    tally.Answered (tally.reply (tally.taken (t .counts) (t .residual) (c .counts) (c .residual)) (held t) (c .call)) (a .number)
+    tallies.Answered (tallies.reply (tallies.taken (t .counts) (t .residual) (c .counts) (c .residual)) (held t) (c .call)) (a .number)
     (t .counts) (s .counts) (t .residual) (s .residual) (a .nu) (a .states) (a .listed) (c .counts) (a .counts) (c .residual) (a .residual) (c .workspace) (a .workspace) ×
     MadeFromC s l r u
 
@@ -63,7 +63,7 @@ MadeFromC t (c ∷ l) (a ∷ r) u =
 
 -- whether there is room for the answer; where there is not, the call gets 10 at once and is no solve
 abbrev pub taken : Lent → Bool
-taken c = solve.taken (c .counts) (c .residual)
+taken c = plain.taken (c .counts) (c .residual)
 
 abbrev pub unless : Bool → Call → List Call → List Call
 unless true c l = c ∷ l
@@ -75,12 +75,12 @@ solves (c ∷ l) = unless (taken c) (c .call) (solves l)
 
 -- the call answers what the tallied solve told
 pub record Tells (c : Lent) (a : Answer) (d : Told) : Type 0 where
-  pub number : a .number ≡ solve.number (d .answer)
+  pub number : a .number ≡ plain.number (d .answer)
   pub nu : a .nu ≡ d .nu
   pub states : a .states ≡ d .states
   pub listed : a .listed ≡ d .listed
-  pub counts : a .counts ≡ solve.countsLeft (d .answer) (c .counts)
-  pub residual : a .residual ≡ solve.residualLeft (d .answer) (c .residual)
+  pub counts : a .counts ≡ plain.countsLeft (d .answer) (c .counts)
+  pub residual : a .residual ≡ plain.residualLeft (d .answer) (c .residual)
 
 -- the call is refused at once and changes nothing
 pub record AtOnce (c : Lent) (a : Answer) : Type 0 where

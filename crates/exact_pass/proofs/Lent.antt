@@ -5,7 +5,7 @@ use Rattle.loops.proofs.Common.{ℕ, _+_, _*_, _≤_, _≡_, ap, _∙_, List, a
 use native.Mathlib.Nat.{mul-le-mul}
 use lib.Seq.{length-take-le}
 use Rattle.exact_pass.specs.Private.{Below, part, Free, Fit, Listing, Listed, RatioLent, DirectionLent, SystemLent, TargetLent, Scratch, ScratchLent, Blocked, RayLent, StepLent, RunLent}
-use Rattle.exact_pass.specs.Pass as def
+use Rattle.exact_pass.specs.Pass as pass
 use Rattle.exact_pass.specs.declared.Blocking.{Blocking}
 use Rattle.exact_pass.proofs.Stepping.{ratio-blocks}
 
@@ -28,7 +28,7 @@ module _ {n : ℕ} {w lo hi scale : List Float} {st : List ℕ} {nu : List Float
   pub release-lent : {nu′ : List Float} → length nu′ ≡ length nu → Fit n w lo hi scale st nu′
   release-lent kept = record { sized = s .fit .sized; states = s .fit .states; values = kept ∙ s .fit .values }
 
-  pub hold-lent : {n′ : ℕ} {r : Blocking} (alpha : Float) → n′ ≡ length nu → r ≡ def.ratioTest lo hi l nu y alpha (length l) → Blocked n′ lo hi st r
+  pub hold-lent : {n′ : ℕ} {r : Blocking} (alpha : Float) → n′ ≡ length nu → r ≡ pass.ratioTest lo hi l nu y alpha (length l) → Blocked n′ lo hi st r
   hold-lent alpha kept e =
       let b = ratio-blocks lo hi l nu y alpha (s .some) (s .listed .below) in
       rw (kept, s .fit .values, e) (record { row = b .row; lower = s .fit .sized .2; upper = s .fit .sized .3; states = s .fit .states; byte = b .byte })

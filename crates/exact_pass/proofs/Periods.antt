@@ -4,26 +4,26 @@ use Rattle.loops.proofs.Common.{_≡_, refl, ap, _∙_, List, Float}
 use Rattle.loops.specs.Loops.{turns}
 use Rattle.loops.proofs.Rounds.{turns-more, rounds-left-out}
 use Rattle.box_rows.specs.Rows as box
-use Rattle.exact_pass.specs.Pass as def
+use Rattle.exact_pass.specs.Pass as pass
 use Rattle.exact_pass.specs.Pass.{Trial, Pass, moved, found, failed, infeasible}
 
 -- a step does not look at its number
-alike : (p : box.Problem) (i j : ℕ) (c : Pass) → def.step p i c ≡ def.step p j c
-unfolding def.step
+alike : (p : box.Problem) (i j : ℕ) (c : Pass) → pass.step p i c ≡ pass.step p j c
+unfolding pass.step
 alike p i j (moved t) = refl
 alike p i j (found t) = refl
 alike p i j (failed t) = refl
 alike p i j (infeasible l t) = refl
 
 -- so many steps, and then more
-pub steps-more : (p : box.Problem) (t u : Trial) (a b : ℕ) → def.steps p t a ≡ moved u → def.steps p t (a + b) ≡ def.steps p u b
-unfolding def.steps
-steps-more p t u a b h = turns-more (def.step p) (alike p) (moved t) a b ∙ ap (λ (c : Pass). turns b c (def.step p)) h
+pub steps-more : (p : box.Problem) (t u : Trial) (a b : ℕ) → pass.steps p t a ≡ moved u → pass.steps p t (a + b) ≡ pass.steps p u b
+unfolding pass.steps
+steps-more p t u a b h = turns-more (pass.step p) (alike p) (moved t) a b ∙ ap (λ (c : Pass). turns b c (pass.step p)) h
 
 -- t has come back to what is marked
-pub left-is : (m t : Trial) (since left : ℕ) → t ≡ m → (p : box.Problem) → def.steps p m since ≡ moved t → def.steps p t left ≡ def.steps p t (left % since)
-unfolding def.steps
-left-is m t since left e p h = rounds-left-out (def.step p) (alike p) (moved t) since (rw (← e) at h) left
+pub left-is : (m t : Trial) (since left : ℕ) → t ≡ m → (p : box.Problem) → pass.steps p m since ≡ moved t → pass.steps p t left ≡ pass.steps p t (left % since)
+unfolding pass.steps
+left-is m t since left e p h = rounds-left-out (pass.step p) (alike p) (moved t) since (rw (← e) at h) left
 
-pub same-trials : {nu nu′ : List Float} {st st′ : List ℕ} → nu ≡ nu′ → st ≡ st′ → def.trial nu st ≡ def.trial nu′ st′
+pub same-trials : {nu nu′ : List Float} {st st′ : List ℕ} → nu ≡ nu′ → st ≡ st′ → pass.trial nu st ≡ pass.trial nu′ st′
 same-trials e f = rw (e, f)

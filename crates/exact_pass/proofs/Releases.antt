@@ -5,7 +5,7 @@ use lib.Dec.{eqb}
 use lib.Ieee.{lt}
 use Rattle.floats.specs.Ops.{at}
 use Rattle.box_rows.specs.Rows as box
-use Rattle.exact_pass.specs.Pass as def
+use Rattle.exact_pass.specs.Pass as pass
 use Rattle.exact_pass.specs.Private as private
 use Rattle.exact_pass.specs.Promise.{Passed}
 use Rattle.exact_pass.specs.declared.Worst.{Worst}
@@ -41,17 +41,17 @@ module _ (p : box.Problem) (st : List ℕ) (nu : List Float) where
   below = turns-keep (private.releaseRow p st nu) _ (λ i best. best .row ≤ box.size p) _ (omega arith) row-below
 
 -- the release, by the row that it frees
-release-is : (p : box.Problem) (nu : List Float) (st : List ℕ) → def.release p (def.trial nu st) ≡ cond (eqb (private.worstRow p st nu (box.size p) .row) (box.size p)) (def.found (def.trial nu st)) (def.moved (def.trial nu (set st (private.worstRow p st nu (box.size p) .row) 0)))
-unfolding def.release private.releaseRow private.pushed private.worse
+release-is : (p : box.Problem) (nu : List Float) (st : List ℕ) → pass.release p (pass.trial nu st) ≡ cond (eqb (private.worstRow p st nu (box.size p) .row) (box.size p)) (pass.found (pass.trial nu st)) (pass.moved (pass.trial nu (set st (private.worstRow p st nu (box.size p) .row) 0)))
+unfolding pass.release private.releaseRow private.pushed private.worse
 release-is p nu st = refl
 
 -- by the row i that is found, of n rows
 module _ (p : box.Problem) (nu : List Float) (st : List ℕ) {i n : ℕ} (e : i ≡ private.worstRow p st nu (box.size p) .row) (size : n ≡ box.size p) where
-  pub release-found : i ≡ n → (r : List ℕ) → Passed (def.release p (def.trial nu st)) r Found nu st r
+  pub release-found : i ≡ n → (r : List ℕ) → Passed (pass.release p (pass.trial nu st)) r Found nu st r
   release-found h r = rw (release-is p nu st, ← e, eq-eqb i (box.size p) (h ∙ size)) (record { answer = refl; tried = refl; listed = refl })
 
-  pub release-moved : (i ≡ n → ⊥) → {st′ : List ℕ} → st′ ≡ set st i 0 → (r : List ℕ) → Passed (def.release p (def.trial nu st)) r Moved nu st′ r
-  release-moved h f r = rw (release-is p nu st, ← e, ne-eqb i (box.size p) (λ g. h (g ∙ sym size))) (record { answer = refl; tried = ap (def.trial nu) f; listed = refl })
+  pub release-moved : (i ≡ n → ⊥) → {st′ : List ℕ} → st′ ≡ set st i 0 → (r : List ℕ) → Passed (pass.release p (pass.trial nu st)) r Moved nu st′ r
+  release-moved h f r = rw (release-is p nu st, ← e, ne-eqb i (box.size p) (λ g. h (g ∙ sym size))) (record { answer = refl; tried = ap (pass.trial nu) f; listed = refl })
 
   pub release-fits : (i ≡ n → ⊥) → {m : ℕ} → m ≡ box.size p → i < m
   release-fits h f = omega (arith, e, below p st nu)

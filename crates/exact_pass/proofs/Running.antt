@@ -5,7 +5,7 @@ use Rattle.loops.specs.Loops.{turns}
 use Rattle.loops.proofs.Turns.{stays}
 use Rattle.box_rows.specs.Rows as box
 use Rattle.box_rows.proofs.Matrix.{later}
-use Rattle.exact_pass.specs.Pass as def
+use Rattle.exact_pass.specs.Pass as pass
 use Rattle.exact_pass.specs.Pass.{Trial, trial, Pass, moved, found, failed, infeasible}
 use Rattle.exact_pass.specs.Promise.{Passed}
 use Rattle.exact_pass.specs.Private as private
@@ -25,26 +25,26 @@ going-on (failed t) q e nu st q′ h f = absurd (true≢false (sym (rw (h .answe
 going-on (infeasible l t) q e nu st q′ h f = absurd (true≢false (sym (rw (h .answer) at f)))
 
 -- a step that ends the pass ends it for good
-ended-stays : (p : box.Problem) (c : Pass) {q : List ℕ} {e : Exact} {nu : List Float} {st q′ : List ℕ} → Passed c q e nu st q′ → isMoved e ≡ false → ((i : ℕ) → def.step p i c ≡ c) × (def.closed c ≡ c)
-unfolding def.step def.closed
+ended-stays : (p : box.Problem) (c : Pass) {q : List ℕ} {e : Exact} {nu : List Float} {st q′ : List ℕ} → Passed c q e nu st q′ → isMoved e ≡ false → ((i : ℕ) → pass.step p i c ≡ c) × (pass.closed c ≡ c)
+unfolding pass.step pass.closed
 ended-stays p (moved t) h f = absurd (true≢false (rw (h .answer) at f))
 ended-stays p (found t) h f = (λ i. refl, refl)
 ended-stays p (failed t) h f = (λ i. refl, refl)
 ended-stays p (infeasible l t) h f = (λ i. refl, refl)
 
-steps-start : (p : box.Problem) (t : Trial) → def.steps p t 0 ≡ moved t
-unfolding def.steps turns
+steps-start : (p : box.Problem) (t : Trial) → pass.steps p t 0 ≡ moved t
+unfolding pass.steps turns
 steps-start p t = refl
 
 abbrev next : box.Problem → Trial → Pass
-next p t = def.stepOf p t (def.freeRows (t .states) (box.size p))
+next p t = pass.stepOf p t (pass.freeRows (t .states) (box.size p))
 
-steps-one : (p : box.Problem) (t : Trial) → def.steps p t 1 ≡ next p t
-unfolding def.steps def.step turns
+steps-one : (p : box.Problem) (t : Trial) → pass.steps p t 1 ≡ next p t
+unfolding pass.steps pass.step turns
 steps-one p t = refl
 
 -- multipliers and states marked anew
-pub marked-new : (p : box.Problem) (nu m : List Float) (st k : List ℕ) → m ≡ nu → k ≡ st → def.steps p (trial m k) 0 ≡ moved (trial nu st)
+pub marked-new : (p : box.Problem) (nu m : List Float) (st k : List ℕ) → m ≡ nu → k ≡ st → pass.steps p (trial m k) 0 ≡ moved (trial nu st)
 marked-new p nu m st k e f = rw (e, f) (steps-start p (trial nu st))
 
 -- ---- the loop of the steps: b is what it began with, n what it has now
@@ -73,8 +73,8 @@ pub record Going (p : box.Problem) (most : ℕ) (b n : Now) : Type 0 where
   pub lent : RunLent (box.size p) (p .w) (p .lo) (p .hi) (p .scale) (n .st) (n .nu) (n .q) (n .work)
   pub workspace : length (n .work) ≡ length (b .work)
   pub marks-long : length (n .marks) ≡ 32
-  pub steps : def.steps p (at b) most ≡ def.steps p (at n) (n .mark .left)
-  pub round : def.steps p (marked n) (n .mark .since) ≡ moved (at n)
+  pub steps : pass.steps p (at b) most ≡ pass.steps p (at n) (n .mark .left)
+  pub round : pass.steps p (marked n) (n .mark .since) ≡ moved (at n)
   pub listed : n .q ≡ b .q
   pub beyond : drop 1120 (n .work) ≡ drop 1120 (b .work)
 
@@ -98,9 +98,9 @@ module _ {p : box.Problem} {st₀ : List ℕ} {nu₀ : List Float} {q : List ℕ
       }
 
   -- what the pass leaves, by what its loop leaves
-  pub pass-ran : {acting : ℕ} {e : Exact} {nu′ : List Float} {st′ q′ : List ℕ} {work′ : List Float} → private.Started (def.start (p .lo) (p .hi) (p .scale) nu₀ st₀ (length nu₀)) (length nu₀) nu st acting → length nu ≡ length nu₀
-      → Copied nu 1088 work₀ work → Passed (def.closed (def.steps p (trial nu st) (8 * acting + 8))) q e nu′ st′ q′ × (drop 1120 work′ ≡ drop 1120 work) → private.Ran p st₀ nu₀ q work₀ e nu′ st′ q′ work′
-  unfolding def.exactPass
+  pub pass-ran : {acting : ℕ} {e : Exact} {nu′ : List Float} {st′ q′ : List ℕ} {work′ : List Float} → private.Started (pass.start (p .lo) (p .hi) (p .scale) nu₀ st₀ (length nu₀)) (length nu₀) nu st acting → length nu ≡ length nu₀
+      → Copied nu 1088 work₀ work → Passed (pass.closed (pass.steps p (trial nu st) (8 * acting + 8))) q e nu′ st′ q′ × (drop 1120 work′ ≡ drop 1120 work) → private.Ran p st₀ nu₀ q work₀ e nu′ st′ q′ work′
+  unfolding pass.exactPass
   pass-ran s kept copied a =
       record {
         passed = rw (← r .fit .values, ← s .start) (a .0);
@@ -115,11 +115,11 @@ module _ {p : box.Problem} {most : ℕ} {b n : Now} (g : Going p most b n) where
     beyond-step = later 1088 1120 work (n .work) (omega arith) (s .workspace) ∙ g .beyond
 
     -- the pass ends in this step
-    pub going-ended : isMoved e ≡ false → Passed (def.closed (def.steps p (at b) most)) (b .q) e nu st q × (drop 1120 work ≡ drop 1120 (b .work))
-    unfolding def.steps
+    pub going-ended : isMoved e ≡ false → Passed (pass.closed (pass.steps p (at b) most)) (b .q) e nu st q × (drop 1120 work ≡ drop 1120 (b .work))
+    unfolding pass.steps
     going-ended f =
         let o = ended-stays p (next p (at n)) (s .passed) f in
-        let x = g .steps ∙ stays (def.step p) (moved (at n)) (next p (at n)) 1 (steps-one p (at n)) (λ i h. o .0 i) (n .mark .left) more-left in
+        let x = g .steps ∙ stays (pass.step p) (moved (at n)) (next p (at n)) 1 (steps-one p (at n)) (λ i h. o .0 i) (n .mark .left) more-left in
         (rw (← g .listed, x, o .1) (s .passed), beyond-step)
 
     -- the pass goes on with fewer steps, and may be marked anew
@@ -127,11 +127,11 @@ module _ {p : box.Problem} {most : ℕ} {b n : Now} (g : Going p most b n) where
         → length work′ ≡ length work → length marks ≡ length (n .marks) → Going p most b (now st nu q work′ marks mark)
     going-again f h a kept-work kept-marks =
         let o = going-on (next p (at n)) (n .q) e nu st q (s .passed) f in
-        let one : def.steps p (at n) 1 ≡ moved (trial nu st) = steps-one p (at n) ∙ o .0 in
+        let one : pass.steps p (at n) 1 ≡ moved (trial nu st) = steps-one p (at n) ∙ o .0 in
         let less : 1 + (n .mark .left - 1) ≡ n .mark .left = omega arith in
-        let more : def.steps p (at n) (n .mark .left) ≡ def.steps p (trial nu st) (n .mark .left - 1) = ap (def.steps p (at n)) (sym less) ∙ steps-more p (at n) (trial nu st) 1 (n .mark .left - 1) one in
-        let since : def.steps p (marked n) (n .mark .since + 1) ≡ moved (trial nu st) = steps-more p (marked n) (at n) (n .mark .since) 1 (g .round) ∙ one in
-        let round : def.steps p (private.marked (length nu) work (n .marks)) (n .mark .since + 1) ≡ moved (trial nu st) = rw (h .1 .0, s .workspace) since in
+        let more : pass.steps p (at n) (n .mark .left) ≡ pass.steps p (trial nu st) (n .mark .left - 1) = ap (pass.steps p (at n)) (sym less) ∙ steps-more p (at n) (trial nu st) 1 (n .mark .left - 1) one in
+        let since : pass.steps p (marked n) (n .mark .since + 1) ≡ moved (trial nu st) = steps-more p (marked n) (at n) (n .mark .since) 1 (g .round) ∙ one in
+        let round : pass.steps p (private.marked (length nu) work (n .marks)) (n .mark .since + 1) ≡ moved (trial nu st) = rw (h .1 .0, s .workspace) since in
         record {
           bounded = g .bounded;
           since = omega (arith, a .since, a .left .fewer, g .since, more-left);
@@ -152,9 +152,9 @@ module _ {p : box.Problem} {most : ℕ} {b n : Now} (g : Going p most b n) where
       rw (kept-nu, f .values) (record { states = kept-st ∙ f .states; few = f .sized .0; workspace = rw kept-work (g .lent .workspace); long = rw (g .marks-long) (f .sized .0) })
 
   -- no step is left
-  pub going-over : n .mark .left ≤ 0 → Passed (def.closed (def.steps p (at b) most)) (b .q) Failed (n .nu) (n .st) (n .q) × (drop 1120 (n .work) ≡ drop 1120 (b .work))
-  unfolding def.closed
+  pub going-over : n .mark .left ≤ 0 → Passed (pass.closed (pass.steps p (at b) most)) (b .q) Failed (n .nu) (n .st) (n .q) × (drop 1120 (n .work) ≡ drop 1120 (b .work))
+  unfolding pass.closed
   going-over z =
       let e : n .mark .left ≡ 0 = omega arith in
-      let x : def.steps p (at b) most ≡ moved (at n) = g .steps ∙ ap (def.steps p (at n)) e ∙ steps-start p (at n) in
+      let x : pass.steps p (at b) most ≡ moved (at n) = g .steps ∙ ap (pass.steps p (at n)) e ∙ steps-start p (at n) in
       (rw x (record { answer = refl; tried = refl; listed = g .listed }), g .beyond)

@@ -15,10 +15,10 @@ use borrow.Rule.Slice.PartMut.{putMid}
 use Rattle.loops.proofs.Parts.{parts-start, parts-again, parts-done}
 use Rattle.loops.proofs.Fill.{tab-length, tab-at, tab-again}
 use Rattle.least_norm.specs.LeastNorm.{leastNorm}
-use Rattle.least_norm.specs.Promise as least
+use Rattle.least_norm.specs.Promise as promise
 use Rattle.box_rows.specs.Rows as box
 use Rattle.box_rows.proofs.Matrix.{later}
-use Rattle.exact_pass.specs.Pass as def
+use Rattle.exact_pass.specs.Pass as pass
 use Rattle.exact_pass.specs.Private as private
 use Rattle.exact_pass.specs.Private.{Copied, part, columnTaken}
 
@@ -32,27 +32,27 @@ module _ (w scale : List Float) (l : List ℕ) (m₀ : List Float) where
   unfolding row private.matrixRow
   rows-long i = tab-length (private.scaled (box.row w (length scale) (getD l i 0)) scale l) (length l)
 
-  pub matrix-start : m₀ ≡ def.matrix w scale l 0 ++ drop (0 * length l) m₀
-  unfolding def.matrix row private.matrixRow
+  pub matrix-start : m₀ ≡ pass.matrix w scale l 0 ++ drop (0 * length l) m₀
+  unfolding pass.matrix row private.matrixRow
   matrix-start = parts-start row (length l) rows-long m₀
 
-  pub matrix-again : (i : ℕ) (m r : List Float) → m ≡ def.matrix w scale l i ++ drop (i * length l) m₀ → r ≡ private.matrixRow (box.row w (length scale) (getD l i 0)) scale l (length l)
-      → putMid (i * length l) (i * length l + length l - i * length l) m r ≡ def.matrix w scale l (i + 1) ++ drop ((i + 1) * length l) m₀
-  unfolding def.matrix row private.matrixRow
+  pub matrix-again : (i : ℕ) (m r : List Float) → m ≡ pass.matrix w scale l i ++ drop (i * length l) m₀ → r ≡ private.matrixRow (box.row w (length scale) (getD l i 0)) scale l (length l)
+      → putMid (i * length l) (i * length l + length l - i * length l) m r ≡ pass.matrix w scale l (i + 1) ++ drop ((i + 1) * length l) m₀
+  unfolding pass.matrix row private.matrixRow
   matrix-again i m r e f = parts-again row (length l) rows-long m₀ i m r e f
 
-  pub matrix-done : (i : ℕ) (m : List Float) → length m₀ ≡ length l * length l → i ≤ length l → length l ≤ i → m ≡ def.matrix w scale l i ++ drop (i * length l) m₀ → m ≡ def.matrix w scale l (length l)
-  unfolding def.matrix row private.matrixRow
+  pub matrix-done : (i : ℕ) (m : List Float) → length m₀ ≡ length l * length l → i ≤ length l → length l ≤ i → m ≡ pass.matrix w scale l i ++ drop (i * length l) m₀ → m ≡ pass.matrix w scale l (length l)
+  unfolding pass.matrix row private.matrixRow
   matrix-done i m e f g h = parts-done row (length l) rows-long m₀ i m e f g h
 
 -- ---- what the solution leaves of a row, by that row, and two rows taken in one turn
 
-pub residual-is : (w scale : List Float) (l : List ℕ) (rhs z : List Float) (i : ℕ) {a : ℕ} {r : List Float} {b s : Float} → a ≡ getD l i 0 → r ≡ box.row w (length scale) a → b ≡ at rhs i → s ≡ private.residualRow r scale l z b (length l) → s ≡ def.residual w scale l rhs z i
-unfolding def.residual private.residualRow
+pub residual-is : (w scale : List Float) (l : List ℕ) (rhs z : List Float) (i : ℕ) {a : ℕ} {r : List Float} {b s : Float} → a ≡ getD l i 0 → r ≡ box.row w (length scale) a → b ≡ at rhs i → s ≡ private.residualRow r scale l z b (length l) → s ≡ pass.residual w scale l rhs z i
+unfolding pass.residual private.residualRow
 residual-is w scale l rhs z i e f g h = rw (h, g, f, e)
 
 pub two-tested : (w scale : List Float) (l : List ℕ) (rhs z : List Float) (i e : ℕ) (y : List Float) {y₁ y₂ : List Float} {a b : Float} {s t : Bool} → y₁ ≡ set y i (neg a) → y₂ ≡ set y₁ e (neg b) → s ≡ private.tooLarge w scale l i a → t ≡ private.tooLarge w scale l e b
-    → a ≡ def.residual w scale l rhs z i → b ≡ def.residual w scale l rhs z e → private.TwoTested w scale l rhs z i e y (s || t) y₂
+    → a ≡ pass.residual w scale l rhs z i → b ≡ pass.residual w scale l rhs z e → private.TwoTested w scale l rhs z i e y (s || t) y₂
 two-tested w scale l rhs z i e y p q s t g h = record { downhill = rw (q, p, g, h); inconsistent = rw (s, t, g, h) }
 
 module _ {i k e : ℕ} (s : private.Second i k e) where
@@ -116,48 +116,48 @@ module _ (w uFree : List Float) (st : List ℕ) (nu : List Float) (l : List ℕ)
       go true g h = rw g at h ∙ free-kept j rhs rhs′ e g
       go false g h = rw g at h ∙ bound-taken j rhs rhs′ e g
 
-  pub columns-done : (j : ℕ) (rhs : List Float) → j ≤ length nu → length nu ≤ j → rhs ≡ columns j → rhs ≡ def.rightHandSide w uFree st nu l k
-  unfolding columns def.rightHandSide private.rightHandRow
+  pub columns-done : (j : ℕ) (rhs : List Float) → j ≤ length nu → length nu ≤ j → rhs ≡ columns j → rhs ≡ pass.rightHandSide w uFree st nu l k
+  unfolding columns pass.rightHandSide private.rightHandRow
   columns-done j rhs g h e = let q : j ≡ length nu = omega arith in rw q at e
 
-pub right-hand-length : (w uFree : List Float) (st : List ℕ) (nu : List Float) (l : List ℕ) (k : ℕ) → length (def.rightHandSide w uFree st nu l k) ≡ k
-unfolding def.rightHandSide private.rightHandRow
+pub right-hand-length : (w uFree : List Float) (st : List ℕ) (nu : List Float) (l : List ℕ) (k : ℕ) → length (pass.rightHandSide w uFree st nu l k) ≡ k
+unfolding pass.rightHandSide private.rightHandRow
 right-hand-length w uFree st nu l k = tab-length (private.rightHandAt w uFree st nu l) k
 
 -- ---- the least-norm call accepts what it is lent
 
-replied : (k : ℕ) (a b x : List Float) (room : ℕ) → k ≤ 32 → length a ≡ k * k → length b ≡ k → length x ≡ k → 1056 ≤ room → least.reply k k a b x room ≡ least.answered (leastNorm k k a b)
-unfolding least.reply
+replied : (k : ℕ) (a b x : List Float) (room : ℕ) → k ≤ 32 → length a ≡ k * k → length b ≡ k → length x ≡ k → 1056 ≤ room → promise.reply k k a b x room ≡ promise.answered (leastNorm k k a b)
+unfolding promise.reply
 replied k a b x room f p q r s = rw (le-leb k 32 f, eq-eqb (length a) (k * k) p, eq-eqb (length b) k q, eq-eqb (length x) k r, le-leb 1056 room s)
 
 module _ {a x work : List Float} (b : List Float) (s : private.SolveLent (length b) a x work) where
-  abbrev reply : least.Reply
-  reply = least.reply (length b) (length b) a b x (length work)
+  abbrev reply : promise.Reply
+  reply = promise.reply (length b) (length b) a b x (length work)
 
-  pub solved : (x′ work′ : List Float) → x′ ≡ least.xLeft reply x → drop (least.used reply) work′ ≡ drop (least.used reply) work → private.Solved a b work x′ work′
+  pub solved : (x′ work′ : List Float) → x′ ≡ promise.xLeft reply x → drop (promise.used reply) work′ ≡ drop (promise.used reply) work → private.Solved a b work x′ work′
   solved x′ work′ e g = let t = replied (length b) a b x (length work) (s .few) (s .matrix) refl (s .solution) (s .workspace) in record { solution = rw t at e; workspace = rw t at g }
 
 -- ---- the calls of `from_system`: y₁ is the right-hand side, z and y₂ are the target's, y₃ is the direction
 
 module _ (w uFree scale : List Float) (st : List ℕ) (nu : List Float) (l : List ℕ) (y₁ work₀ work₁ work₂ : List Float) where
-  module _ (sided : y₁ ≡ def.rightHandSide w uFree st nu l (length l)) (copied : Copied y₁ 1056 work₀ work₁) (few : length l ≤ 32) (m z : List Float) (f : private.Solved m y₁ work₁ z work₂) where
+  module _ (sided : y₁ ≡ pass.rightHandSide w uFree st nu l (length l)) (copied : Copied y₁ 1056 work₀ work₁) (few : length l ≤ 32) (m z : List Float) (f : private.Solved m y₁ work₁ z work₂) where
     side-length : length y₁ ≡ length l
     side-length = ap length sided ∙ right-hand-length w uFree st nu l (length l)
 
-    side-kept : part 1056 (length l) work₂ ≡ def.rightHandSide w uFree st nu l (length l)
+    side-kept : part 1056 (length l) work₂ ≡ pass.rightHandSide w uFree st nu l (length l)
     side-kept = rw (f .workspace, ← side-length) (copied .part) ∙ sided
 
     side-work : drop 1088 work₂ ≡ drop 1088 work₀
     side-work = later 1056 1088 work₂ work₁ (omega arith) (f .workspace) ∙ later (1056 + length y₁) 1088 work₁ work₀ (omega (arith, side-length, few)) (copied .after)
 
-    module _ (y₂ : List Float) (b : Bool) (e : m ≡ def.matrix w scale l (length l)) (g : private.Tested w scale l (part 1056 (length l) work₂) z b y₂) where
-      target : private.targeted z y₂ b ≡ def.target w uFree scale st nu l
-      unfolding def.target private.tooLarge
+    module _ (y₂ : List Float) (b : Bool) (e : m ≡ pass.matrix w scale l (length l)) (g : private.Tested w scale l (part 1056 (length l) work₂) z b y₂) where
+      target : private.targeted z y₂ b ≡ pass.target w uFree scale st nu l
+      unfolding pass.target private.tooLarge
       target =
-          let zed : z ≡ leastNorm (length l) (length l) (def.matrix w scale l (length l)) (def.rightHandSide w uFree st nu l (length l)) .x = rw (side-length, e, sided) at (f .solution) in
+          let zed : z ≡ leastNorm (length l) (length l) (pass.matrix w scale l (length l)) (pass.rightHandSide w uFree st nu l (length l)) .x = rw (side-length, e, sided) at (f .solution) in
           rw (g .downhill, g .inconsistent, side-kept, zed)
 
-      pub directed-run : (y₃ work₃ : List Float) → y₃ ≡ def.direction b scale l z nu y₂ → Copied y₃ 1056 work₂ work₃ → length y₃ ≡ length l → private.Directed (def.target w uFree scale st nu l) scale l nu work₀ b work₃
+      pub directed-run : (y₃ work₃ : List Float) → y₃ ≡ pass.direction b scale l z nu y₂ → Copied y₃ 1056 work₂ work₃ → length y₃ ≡ length l → private.Directed (pass.target w uFree scale st nu l) scale l nu work₀ b work₃
       directed-run y₃ work₃ d laid long =
           record {
             direction = rw (← target) (rw (← long) (laid .part) ∙ d);

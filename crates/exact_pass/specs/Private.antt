@@ -12,9 +12,9 @@ use Rattle.floats.specs.Ops.{_⊕_, _⊖_, _⊗_, _⊘_, at, 0ᶠ, 1e6, 1e-9}
 use Rattle.floats.specs.Helpers.{larger, abs, isFinite}
 use Rattle.least_norm.specs.LeastNorm.{leastNorm}
 use Rattle.box_rows.specs.Rows as box
-use Rattle.box_rows.specs.Private as lists
+use Rattle.box_rows.specs.Private.{Sized, Square}
 use Rattle.exact_pass.specs.Ray.{ray}
-use Rattle.exact_pass.specs.Pass as def
+use Rattle.exact_pass.specs.Pass as pass
 use Rattle.exact_pass.specs.Walk as walks
 use Rattle.exact_pass.specs.Promise.{Passed}
 use Rattle.exact_pass.specs.declared.Residuals.{Residuals}
@@ -50,7 +50,7 @@ pub record Free (f : List ℕ) (n k : ℕ) (l : List ℕ) : Type 0 where
 
 -- the lists of a problem of n rows, with a state and a value for each row
 pub record Fit (n : ℕ) (w lo hi scale : List Float) (st : List ℕ) (v : List Float) : Type 0 where
-  pub sized : lists.Sized n w lo hi scale
+  pub sized : Sized n w lo hi scale
   pub states : length st ≡ n
   pub values : length v ≡ n
 
@@ -94,7 +94,7 @@ pub record SizesLent (n : ℕ) (scale : List Float) (st : List ℕ) : Type 0 whe
 
 -- what shows whether a problem of n rows falls along the rows of l
 pub record FallsLent (n : ℕ) (w uFree : List Float) (l : List ℕ) : Type 0 where
-  pub square : lists.Square w n
+  pub square : Square w n
   pub motions : length uFree ≡ n
   pub below : Below n l
 
@@ -112,7 +112,7 @@ pub record DirectionLent (n : ℕ) (scale : List Float) (l : List ℕ) (z y : Li
 
 -- what the system of the free rows l is made from
 pub record SystemLent (n : ℕ) (w uFree scale : List Float) (st l : List ℕ) (work : List Float) : Type 0 where
-  pub square : lists.Square w n
+  pub square : Square w n
   pub motions : length uFree ≡ n
   pub scales : length scale ≡ n
   pub states : length st ≡ n
@@ -145,13 +145,13 @@ pub record AtMost (j n : ℕ) (w uFree scale : List Float) (st l : List ℕ) (wo
 
 -- what column j is taken in: the rows l of w, and their right-hand side
 pub record ColumnLent (n : ℕ) (w : List Float) (l : List ℕ) (rhs : List Float) (j : ℕ) : Type 0 where
-  pub square : lists.Square w n
+  pub square : Square w n
   pub listed : Listed n l rhs
   pub column : j < n
 
 -- what the right-hand side of the rows l is made from
 pub record RightHandLent (n : ℕ) (w uFree : List Float) (st l : List ℕ) (rhs : List Float) : Type 0 where
-  pub square : lists.Square w n
+  pub square : Square w n
   pub motions : length uFree ≡ n
   pub states : length st ≡ n
   pub listed : Listed n l rhs
@@ -163,7 +163,7 @@ pub record MatrixRowLent (n : ℕ) (r : List Float) (l : List ℕ) (out : List F
 
 -- what all of them are
 pub record MatrixLent (n : ℕ) (w : List Float) (l : List ℕ) (m : List Float) : Type 0 where
-  pub square : lists.Square w n
+  pub square : Square w n
   pub below : Below n l
   pub few : length l ≤ 32
   pub matrix : length m ≡ length l * length l
@@ -183,7 +183,7 @@ pub record RowsLent (n : ℕ) (a b : List Float) (l : List ℕ) (z : List Float)
 
 -- row i of the rows l of w
 pub record RowLent (n : ℕ) (w : List Float) (l : List ℕ) (i : ℕ) : Type 0 where
-  pub square : lists.Square w n
+  pub square : Square w n
   pub below : Below n l
   pub row : i < length l
 
@@ -197,7 +197,7 @@ pub record TwoLent (n : ℕ) (w : List Float) (l : List ℕ) (rhs z y : List Flo
 
 -- for all rows, with the right-hand side in the workspace
 pub record ResidualLent (n : ℕ) (w : List Float) (l : List ℕ) (work z y : List Float) : Type 0 where
-  pub square : lists.Square w n
+  pub square : Square w n
   pub listed : Listed n l z
   pub direction : length y ≡ length l
   pub few : length l ≤ 32
@@ -213,7 +213,7 @@ pub record Blocked (n : ℕ) (lo hi : List Float) (st : List ℕ) (r : Blocking)
 
 -- what a ray in the direction y of the free rows l is looked for in
 pub record RayLent (n : ℕ) (w lo hi scale : List Float) (st l : List ℕ) (y : List Float) (rows : List ℕ) : Type 0 where
-  pub sized : lists.Sized n w lo hi scale
+  pub sized : Sized n w lo hi scale
   pub states : length st ≡ n
   pub listed : Listed n l y
   pub list : n ≤ length rows
@@ -258,21 +258,21 @@ pub record Noted (b : Bool) (i k : ℕ) (l : List ℕ) (k′ : ℕ) (l′ : List
   pub listed : l′ ≡ noted b l k i
 
 -- the start x, with at most m rows that act
-pub record Started (x : def.Start) (m : ℕ) (nu : List Float) (st : List ℕ) (k : ℕ) : Type 0 where
-  pub start : record { trial = def.trial nu st; acting = k } ≡ x
+pub record Started (x : pass.Start) (m : ℕ) (nu : List Float) (st : List ℕ) (k : ℕ) : Type 0 where
+  pub start : record { trial = pass.trial nu st; acting = k } ≡ x
   pub within : k ≤ m
 
-abbrev pub targeted : List Float → List Float → Bool → def.Target
+abbrev pub targeted : List Float → List Float → Bool → pass.Target
 targeted z y b = record { z = z; y = y; inconsistent = b }
 
 -- after a step: what is marked in the workspace stays
-pub record Stepped (p : def.Pass) (rows : List ℕ) (work : List Float) (e : Exact) (nu : List Float) (st rows′ : List ℕ) (work′ : List Float) : Type 0 where
+pub record Stepped (p : pass.Pass) (rows : List ℕ) (work : List Float) (e : Exact) (nu : List Float) (st rows′ : List ℕ) (work′ : List Float) : Type 0 where
   pub passed : Passed p rows e nu st rows′
   pub workspace : drop 1088 work′ ≡ drop 1088 work
 
 -- after a pass
 pub record Ran (p : box.Problem) (st : List ℕ) (nu : List Float) (rows : List ℕ) (work : List Float) (e : Exact) (nu′ : List Float) (st′ rows′ : List ℕ) (work′ : List Float) : Type 0 where
-  pub passed : Passed (def.exactPass p st nu) rows e nu′ st′ rows′
+  pub passed : Passed (pass.exactPass p st nu) rows e nu′ st′ rows′
   pub workspace : drop 1120 work′ ≡ drop 1120 work
 
 -- after a system of the matrix m and the right-hand side b is solved
@@ -296,15 +296,15 @@ abbrev pub part : ℕ → ℕ → List Float → List Float
 part a k work = take k (drop a work)
 
 -- after the direction of the free rows l is found, for the target t of their system: it is in the workspace
-pub record Directed (t : def.Target) (scale : List Float) (l : List ℕ) (nu work : List Float) (b : Bool) (work′ : List Float) : Type 0 where
-  pub direction : part 1056 (length l) work′ ≡ def.direction (t .inconsistent) scale l (t .z) nu (t .y)
+pub record Directed (t : pass.Target) (scale : List Float) (l : List ℕ) (nu work : List Float) (b : Bool) (work′ : List Float) : Type 0 where
+  pub direction : part 1056 (length l) work′ ≡ pass.direction (t .inconsistent) scale l (t .z) nu (t .y)
   pub inconsistent : b ≡ t .inconsistent
   pub workspace : drop 1088 work′ ≡ drop 1088 work
 
 -- the same for the target of the system that these lists make
 abbrev pub DirectedTo : List Float → List Float → List Float → List ℕ → List Float → List ℕ → List Float → Bool
     → List Float → Type 0
-DirectedTo w uFree scale st nu l work b work′ = Directed (def.target w uFree scale st nu l) scale l nu work b work′
+DirectedTo w uFree scale st nu l work b work′ = Directed (pass.target w uFree scale st nu l) scale l nu work b work′
 
 -- a row that is dropped is 0, one taken 1, one that ends the collecting 2
 unfoldable pub verdict : Bool → Bool → ℕ
@@ -328,20 +328,20 @@ pub record Collecting (c : walks.Walked) (n k : ℕ) (far : Float) (l : List ℕ
   pub below : Below n (take k l)
 
 -- the multipliers and states marked, of n rows
-abbrev pub marked : ℕ → List Float → List ℕ → def.Trial
-marked n work marks = def.trial (part 1088 n work) (take n marks)
+abbrev pub marked : ℕ → List Float → List ℕ → pass.Trial
+marked n work marks = pass.trial (part 1088 n work) (take n marks)
 
 -- if a pass comes to the trial t in k steps from the trial s, then i steps from t lead to the same as j of them
-pub record Shortened (s t : def.Trial) (k i j : ℕ) : Type 0 where
-  pub steps : (p : box.Problem) → def.steps p s k ≡ def.moved t → def.steps p t i ≡ def.steps p t j
+pub record Shortened (s t : pass.Trial) (k i j : ℕ) : Type 0 where
+  pub steps : (p : box.Problem) → pass.steps p s k ≡ pass.moved t → pass.steps p t i ≡ pass.steps p t j
   pub fewer : j ≤ i
 
 -- After a step to the trial t, by the mark m before it: if the pass came to t from what was marked, it came to t from
 -- what is marked now, and so many steps left lead to the same.
-pub record MarkedOn (t : def.Trial) (m : Mark) (work : List Float) (marks : List ℕ) (m′ : Mark)
+pub record MarkedOn (t : pass.Trial) (m : Mark) (work : List Float) (marks : List ℕ) (m′ : Mark)
     (work′ : List Float) (marks′ : List ℕ) : Type 0 where
-  pub round : (p : box.Problem) → def.steps p (marked (length (t .nu)) work marks) (m .since + 1) ≡ def.moved t
-      → def.steps p (marked (length (t .nu)) work′ marks′) (m′ .since) ≡ def.moved t
+  pub round : (p : box.Problem) → pass.steps p (marked (length (t .nu)) work marks) (m .since + 1) ≡ pass.moved t
+      → pass.steps p (marked (length (t .nu)) work′ marks′) (m′ .since) ≡ pass.moved t
   pub left : Shortened (marked (length (t .nu)) work marks) t (m .since + 1) (m .left - 1) (m′ .left)
   pub since : m′ .since ≤ m .since + 1
   pub span : m′ .span ≤ 528
@@ -349,15 +349,15 @@ pub record MarkedOn (t : def.Trial) (m : Mark) (work : List Float) (marks : List
 
 -- ---- single rows and short words of Pass.antt, as the functions have them
 
-abbrev pub started : List Float → List ℕ → ℕ → def.Start
-started nu st k = record { trial = def.trial nu st; acting = k }
+abbrev pub started : List Float → List ℕ → ℕ → pass.Start
+started nu st k = record { trial = pass.trial nu st; acting = k }
 
-unfoldable pub startRow : List Float → List Float → List Float → ℕ → def.Start → def.Start
+unfoldable pub startRow : List Float → List Float → List Float → ℕ → pass.Start → pass.Start
 startRow lo hi scale i s =
     let nu = s .trial .nu in
     let st = s .trial .states in
     let state = box.stateOf (at lo i) (at hi i) (at scale i) (at nu i) in
-    cond (box.acts st i) (started (set nu i (def.placed (at lo i) (at hi i) state (at nu i))) (set st i state) (suc (s .acting))) s
+    cond (box.acts st i) (started (set nu i (pass.placed (at lo i) (at hi i) state (at nu i))) (set st i state) (suc (s .acting))) s
 
 abbrev pub isFree : List ℕ → ℕ → Bool
 isFree st i = eqb (box.state st i) box.inside
@@ -390,13 +390,13 @@ tooLarge w scale l i r =
     lt 1e-9 (abs (r ⊘ at (box.row w (length scale) a) a) ⊘ at scale a)
 
 abbrev pub tooLargeAt : List Float → List Float → List ℕ → List Float → List Float → ℕ → Bool
-tooLargeAt w scale l rhs z i = tooLarge w scale l i (def.residual w scale l rhs z i)
+tooLargeAt w scale l rhs z i = tooLarge w scale l i (pass.residual w scale l rhs z i)
 
 abbrev pub inconsistent : List Float → List Float → List ℕ → List Float → List Float → ℕ → Bool
 inconsistent w scale l rhs z k = turns k false λ i b. b || tooLargeAt w scale l rhs z i
 
 abbrev pub downhillAt : List Float → List Float → List ℕ → List Float → List Float → ℕ → Float
-downhillAt w scale l rhs z i = neg (def.residual w scale l rhs z i)
+downhillAt w scale l rhs z i = neg (pass.residual w scale l rhs z i)
 
 abbrev pub downhill : List Float → List Float → List ℕ → List Float → List Float → ℕ → List Float
 downhill w scale l rhs z k = tab (downhillAt w scale l rhs z) k
@@ -436,21 +436,21 @@ releaseRow p st nu i best =
 abbrev pub worstRow : box.Problem → List ℕ → List Float → ℕ → Worst
 worstRow p st nu n = turns n (record { residual = 1e-9; row = box.size p }) (releaseRow p st nu)
 
-unfoldable pub unbounded : box.Problem → def.Trial → List ℕ → List Float → def.Pass
-unbounded p t l y = def.unmet t (ray p (t .states) (def.scattered l y (replicate (box.size p) 0ᶠ) (length l)))
+unfoldable pub unbounded : box.Problem → pass.Trial → List ℕ → List Float → pass.Pass
+unbounded p t l y = pass.unmet t (ray p (t .states) (pass.scattered l y (replicate (box.size p) 0ᶠ) (length l)))
 
 -- the step in the direction y that the ratio test allows
-unfoldable pub takeStep : box.Problem → def.Trial → List ℕ → List Float → Bool → def.Pass
+unfoldable pub takeStep : box.Problem → pass.Trial → List ℕ → List Float → Bool → pass.Pass
 takeStep p t l y inconsistent =
-    let r = def.ratioTest (p .lo) (p .hi) l (t .nu) y (def.longest inconsistent) (length l) in
-    let u = def.trial (def.advance l y (r .alpha) (t .nu) (length l)) (t .states) in
-    cond (isFinite (r .alpha)) (cond (eqb (r .state) box.inside) (def.release p u) (def.moved (def.hold (p .lo) (p .hi) u r)))
+    let r = pass.ratioTest (p .lo) (p .hi) l (t .nu) y (pass.longest inconsistent) (length l) in
+    let u = pass.trial (pass.advance l y (r .alpha) (t .nu) (length l)) (t .states) in
+    cond (isFinite (r .alpha)) (cond (eqb (r .state) box.inside) (pass.release p u) (pass.moved (pass.hold (p .lo) (p .hi) u r)))
     (unbounded p t l y)
 
-unfoldable pub freeStep : box.Problem → def.Trial → List ℕ → def.Pass
+unfoldable pub freeStep : box.Problem → pass.Trial → List ℕ → pass.Pass
 freeStep p t l =
-    let g = def.target (p .w) (p .uFree) (p .scale) (t .states) (t .nu) l in
-    takeStep p t l (def.direction (g .inconsistent) (p .scale) l (g .z) (t .nu) (g .y)) (g .inconsistent)
+    let g = pass.target (p .w) (p .uFree) (p .scale) (t .states) (t .nu) l in
+    takeStep p t l (pass.direction (g .inconsistent) (p .scale) l (g .z) (t .nu) (g .y)) (g .inconsistent)
 
 -- ---- and of Ray.antt
 

@@ -5,7 +5,7 @@ ghost use mathlib.Core.Path.{_≡_};
 ghost use mathlib.Core.Bool.{true};
 ghost use Prim.Native.Nat.{_≤_};
 ghost use lib.ListN.{length, take};
-ghost use Rattle.exact_pass.specs.Pass as def;
+ghost use Rattle.exact_pass.specs.Pass as pass;
 ghost use Rattle.exact_pass.specs.Private as private;
 use crate::Mark;
 use crate::read;
@@ -26,7 +26,7 @@ fn same(x: f64, y: f64) -> bool
 // Whether multipliers and states are those marked.
 fn same_trial(nu: &[f64], states: &[u8], work: &[f64], marks: &[u8]) -> bool
     requires { ⌜ private.MarksLent (length (now nu)) (now states) (now work) (now marks) ⌝ }
-    ensures { λ q. ⌜ (q ≡ true → def.trial (now (nu .entry)) (now (states .entry))
+    ensures { λ q. ⌜ (q ≡ true → pass.trial (now (nu .entry)) (now (states .entry))
         ≡ private.marked (length (now (nu .entry))) (now (work .entry)) (now (marks .entry))) ⌝ }
 {
     let n = nu.len();
@@ -55,7 +55,7 @@ fn left_after(
     requires { ⌜ private.SinceLent (length (now nu)) (now states) (now work) (now marks) since ⌝ }
     ensures { λ q. ⌜ private.Shortened
         (private.marked (length (now (nu .entry))) (now (work .entry)) (now (marks .entry)))
-        (def.trial (now (nu .entry)) (now (states .entry))) since left q ⌝ }
+        (pass.trial (now (nu .entry)) (now (states .entry))) since left q ⌝ }
 {
     if same_trial(nu, states, work, marks) {
         return left % since;
@@ -79,7 +79,7 @@ pub fn mark_states(states: &[u8], marks: &mut [u8])
 // After a step: a cycle cuts the steps that are left, and the mark is set anew after 2, 4, 8 .. steps (Brent).
 pub fn after_step(nu: &[f64], states: &[u8], work: &mut [f64], marks: &mut [u8], m: Mark) -> Mark
     requires { ⌜ private.AfterLent (length (now nu)) (now states) (now work) (now marks) m ⌝ }
-    ensures { λ q. ⌜ private.MarkedOn (def.trial (now (nu .entry)) (now (states .entry))) m
+    ensures { λ q. ⌜ private.MarkedOn (pass.trial (now (nu .entry)) (now (states .entry))) m
         (now (work .entry)) (now (marks .entry)) q (now (work .exit)) (now (marks .exit)) ⌝ }
 {
     let since = m.since + 1;

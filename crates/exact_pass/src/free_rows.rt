@@ -2,7 +2,7 @@
 ghost use Prim.Native.Nat.{_+_, _≤_, _<_};
 ghost use lib.Dec.{eqb};
 ghost use lib.ListN.{length};
-ghost use Rattle.exact_pass.specs.Pass as def;
+ghost use Rattle.exact_pass.specs.Pass as pass;
 ghost use Rattle.exact_pass.specs.Private as private;
 use crate::read;
 
@@ -20,7 +20,7 @@ fn free_row(state: u8, i: usize, k: usize, free: &mut [u8]) -> usize
 // They stand at the front of `free`, rising, a byte each; how many there are.
 pub fn free_rows(states: &[u8], free: &mut [u8]) -> usize
     requires { ⌜ private.Listing (length (now states) ≤ 32) (length (now states)) (now free) ⌝ }
-    ensures { λ q. ⌜ private.Free (def.freeRows (now (states .entry)) (length (now (states .entry))))
+    ensures { λ q. ⌜ private.Free (pass.freeRows (now (states .entry)) (length (now (states .entry))))
         (length (now (states .entry))) q (now (free .exit)) ⌝ }
 {
     let n = states.len();

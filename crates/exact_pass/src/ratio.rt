@@ -1,7 +1,7 @@
 // The ratio test, and the step that it allows.
 ghost use mathlib.Core.Path.{_≡_};
 ghost use lib.ListN.{length};
-ghost use Rattle.exact_pass.specs.Pass as def;
+ghost use Rattle.exact_pass.specs.Pass as pass;
 ghost use Rattle.exact_pass.specs.Private as private;
 use crate::Blocking;
 use crate::read;
@@ -42,7 +42,7 @@ pub fn ratio_test(
     alpha: f64,
 ) -> Blocking
     requires { ⌜ private.RatioLent (length (now nu)) (now lo) (now hi) (now free) (now y) ⌝ }
-    ensures { λ q. ⌜ q ≡ def.ratioTest (now (lo .entry)) (now (hi .entry)) (now (free .entry)) (now (nu .entry))
+    ensures { λ q. ⌜ q ≡ pass.ratioTest (now (lo .entry)) (now (hi .entry)) (now (free .entry)) (now (nu .entry))
         (now (y .entry)) alpha (length (now (free .entry))) ⌝ }
 {
     let k = free.len();
@@ -71,7 +71,7 @@ pub fn ratio_test(
 pub fn advance(free: &[u8], y: &[f64], alpha: f64, nu: &mut [f64])
     requires { ⌜ private.Listed (length (now nu)) (now free) (now y) ⌝ }
     ensures { λ q. ⌜ now (nu .exit)
-        ≡ def.advance (now (free .entry)) (now (y .entry)) alpha (now (nu .entry)) (length (now (free .entry))) ⌝ }
+        ≡ pass.advance (now (free .entry)) (now (y .entry)) alpha (now (nu .entry)) (length (now (free .entry))) ⌝ }
 {
     let k = free.len();
     let mut i = 0;

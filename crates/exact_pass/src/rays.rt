@@ -7,7 +7,7 @@ ghost use lib.ListN.{length};
 ghost use Rattle.loops.specs.Loops.{fronted};
 ghost use Rattle.floats.specs.Helpers.{larger};
 ghost use Rattle.box_rows.specs.Rows as box;
-ghost use Rattle.box_rows.specs.Private as lists;
+ghost use Rattle.box_rows.specs.Private.{Square};
 ghost use Rattle.exact_pass.specs.Ray as rays;
 ghost use Rattle.exact_pass.specs.Walk as walks;
 ghost use Rattle.exact_pass.specs.Promise as promise;
@@ -174,7 +174,7 @@ fn quadratic_row(row: &[f64], v: f64, y: &[f64], l: &[usize], quad: f64) -> f64
 }
 
 fn quadratic(w: &[f64], y: &[f64], l: &[usize]) -> f64
-    requires { ⌜ private.Rows (lists.Square (now w) (length (now y))) (length (now y)) (now l) ⌝ }
+    requires { ⌜ private.Rows (Square (now w) (length (now y))) (length (now y)) (now l) ⌝ }
     ensures { λ q. ⌜ q ≡ private.quadratic (now (w .entry)) (length (now (y .entry))) (now (y .entry)) (now (l .entry))
         (length (now (l .entry))) ⌝ }
 {

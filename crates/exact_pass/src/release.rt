@@ -7,7 +7,7 @@ ghost use Prim.Native.Nat.{ℕ};
 ghost use lib.ListN.{length};
 ghost use Rattle.floats.specs.Ops.{at};
 ghost use Rattle.box_rows.specs.Rows as box;
-ghost use Rattle.exact_pass.specs.Pass as def;
+ghost use Rattle.exact_pass.specs.Pass as pass;
 ghost use Rattle.exact_pass.specs.Private as private;
 ghost use Rattle.exact_pass.specs.Promise as promise;
 use crate::Exact;
@@ -154,10 +154,10 @@ pub fn release(
     requires { ⌜ private.Fit (length (now «u_free»)) (now w) (now lo) (now hi) (now scale) (now states) (now nu) ⌝ }
     ensures { λ q. ⌜ ((r : List ℕ)
         → promise.Passed
-        (def.release
+        (pass.release
         (box.problem (now (w .entry)) (now («u_free» .entry)) (now (lo .entry)) (now (hi .entry))
         (now (scale .entry)))
-        (def.trial (now (nu .entry)) (now (states .entry))))
+        (pass.trial (now (nu .entry)) (now (states .entry))))
         r q (now (nu .entry)) (now (states .exit)) r)
         ⌝ }
 {

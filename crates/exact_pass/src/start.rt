@@ -2,13 +2,13 @@
 ghost use mathlib.Core.Path.{_≡_};
 ghost use Prim.Native.Nat.{_+_};
 ghost use lib.ListN.{length};
-ghost use Rattle.exact_pass.specs.Pass as def;
+ghost use Rattle.exact_pass.specs.Pass as pass;
 ghost use Rattle.exact_pass.specs.Private as private;
 use crate::read;
 
 // The multiplier of a row in a state: a row on a bound has that bound.
 pub fn placed(lo: f64, hi: f64, state: u8, v: f64) -> f64
-    ensures { λ q. ⌜ q ≡ def.placed lo hi state v ⌝ }
+    ensures { λ q. ⌜ q ≡ pass.placed lo hi state v ⌝ }
 {
     if state == box_rows::AT_LO {
         return lo;
@@ -50,7 +50,7 @@ fn start_row(
 pub fn start(lo: &[f64], hi: &[f64], scale: &[f64], states: &mut [u8], nu: &mut [f64]) -> usize
     requires { ⌜ private.Scaled (length (now nu)) (now lo) (now hi) (now scale) (now states) ⌝ }
     ensures { λ q. ⌜ private.Started
-        (def.start (now (lo .entry)) (now (hi .entry)) (now (scale .entry)) (now (nu .entry)) (now (states .entry))
+        (pass.start (now (lo .entry)) (now (hi .entry)) (now (scale .entry)) (now (nu .entry)) (now (states .entry))
         (length (now (nu .entry))))
         (length (now (nu .entry))) (now (nu .exit)) (now (states .exit)) q ⌝ }
 {

@@ -6,7 +6,7 @@ ghost use Rattle.floats.specs.Ops.{0ᶠ};
 ghost use Rattle.exact_pass.specs.Ray.{ray};
 ghost use lib.Ieee.{Float};
 ghost use Rattle.box_rows.specs.Rows as box;
-ghost use Rattle.exact_pass.specs.Pass as def;
+ghost use Rattle.exact_pass.specs.Pass as pass;
 ghost use Rattle.exact_pass.specs.Promise as promise;
 ghost use Rattle.exact_pass.specs.Private as private;
 use crate::Blocking;
@@ -24,7 +24,7 @@ use crate::start;
 fn scatter(free: &[u8], y: &[f64], d: &mut [f64])
     requires { ⌜ private.Listed (length (now d)) (now free) (now y) ⌝ }
     ensures { λ q. ⌜ now (d .exit)
-        ≡ def.scattered (now (free .entry)) (now (y .entry)) (now (d .entry)) (length (now (free .entry))) ⌝ }
+        ≡ pass.scattered (now (free .entry)) (now (y .entry)) (now (d .entry)) (length (now (free .entry))) ⌝ }
 {
     let k = free.len();
     let mut i = 0;
@@ -55,7 +55,7 @@ fn free_ray(
         (box.problem (now (w .entry)) (now («u_free» .entry)) (now (lo .entry)) (now (hi .entry))
         (now (scale .entry)))
         (now (states .entry))
-        (def.scattered (now (free .entry)) (now (y .entry)) (replicate (length (now («u_free» .entry))) 0ᶠ)
+        (pass.scattered (now (free .entry)) (now (y .entry)) (replicate (length (now («u_free» .entry))) 0ᶠ)
         (length (now (free .entry)))))
         (now (rows .entry)) q (now (rows .exit)) ⌝ }
 {
@@ -82,7 +82,7 @@ fn unbounded(
         (private.unbounded
         (box.problem (now (w .entry)) (now («u_free» .entry)) (now (lo .entry)) (now (hi .entry))
         (now (scale .entry)))
-        (def.trial v (now (states .entry))) (now (free .entry)) (now (y .entry)))
+        (pass.trial v (now (states .entry))) (now (free .entry)) (now (y .entry)))
         (now (rows .entry)) q v (now (states .entry)) (now (rows .exit)))
         ⌝ }
 {
@@ -98,8 +98,8 @@ fn unbounded(
 // The row that blocks a step is put on its bound.
 fn hold(lo: &[f64], hi: &[f64], states: &mut [u8], nu: &mut [f64], r: Blocking)
     requires { ⌜ private.Blocked (length (now nu)) (now lo) (now hi) (now states) r ⌝ }
-    ensures { λ q. ⌜ def.trial (now (nu .exit)) (now (states .exit))
-        ≡ def.hold (now (lo .entry)) (now (hi .entry)) (def.trial (now (nu .entry)) (now (states .entry))) r ⌝ }
+    ensures { λ q. ⌜ pass.trial (now (nu .exit)) (now (states .exit))
+        ≡ pass.hold (now (lo .entry)) (now (hi .entry)) (pass.trial (now (nu .entry)) (now (states .entry))) r ⌝ }
 {
     let a = r.row;
     let state = r.state as u8;
@@ -131,7 +131,7 @@ fn take_step(
         (private.takeStep
         (box.problem (now (w .entry)) (now («u_free» .entry)) (now (lo .entry)) (now (hi .entry))
         (now (scale .entry)))
-        (def.trial (now (nu .entry)) (now (states .entry))) (now (free .entry)) (now (y .entry)) inconsistent)
+        (pass.trial (now (nu .entry)) (now (states .entry))) (now (free .entry)) (now (y .entry)) inconsistent)
         (now (rows .entry)) q (now (nu .exit)) (now (states .exit)) (now (rows .exit)) ⌝ }
 {
     let r = ratio::ratio_test(lo, hi, free, nu, y, direction::longest(inconsistent));
@@ -162,11 +162,11 @@ fn step(
     requires { ⌜ private.RunLent (length (now «u_free»)) (now w) (now lo) (now hi) (now scale) (now states) (now nu)
         (now rows) (now work) ⌝ }
     ensures { λ q. ⌜ private.Stepped
-        (def.stepOf
+        (pass.stepOf
         (box.problem (now (w .entry)) (now («u_free» .entry)) (now (lo .entry)) (now (hi .entry))
         (now (scale .entry)))
-        (def.trial (now (nu .entry)) (now (states .entry)))
-        (def.freeRows (now (states .entry)) (length (now («u_free» .entry)))))
+        (pass.trial (now (nu .entry)) (now (states .entry)))
+        (pass.freeRows (now (states .entry)) (length (now («u_free» .entry)))))
         (now (rows .entry)) (now (work .entry)) q (now (nu .exit)) (now (states .exit)) (now (rows .exit))
         (now (work .exit)) ⌝ }
 {

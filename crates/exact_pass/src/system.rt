@@ -9,7 +9,7 @@ ghost use lib.Ieee.{neg};
 ghost use Rattle.loops.specs.Loops.{tab};
 ghost use Rattle.floats.specs.Ops.{at};
 ghost use Rattle.box_rows.specs.Rows as box;
-ghost use Rattle.exact_pass.specs.Pass as def;
+ghost use Rattle.exact_pass.specs.Pass as pass;
 ghost use Rattle.exact_pass.specs.Private as private;
 use crate::Residuals;
 use crate::read;
@@ -62,7 +62,7 @@ pub fn right_hand_side(
     requires { ⌜ private.RightHandLent (length (now nu)) (now w) (now «u_free») (now states) (now free)
         (now rhs) ⌝ }
     ensures { λ q. ⌜ now (rhs .exit)
-        ≡ def.rightHandSide (now (w .entry)) (now («u_free» .entry)) (now (states .entry)) (now (nu .entry))
+        ≡ pass.rightHandSide (now (w .entry)) (now («u_free» .entry)) (now (states .entry)) (now (nu .entry))
         (now (free .entry)) (length (now (free .entry))) ⌝ }
 {
     let n = nu.len();
@@ -91,7 +91,7 @@ fn matrix_row(row: &[f64], scale: &[f64], free: &[u8], out: &mut [f64])
 pub fn matrix(w: &[f64], scale: &[f64], free: &[u8], m: &mut [f64])
     requires { ⌜ private.MatrixLent (length (now scale)) (now w) (now free) (now m) ⌝ }
     ensures { λ q. ⌜ now (m .exit)
-        ≡ def.matrix (now (w .entry)) (now (scale .entry)) (now (free .entry)) (length (now (free .entry))) ⌝ }
+        ≡ pass.matrix (now (w .entry)) (now (scale .entry)) (now (free .entry)) (length (now (free .entry))) ⌝ }
 {
     let k = free.len();
     let n = scale.len();

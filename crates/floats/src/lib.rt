@@ -2,7 +2,7 @@
 ghost use mathlib.Core.Path.{_≡_};
 ghost use Rattle.floats.specs.Helpers as helpers;
 ghost use Rattle.floats.specs.Rough as rough;
-ghost use Rattle.floats.specs.Sqrt as def;
+ghost use Rattle.floats.specs.Sqrt as root;
 
 mod root;
 
@@ -95,7 +95,7 @@ pub fn is_finite(v: f64) -> bool
 
 // The square root of v, with the pattern of a guess at it, or 0. The guess saves time where it is good.
 fn sqrt_guessed(v: f64, near: u64) -> f64
-    ensures { λ r. ⌜ r ≡ def.sqrt v ⌝ }
+    ensures { λ r. ⌜ r ≡ root.sqrt v ⌝ }
 {
     if v > 0.0 {
         let b = f64::to_bits(v);
@@ -112,14 +112,14 @@ fn sqrt_guessed(v: f64, near: u64) -> f64
 
 // The square root of v, rounded to nearest: of ±0 and +∞ that number, of NaN and negatives NaN.
 pub fn sqrt(v: f64) -> f64
-    ensures { λ r. ⌜ r ≡ def.sqrt v ⌝ }
+    ensures { λ r. ⌜ r ≡ root.sqrt v ⌝ }
 {
     sqrt_guessed(v, 0)
 }
 
 // The same, sooner where near is at most a little off.
 pub fn sqrt_near(v: f64, near: f64) -> f64
-    ensures { λ r. ⌜ r ≡ def.sqrt v ⌝ }
+    ensures { λ r. ⌜ r ≡ root.sqrt v ⌝ }
 {
     if near > 0.0 {
         return sqrt_guessed(v, f64::to_bits(near));

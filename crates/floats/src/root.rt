@@ -4,7 +4,7 @@ ghost use mathlib.Core.Path.{_≡_};
 ghost use Prim.Native.Nat.{_+_, _*_, _^_, _≤_, _<_};
 ghost use lib.Ieee.{binary64, ofBits};
 ghost use Rattle.floats.specs.Rough as rough;
-ghost use Rattle.floats.specs.Sqrt as def;
+ghost use Rattle.floats.specs.Sqrt as root;
 
 // The whole part of √(s * 2^54), a binary digit a turn: r is the root of the digits taken so far, and rest what r * r leaves of them.
 fn digits(s: u64) -> u64
@@ -101,7 +101,7 @@ fn guess(x: u64, near: u64) -> u64
 // The pattern of the root of the value whose pattern is b, which may be guessed to be near.
 pub fn root_bits(b: u64, near: u64) -> u64
     requires { ⌜ (0 < b) × (b < 0x7ff0_0000_0000_0000) ⌝ }
-    ensures { λ r. ⌜ (ofBits binary64 r ≡ def.sqrt (ofBits binary64 b)) × (r < 0x7ff0_0000_0000_0000) ⌝ }
+    ensures { λ r. ⌜ (ofBits binary64 r ≡ root.sqrt (ofBits binary64 b)) × (r < 0x7ff0_0000_0000_0000) ⌝ }
 {
     // the value is s * 2^e times 2^-2148, with 2^52 <= s < 2^53
     let t = b % 0x10_0000_0000_0000;

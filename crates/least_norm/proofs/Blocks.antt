@@ -20,7 +20,7 @@ use Rattle.floats.specs.Sums.{gathered}
 use Rattle.floats.proofs.Sums.{gathered-ext}
 use Rattle.floats.proofs.Commute.{product-comm}
 use Rattle.least_norm.specs.Reflector.{reflect}
-use Rattle.least_norm.specs.LeastNorm as def
+use Rattle.least_norm.specs.LeastNorm as least
 use Rattle.least_norm.specs.Private as private
 use Rattle.least_norm.specs.Private.{less, factor}
 use Rattle.least_norm.specs.Blocks.{squares, products, lessRows}
@@ -28,8 +28,8 @@ use Rattle.least_norm.specs.Blocks.{squares, products, lessRows}
 -- ---- norms and products
 
 pub norms-are : (a : List Float) (n j m c k : ℕ) (s : List Float) → k ≤ length s → j ≤ m → (t : ℕ) → t < k → at s t ≡ 0ᶠ
-    → at (squares a n c k s j m) t ≡ def.norm2 a n (c + t) j m
-unfolding squares def.norm2 updated gathered
+    → at (squares a n c k s j m) t ≡ least.norm2 a n (c + t) j m
+unfolding squares least.norm2 updated gathered
 norms-are a n j m c k s f h t u z =
     rows-are nan (λ r t x. x ⊕ at a (r * n + c + t) ⊗ at a (r * n + c + t)) j 0 k s f (omega arith) m t h (omega arith) u
     ∙ rw z (between-ext 0ᶠ _ _ j m h λ r x l g. rw (add-assoc (r * n) c t))

@@ -18,7 +18,7 @@ use Rattle.loops.proofs.Fill.{tab-length}
 use Rattle.floats.specs.Ops.{_⊗_, _⊘_, at, 0ᶠ}
 use Rattle.floats.proofs.Sums.{gathered-ext}
 use Rattle.least_norm.specs.declared.Pivot.{Pivot}
-use Rattle.least_norm.specs.LeastNorm as def
+use Rattle.least_norm.specs.LeastNorm as least
 use Rattle.least_norm.specs.Starts as starts
 use Rattle.least_norm.specs.Private as private
 use Rattle.least_norm.proofs.Runs.{solved-run, turned-none, cleared-none}
@@ -119,13 +119,13 @@ module _ (n : ℕ) (a b x z : List Float) (lx : length x ≡ n) (lz : length z �
 -- ---- zeros to start from
 
 pub zeros-substituted : (n rank : ℕ) (a b y z : List Float) → y ≡ starts.substituted z n rank a b 0 → z ≡ replicate n 0ᶠ
-    → y ≡ def.substituted n rank a b 0
-unfolding starts.substituted def.substituted private.known
+    → y ≡ least.substituted n rank a b 0
+unfolding starts.substituted least.substituted private.known
 zeros-substituted n rank a b y z e q = rw (e, q)
 
 zeros-unpermuted : (n k : ℕ) (perm : List ℕ) (y x z : List Float) → x ≡ starts.unpermuted z perm y k
-    → z ≡ replicate n 0ᶠ → x ≡ def.unpermuted n perm y k
-unfolding starts.unpermuted def.unpermuted
+    → z ≡ replicate n 0ᶠ → x ≡ least.unpermuted n perm y k
+unfolding starts.unpermuted least.unpermuted
 zeros-unpermuted n k perm y x z e q = rw (e, q)
 
 -- ---- the columns' order has every column
@@ -183,52 +183,52 @@ module _ (n j c : ℕ) (l : List ℕ) (j-in : j < n) (c-in : c < n) (fine : Fine
 module _ (a : List Float) (m n j : ℕ) where
   better-in : (c : ℕ) (p : Pivot) → c < n → p .col < n → private.better a m n j c p .col < n
   unfolding private.better private.picked
-  better-in c p h k = go (lt (p .norm) (def.norm2 a n c j m))
+  better-in c p h k = go (lt (p .norm) (least.norm2 a n c j m))
     where
-      go : (b : Bool) → cond b (record { col = c; norm = def.norm2 a n c j m }) p .col < n
+      go : (b : Bool) → cond b (record { col = c; norm = least.norm2 a n c j m }) p .col < n
       go true = h
       go false = k
 
-  pivot-in : j < n → def.pivot a m n j .col < n
-  unfolding def.pivot private.better private.picked between
+  pivot-in : j < n → least.pivot a m n j .col < n
+  unfolding least.pivot private.better private.picked between
   pivot-in h =
-      turns-keep (λ t. private.better a m n j (suc j + t)) (record { col = j; norm = def.norm2 a n j j m })
+      turns-keep (λ t. private.better a m n j (suc j + t)) (record { col = j; norm = least.norm2 a n j j m })
       (λ t p. p .col < n) (n - suc j) h (λ i p l k. better-in (suc j + i) p (omega arith) k)
 
 module _ (m n j : ℕ) (h : j < n) where
-  brought-fine : (c : ℕ) (s : def.Factors) → c < n → Fine n (s .perm) → Fine n (def.brought m n j c s .perm)
-  unfolding def.brought private.swapColumns
+  brought-fine : (c : ℕ) (s : least.Factors) → c < n → Fine n (s .perm) → Fine n (least.brought m n j c s .perm)
+  unfolding least.brought private.swapColumns
   brought-fine c s k f = go (eqb c j)
     where
-      go : (b : Bool) → Fine n (cond b s (def.factors (private.swapColumns n j c (s .a) m) (s .b) (swap 0 (s .perm) j c)) .perm)
+      go : (b : Bool) → Fine n (cond b s (least.factors (private.swapColumns n j c (s .a) m) (s .b) (swap 0 (s .perm) j c)) .perm)
       go true = f
       go false = swapped-fine n j c (s .perm) h k f
 
-  reduce-fine : (r : def.Reduced) → Fine n (def.left r .perm) → Fine n (def.left (def.reduce m n j r) .perm)
-  unfolding def.reduce def.eliminated
-  reduce-fine (def.ended r s) f = f
-  reduce-fine (def.going s) f = go (eq (def.pivot (s .a) m n j .norm) 0ᶠ) (brought-fine (def.pivot (s .a) m n j .col) s (pivot-in (s .a) m n j h) f)
+  reduce-fine : (r : least.Reduced) → Fine n (least.left r .perm) → Fine n (least.left (least.reduce m n j r) .perm)
+  unfolding least.reduce least.eliminated
+  reduce-fine (least.ended r s) f = f
+  reduce-fine (least.going s) f = go (eq (least.pivot (s .a) m n j .norm) 0ᶠ) (brought-fine (least.pivot (s .a) m n j .col) s (pivot-in (s .a) m n j h) f)
     where
-      go : (b : Bool) → Fine n (def.brought m n j (def.pivot (s .a) m n j .col) s .perm)
+      go : (b : Bool) → Fine n (least.brought m n j (least.pivot (s .a) m n j .col) s .perm)
           → Fine n
-          (def.left
-          (cond b (def.ended j (def.brought m n j (def.pivot (s .a) m n j .col) s)) (def.going (def.eliminated m n j (def.brought m n j (def.pivot (s .a) m n j .col) s)))) .perm)
+          (least.left
+          (cond b (least.ended j (least.brought m n j (least.pivot (s .a) m n j .col) s)) (least.going (least.eliminated m n j (least.brought m n j (least.pivot (s .a) m n j .col) s)))) .perm)
       go true g = g
       go false g = g
 
-reduced-fine : (m n : ℕ) (a b : List Float) (k : ℕ) → k ≤ n → Fine n (def.left (def.reduced m n a b k) .perm)
-unfolding def.reduced
+reduced-fine : (m n : ℕ) (a b : List Float) (k : ℕ) → k ≤ n → Fine n (least.left (least.reduced m n a b k) .perm)
+unfolding least.reduced
 reduced-fine m n a b k h =
-    turns-keep (def.reduce m n) (def.going (def.factors a b (tab (λ (i : ℕ). i) n))) (λ t r. Fine n (def.left r .perm))
+    turns-keep (least.reduce m n) (least.going (least.factors a b (tab (λ (i : ℕ). i) n))) (λ t r. Fine n (least.left r .perm))
     k (fine-start n) (λ j r l f. reduce-fine m n j (omega arith) r f)
 
-pub onto-run : (m n : ℕ) (a b : List Float) (k c : ℕ) (s : def.Factors) → private.Stopped k (def.reduced m n a b k) c s
+pub onto-run : (m n : ℕ) (a b : List Float) (k c : ℕ) (s : least.Factors) → private.Stopped k (least.reduced m n a b k) c s
     → k ≤ n → private.Onto n (s .perm)
-onto-run m n a b k c s e h = subst (λ (s : def.Factors). private.Onto n (s .perm)) (sym (e .factors)) (reduced-fine m n a b k h .1)
+onto-run m n a b k c s e h = subst (λ (s : least.Factors). private.Onto n (s .perm)) (sym (e .factors)) (reduced-fine m n a b k h .1)
 
 -- so the order's start does not show
 pub order-run : (n : ℕ) (perm : List ℕ) (x z y : List Float) → x ≡ starts.unpermuted z perm y (length perm)
-    → length perm ≡ n → length z ≡ n → private.Onto n perm → x ≡ def.unpermuted (length perm) perm y (length perm)
+    → length perm ≡ n → length z ≡ n → private.Onto n perm → x ≡ least.unpermuted (length perm) perm y (length perm)
 order-run n perm x z y e lp lz onto =
     let l : length (replicate n 0ᶠ) ≡ n = length-replicate n 0ᶠ in
     let g : x ≡ starts.unpermuted (replicate n 0ᶠ) perm y n =
@@ -239,7 +239,7 @@ order-run n perm x z y e lp lz onto =
 
 pub full-run : (n : ℕ) (a b : List Float) (perm : List ℕ) (x z y w : List Float)
     → x ≡ starts.unpermuted z perm y (length perm) → y ≡ starts.substituted w n n a b 0 → length perm ≡ n → length z ≡ n
-    → length w ≡ n → private.Onto n perm → 0 < n → def.solution n a b x ≡ def.solved n (def.factors a b perm) n
+    → length w ≡ n → private.Onto n perm → 0 < n → least.solution n a b x ≡ least.solved n (least.factors a b perm) n
 full-run n a b perm x z y w ex ey lp lz lw onto h =
     let l : length (replicate n 0ᶠ) ≡ n = length-replicate n 0ᶠ in
     let fy = zeros-substituted n n a b y (replicate n 0ᶠ) (ey ∙ substituted-any n a b w (replicate n 0ᶠ) lw l) refl in
@@ -247,6 +247,6 @@ full-run n a b perm x z y w ex ey lp lz lw onto h =
     solved-run n n a b perm x y y (replicate (n * n) 0ᶠ) a (order-run n perm x z y ex lp lz onto) lp
     (turned-none n n (replicate (n * n) 0ᶠ) y k) fy (cleared-none n n a (replicate (n * n) 0ᶠ) (n * n) refl refl k) h
 
-pub full-at : (n rank : ℕ) (a b x : List Float) (s : def.Factors) → rank ≡ n → def.solution n a b x ≡ def.solved n s n
-    → def.solution rank a b x ≡ def.solved n s rank
+pub full-at : (n rank : ℕ) (a b x : List Float) (s : least.Factors) → rank ≡ n → least.solution n a b x ≡ least.solved n s n
+    → least.solution rank a b x ≡ least.solved n s rank
 full-at n rank a b x s q e = rw q e

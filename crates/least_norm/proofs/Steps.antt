@@ -10,7 +10,7 @@ use Rattle.loops.specs.Updates.{updated}
 use Rattle.loops.proofs.Turns.{between-from, between-again, between-done, downward-from, downward-again, downward-done, turns-from, turns-again, turns-done}
 use Rattle.loops.proofs.Updates.{updated-start, updated-again, updated-done}
 use Rattle.floats.specs.Ops.{_⊕_, _⊗_, _⊘_, at, 0ᶠ}
-use Rattle.least_norm.specs.LeastNorm as def
+use Rattle.least_norm.specs.LeastNorm as least
 use Rattle.least_norm.specs.Starts as starts
 use Rattle.least_norm.specs.Private as private
 use Rattle.least_norm.specs.Private.{less}
@@ -79,8 +79,8 @@ module _ (n j : ℕ) (a : List Float) where
   unfolding private.zeroBelow
   zeroBelow-done i m s g h e = updated-done nan _ _ (suc j) a i m s g h e
 
-pub cleared-from : (n rank : ℕ) (a right : List Float) → right ≡ replicate (rank * n) 0ᶠ → def.trapezoid a right ≡ def.cleared n rank a rank
-unfolding def.cleared
+pub cleared-from : (n rank : ℕ) (a right : List Float) → right ≡ replicate (rank * n) 0ᶠ → least.trapezoid a right ≡ least.cleared n rank a rank
+unfolding least.cleared
 cleared-from n rank a right e = rw e (downward-from _ _ rank)
 
 module _ (y₀ : List Float) (n rank : ℕ) (a b : List Float) where

@@ -14,7 +14,7 @@ use Rattle.floats.specs.Helpers.{abs}
 use Rattle.floats.specs.Sums.{gathered}
 use Rattle.floats.specs.Sqrt.{sqrt, nearestRoot, wholeRoot}
 use Rattle.least_norm.specs.Reflector.{beta, reflect}
-use Rattle.least_norm.specs.LeastNorm as def
+use Rattle.least_norm.specs.LeastNorm as least
 use Rattle.least_norm.specs.Promise.{Reply, refused, answered, reply, replyNumber}
 
 same : List ℕ → List ℕ → Bool
@@ -186,6 +186,6 @@ unfolding
     same answers solves refuses all cases reply
     add sub mul div ofBits toBits lt le eq ne neg
     turns between downward tab swap updated gathered abs sqrt nearestRoot wholeRoot beta reflect
-    def.norm2 def.pivot def.brought def.eliminated def.reduce def.reduced def.leading def.cleared def.substituted
-    def.turned def.unpermuted def.solved def.leastNorm
+    least.norm2 least.pivot least.brought least.eliminated least.reduce least.reduced least.leading least.cleared least.substituted
+    least.turned least.unpermuted least.solved least.leastNorm
 cases-hold = refl

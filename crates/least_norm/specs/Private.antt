@@ -16,7 +16,7 @@ use Rattle.least_norm.specs.Reflector.{beta, reflect}
 use Rattle.least_norm.specs.declared.Householder.{Householder}
 use Rattle.least_norm.specs.declared.Pivot.{Pivot}
 use Rattle.least_norm.specs.declared.Scan.{Scan}
-use Rattle.least_norm.specs.LeastNorm as def
+use Rattle.least_norm.specs.LeastNorm as least
 
 -- a holds m rows of n entries, few enough
 abbrev pub Matrix : List Float → ℕ → ℕ → Type 0
@@ -69,7 +69,7 @@ unfoldable pub picked : ℕ → Float → Pivot → Pivot
 picked c norm best = cond (lt (best .norm) norm) (record { col = c; norm = norm }) best
 
 unfoldable pub better : List Float → ℕ → ℕ → ℕ → ℕ → Pivot → Pivot
-better a m n j c best = picked c (def.norm2 a n c j m) best
+better a m n j c best = picked c (least.norm2 a n c j m) best
 
 unfoldable pub swapColumns : ℕ → ℕ → ℕ → List Float → ℕ → List Float
 swapColumns n j c a m = turns m a λ row a. swap nan a (row * n + j) (row * n + c)
@@ -78,7 +78,7 @@ swapColumns n j c a m = turns m a λ row a. swap nan a (row * n + j) (row * n + 
 unfoldable pub householder : List Float → ℕ → ℕ → ℕ → Householder
 householder a m n j =
     let alpha = at a (j * n + j) in
-    let sigma = def.norm2 a n j (suc j) m in
+    let sigma = least.norm2 a n j (suc j) m in
     let v0 = alpha ⊖ beta alpha sigma in
     record { beta = beta alpha sigma; v0 = v0; vtv = v0 ⊗ v0 ⊕ sigma }
 
@@ -107,13 +107,13 @@ reflectRow n rank i right u0 utu row a = reflect (row * n + i) (λ c. row * n + 
 unfoldable pub reflectRows : ℕ → ℕ → ℕ → List Float → Float → Float → List Float → ℕ → List Float
 reflectRows n rank i right u0 utu a rows = turns rows a (reflectRow n rank i right u0 utu)
 
-unfoldable pub clear : ℕ → ℕ → ℕ → def.Trapezoid → def.Trapezoid
+unfoldable pub clear : ℕ → ℕ → ℕ → least.Trapezoid → least.Trapezoid
 clear n rank i s =
     let alpha = at (s .a) (i * n + i) in
     let sigma = rowNorm2 n rank i (s .a) 0ᶠ in
     let u0 = alpha ⊖ beta alpha sigma in
     let right = keptRow n rank i (s .a) (set (s .right) (i * n + i) u0) in
-    cond (eq sigma 0ᶠ) s (def.trapezoid (reflectRows n rank i right u0 (u0 ⊗ u0 ⊕ sigma) (s .a) (suc i)) right)
+    cond (eq sigma 0ᶠ) s (least.trapezoid (reflectRows n rank i right u0 (u0 ⊗ u0 ⊕ sigma) (s .a) (suc i)) right)
 
 -- the row at which clearing ends
 unfoldable pub lastCleared : ℕ → ℕ → ℕ
@@ -148,12 +148,12 @@ pub record Reflects (a : List Float) (m n j : ℕ) (h : Householder) (v : List F
   pub below : (row : ℕ) → suc j ≤ row → row < m → at v row ≡ at a (row * n + j)
 
 -- one column's work left s: it goes on, or it does not
-abbrev pub standing : Bool → ℕ → def.Factors → def.Reduced
-standing true j s = def.going s
-standing false j s = def.ended j s
+abbrev pub standing : Bool → ℕ → least.Factors → least.Reduced
+standing true j s = least.going s
+standing false j s = least.ended j s
 
 -- r columns were reduced, of k, and s is left
-pub record Stopped (k : ℕ) (red : def.Reduced) (r : ℕ) (s : def.Factors) : Type 0 where
-  pub columns : r ≡ def.columns k red
+pub record Stopped (k : ℕ) (red : least.Reduced) (r : ℕ) (s : least.Factors) : Type 0 where
+  pub columns : r ≡ least.columns k red
   pub most : r ≤ k
-  pub factors : s ≡ def.left red
+  pub factors : s ≡ least.left red

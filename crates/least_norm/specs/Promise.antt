@@ -9,7 +9,7 @@ use lib.ListN.{length, drop}
 use lib.Ieee.{Float}
 use Rattle.least_norm.specs.declared.Outcome.{Outcome}
 use Rattle.least_norm.specs.declared.Outcome.the-variants.{Rank, Refused}
-use Rattle.least_norm.specs.LeastNorm as def
+use Rattle.least_norm.specs.LeastNorm as least
 
 -- ---- the public call
 
@@ -19,10 +19,10 @@ fits m n a b x room = leb m 32 && leb n 32 && eqb (length a) (m * n) && eqb (len
 
 pub data Reply : Type 0 where
   refused : ℕ → Reply
-  answered : def.Solution → Reply
+  answered : least.Solution → Reply
 
 unfoldable pub reply : ℕ → ℕ → List Float → List Float → List Float → ℕ → Reply
-reply m n a b x room = cond (fits m n a b x room) (answered (def.leastNorm m n a b)) (refused 12)
+reply m n a b x room = cond (fits m n a b x room) (answered (least.leastNorm m n a b)) (refused 12)
 
 -- each case of the answer: document 01's number, 0 where the call is accepted, and the rank
 abbrev pub number : Outcome → ℕ

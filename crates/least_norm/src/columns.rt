@@ -8,7 +8,7 @@ ghost use lib.Ieee.{Float, nan};
 ghost use Rattle.loops.specs.Loops.{between};
 ghost use Rattle.loops.specs.Updates.{updated};
 ghost use Rattle.floats.specs.Ops.{at};
-ghost use Rattle.least_norm.specs.LeastNorm as def;
+ghost use Rattle.least_norm.specs.LeastNorm as least;
 ghost use Rattle.least_norm.specs.Blocks as blocks;
 ghost use Rattle.least_norm.specs.Private as private;
 ghost use Rattle.least_norm.specs.Private.{Matrix, Reflects};
@@ -188,8 +188,8 @@ pub fn eliminate(
 )
     requires { ⌜ Matrix (now a) m n × (j < m) × (j < n) × (length (now b) ≡ m) × (m ≤ length (now v)) ⌝ }
     ensures { λ r. ⌜ ((p : List ℕ)
-        → def.factors (now (a .exit)) (now (b .exit)) p
-        ≡ def.eliminated m n j (def.factors (now (a .entry)) (now (b .entry)) p)) ⌝ }
+        → least.factors (now (a .exit)) (now (b .exit)) p
+        ≡ least.eliminated m n j (least.factors (now (a .entry)) (now (b .entry)) p)) ⌝ }
 {
     let h = householder(a, m, n, j, v, near);
     reflect_columns(a, m, n, j, v, h.vtv);

@@ -5,7 +5,7 @@ ghost use Prim.Native.Nat.{ℕ, _+_, _*_, _≤_, _<_, min};
 ghost use lib.ListN.{length, drop, replicate};
 ghost use Rattle.loops.specs.Loops.{tab};
 ghost use Rattle.floats.specs.Ops.{0ᶠ};
-ghost use Rattle.least_norm.specs.LeastNorm as def;
+ghost use Rattle.least_norm.specs.LeastNorm as least;
 ghost use Rattle.least_norm.specs.Private as private;
 ghost use Rattle.least_norm.specs.Promise as promise;
 
@@ -84,8 +84,8 @@ fn reduce(
     v: &mut [f64],
 ) -> bool
     requires { ⌜ private.Reducing (now a) m n (now b) (now perm) (now v) × (j < m) × (j < n) ⌝ }
-    ensures { λ r. ⌜ private.standing r j (def.factors (now (a .exit)) (now (b .exit)) (now (perm .exit)))
-        ≡ def.reduce m n j (def.going (def.factors (now (a .entry)) (now (b .entry)) (now (perm .entry)))) ⌝ }
+    ensures { λ r. ⌜ private.standing r j (least.factors (now (a .exit)) (now (b .exit)) (now (perm .exit)))
+        ≡ least.reduce m n j (least.going (least.factors (now (a .entry)) (now (b .entry)) (now (perm .entry)))) ⌝ }
 {
     let p = pivoting::find_pivot(a, m, n, j);
     let near = floats::sqrt_rough(p.norm);
@@ -109,8 +109,8 @@ fn reduce_columns(
 ) -> usize
     requires { ⌜ private.Reducing (now a) m n (now b) (now perm) (now v) × (k ≤ m) × (k ≤ n)
         × (now perm ≡ tab (λ (i : ℕ). i) n) ⌝ }
-    ensures { λ r. ⌜ private.Stopped k (def.reduced m n (now (a .entry)) (now (b .entry)) k) r
-        (def.factors (now (a .exit)) (now (b .exit)) (now (perm .exit))) ⌝ }
+    ensures { λ r. ⌜ private.Stopped k (least.reduced m n (now (a .entry)) (now (b .entry)) k) r
+        (least.factors (now (a .exit)) (now (b .exit)) (now (perm .exit))) ⌝ }
 {
     let mut j = 0;
     while j < k {
@@ -137,8 +137,8 @@ fn solve_ranked(
     requires { ⌜ private.Trapezoidal (now a) m n rank (now right) × (0 < rank) × (length (now b) ≡ m)
         × (length (now perm) ≡ n) × (length (now y) ≡ n) × (now y ≡ replicate n 0ᶠ) × (length (now x) ≡ n)
         × private.Onto n (now perm) ⌝ }
-    ensures { λ r. ⌜ def.solution rank (now (a .exit)) (now (b .entry)) (now (x .exit))
-        ≡ def.solved n (def.factors (now (a .entry)) (now (b .entry)) (now (perm .entry))) rank ⌝ }
+    ensures { λ r. ⌜ least.solution rank (now (a .exit)) (now (b .entry)) (now (x .exit))
+        ≡ least.solved n (least.factors (now (a .entry)) (now (b .entry)) (now (perm .entry))) rank ⌝ }
 {
     trapezoid::clear(a, m, n, rank, right);
     solution::substitute(a, m, n, rank, b, y);
@@ -151,8 +151,8 @@ fn solve_ranked(
 fn solve_full(a: &[f64], m: usize, n: usize, b: &[f64], x: &mut [f64], perm: &[u8], y: &mut [f64])
     requires { ⌜ private.Matrix (now a) m n × (0 < n) × (n ≤ m) × (length (now b) ≡ m) × (length (now x) ≡ n)
         × (length (now perm) ≡ n) × (length (now y) ≡ n) × private.Onto n (now perm) ⌝ }
-    ensures { λ r. ⌜ def.solution n (now (a .entry)) (now (b .entry)) (now (x .exit))
-        ≡ def.solved n (def.factors (now (a .entry)) (now (b .entry)) (now (perm .entry))) n ⌝ }
+    ensures { λ r. ⌜ least.solution n (now (a .entry)) (now (b .entry)) (now (x .exit))
+        ≡ least.solved n (least.factors (now (a .entry)) (now (b .entry)) (now (perm .entry))) n ⌝ }
 {
     solution::substitute(a, m, n, n, b, y);
     solution::unpermute(perm, y, x);
@@ -172,8 +172,8 @@ fn solve_at(
 )
     requires { ⌜ private.Matrix (now a) m n × (rank ≤ m) × (rank ≤ n) × (length (now b) ≡ m) × (length (now perm) ≡ n)
         × (1056 ≤ length (now workspace)) × (length (now y) ≡ n) × (length (now x) ≡ n) × private.Onto n (now perm) ⌝ }
-    ensures { λ r. ⌜ (def.solution rank (now (a .exit)) (now (b .entry)) (now (x .exit))
-        ≡ def.solved n (def.factors (now (a .entry)) (now (b .entry)) (now (perm .entry))) rank)
+    ensures { λ r. ⌜ (least.solution rank (now (a .exit)) (now (b .entry)) (now (x .exit))
+        ≡ least.solved n (least.factors (now (a .entry)) (now (b .entry)) (now (perm .entry))) rank)
         × (drop 1056 (now (workspace .exit)) ≡ drop 1056 (now (workspace .entry))) ⌝ }
 {
     if rank == 0 {
@@ -202,8 +202,8 @@ fn least_norm(
 ) -> usize
     requires { ⌜ private.Reducing (now a) m n (now b) (now perm) (now v) × (length (now x) ≡ n) × (n ≤ length (now v))
         × (1056 ≤ length (now workspace)) ⌝ }
-    ensures { λ r. ⌜ (def.solution r (now (a .exit)) (now (b .exit)) (now (x .exit))
-        ≡ def.leastNorm m n (now (a .entry)) (now (b .entry)))
+    ensures { λ r. ⌜ (least.solution r (now (a .exit)) (now (b .exit)) (now (x .exit))
+        ≡ least.leastNorm m n (now (a .entry)) (now (b .entry)))
         × (drop 1056 (now (workspace .exit)) ≡ drop 1056 (now (workspace .entry))) × (r ≤ 32) ⌝ }
 {
     count_up(perm);

@@ -2,14 +2,14 @@
 ghost use mathlib.Core.Path.{_≡_};
 ghost use Prim.Native.Nat.{_≤_};
 ghost use lib.ListN.{length};
-ghost use Rattle.least_norm.specs.LeastNorm as def;
+ghost use Rattle.least_norm.specs.LeastNorm as least;
 use crate::reflect;
 
 // LeastNorm::solve for one row and one column. The steps are those of the whole, in their order.
 pub fn solve(a: &mut [f64], b: &mut [f64], x: &mut [f64]) -> usize
     requires { ⌜ (length (now a) ≡ 1) × (length (now b) ≡ 1) × (length (now x) ≡ 1) ⌝ }
-    ensures { λ r. ⌜ (def.solution r (now (a .exit)) (now (b .exit)) (now (x .exit))
-        ≡ def.leastNorm 1 1 (now (a .entry)) (now (b .entry)))
+    ensures { λ r. ⌜ (least.solution r (now (a .exit)) (now (b .exit)) (now (x .exit))
+        ≡ least.leastNorm 1 1 (now (a .entry)) (now (b .entry)))
         × (r ≤ 32) ⌝ }
 {
     let alpha = a[0];

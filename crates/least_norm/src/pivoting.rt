@@ -7,7 +7,7 @@ ghost use lib.ListN.{length};
 ghost use lib.Ieee.{Float, nan};
 ghost use Rattle.loops.specs.Loops.{between, swap};
 ghost use Rattle.floats.specs.Ops.{at};
-ghost use Rattle.least_norm.specs.LeastNorm as def;
+ghost use Rattle.least_norm.specs.LeastNorm as least;
 ghost use Rattle.least_norm.specs.Blocks.{lanes, zeros, squares};
 ghost use Rattle.least_norm.specs.Private as private;
 ghost use Rattle.least_norm.specs.Private.{Matrix, Scanned};
@@ -21,7 +21,7 @@ use crate::vector;
 // The squared norm of column c, from row j down.
 fn column_norm2(a: &[f64], m: usize, n: usize, c: usize, j: usize) -> f64
     requires { ⌜ Matrix (now a) m n × (j ≤ m) × (c < n) ⌝ }
-    ensures { λ r. ⌜ r ≡ def.norm2 (now (a .entry)) n c j m ⌝ }
+    ensures { λ r. ⌜ r ≡ least.norm2 (now (a .entry)) n c j m ⌝ }
 {
     vector::dot(0.0, a, c, n, a, c, n, j, m)
 }
@@ -101,7 +101,7 @@ fn pick_each(a: &[f64], m: usize, n: usize, j: usize, c: usize, best: Pivot) -> 
 // The column of greatest norm from row j down, from column j on; the first of equals.
 pub fn find_pivot(a: &[f64], m: usize, n: usize, j: usize) -> Pivot
     requires { ⌜ Matrix (now a) m n × (j < n) × (j ≤ m) ⌝ }
-    ensures { λ r. ⌜ (r ≡ def.pivot (now (a .entry)) m n j) × (r .col < n) ⌝ }
+    ensures { λ r. ⌜ (r ≡ least.pivot (now (a .entry)) m n j) × (r .col < n) ⌝ }
 {
     let norm = column_norm2(a, m, n, j, j);
     let e = pick_fours(a, m, n, j, j + 1, Pivot { col: j, norm: norm });
@@ -142,8 +142,8 @@ fn swap_entries(perm: &mut [u8], j: usize, c: usize)
 pub fn bring(a: &mut [f64], m: usize, n: usize, j: usize, c: usize, perm: &mut [u8])
     requires { ⌜ Matrix (now a) m n × (j < n) × (c < n) × (length (now perm) ≡ n) ⌝ }
     ensures { λ r. ⌜ ((b : List Float)
-        → def.factors (now (a .exit)) b (now (perm .exit))
-        ≡ def.brought m n j c (def.factors (now (a .entry)) b (now (perm .entry)))) ⌝ }
+        → least.factors (now (a .exit)) b (now (perm .exit))
+        ≡ least.brought m n j c (least.factors (now (a .entry)) b (now (perm .entry)))) ⌝ }
 {
     if c == j {
         return;

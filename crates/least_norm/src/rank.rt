@@ -1,7 +1,7 @@
 // The rank: how many leading diagonal entries are above 1e-11 of the first.
 ghost use mathlib.Core.Path.{_≡_};
 ghost use Prim.Native.Nat.{_+_, _≤_, _<_};
-ghost use Rattle.least_norm.specs.LeastNorm as def;
+ghost use Rattle.least_norm.specs.LeastNorm as least;
 ghost use Rattle.least_norm.specs.Private as private;
 ghost use Rattle.least_norm.specs.Private.{Matrix};
 use crate::place;
@@ -18,7 +18,7 @@ fn leads(a: &[f64], m: usize, n: usize, i: usize) -> bool
 // How many of the first k entries lead before one does not.
 pub fn leading(a: &[f64], m: usize, n: usize, k: usize) -> usize
     requires { ⌜ Matrix (now a) m n × (k ≤ m) × (k ≤ n) ⌝ }
-    ensures { λ r. ⌜ (r ≡ def.leading n (now (a .entry)) k) × (r ≤ k) ⌝ }
+    ensures { λ r. ⌜ (r ≡ least.leading n (now (a .entry)) k) × (r ≤ k) ⌝ }
 {
     let mut i = 0;
     while i < k {

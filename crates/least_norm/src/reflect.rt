@@ -4,7 +4,7 @@ ghost use Prim.Native.Nat.{ℕ, _+_, _*_, _≤_, _<_};
 ghost use lib.ListN.{length};
 ghost use Rattle.floats.specs.Ops.{at, _⊕_, _⊗_};
 ghost use Rattle.floats.specs.Sqrt.{sqrt};
-ghost use Rattle.least_norm.specs.Reflector as def;
+ghost use Rattle.least_norm.specs.Reflector as reflector;
 ghost use Rattle.least_norm.specs.Private.{Part, Strided};
 use crate::vector;
 
@@ -27,7 +27,7 @@ fn norm(alpha: f64, sigma: f64, near: f64) -> f64
 
 // The same with the sign that alpha does not have.
 pub fn beta(alpha: f64, sigma: f64, near: f64) -> f64
-    ensures { λ r. ⌜ r ≡ def.beta alpha sigma ⌝ }
+    ensures { λ r. ⌜ r ≡ reflector.beta alpha sigma ⌝ }
 {
     let root = norm(alpha, sigma, near);
     if alpha >= 0.0 { -root } else { root }
@@ -49,7 +49,7 @@ pub fn reflect(
 )
     requires { ⌜ (first < length (now z)) × Strided (now z) p k lo hi × Part (now u) q lo hi ⌝ }
     ensures { λ r. ⌜ now (z .exit)
-        ≡ def.reflect first (λ (t : ℕ). p + t * k) u0 (λ (t : ℕ). at (now (u .entry)) (q + t)) utu lo hi
+        ≡ reflector.reflect first (λ (t : ℕ). p + t * k) u0 (λ (t : ℕ). at (now (u .entry)) (q + t)) utu lo hi
         (now (z .entry)) ⌝ }
 {
     let f = 2.0 * vector::dot(u0 * z[first], u, q, 1, z, p, k, lo, hi) / utu;

@@ -2,7 +2,7 @@
 ghost use mathlib.Core.Path.{_≡_};
 ghost use Prim.Native.Nat.{_+_, _*_, _≤_, _<_};
 ghost use lib.ListN.{length, set};
-ghost use Rattle.least_norm.specs.LeastNorm as def;
+ghost use Rattle.least_norm.specs.LeastNorm as least;
 ghost use Rattle.least_norm.specs.Starts as starts;
 ghost use Rattle.least_norm.specs.Private as private;
 ghost use Rattle.least_norm.specs.Private.{Matrix, Turning};
@@ -49,7 +49,7 @@ fn turn(right: &[f64], n: usize, rank: usize, i: usize, y: &mut [f64])
 
 fn turn_each(right: &[f64], n: usize, rank: usize, y: &mut [f64])
     requires { ⌜ Turning (now right) n rank (now y) ⌝ }
-    ensures { λ r. ⌜ now (y .exit) ≡ def.turned n rank (now (right .entry)) (now (y .entry)) rank ⌝ }
+    ensures { λ r. ⌜ now (y .exit) ≡ least.turned n rank (now (right .entry)) (now (y .entry)) rank ⌝ }
 {
     let mut i = 0;
     while i < rank {
@@ -62,7 +62,7 @@ fn turn_each(right: &[f64], n: usize, rank: usize, y: &mut [f64])
 pub fn turn_back(right: &[f64], n: usize, rank: usize, y: &mut [f64])
     requires { ⌜ Turning (now right) n rank (now y) ⌝ }
     ensures { λ r. ⌜ now (y .exit)
-        ≡ def.turned n rank (now (right .entry)) (now (y .entry)) (private.firstTurned n rank) ⌝ }
+        ≡ least.turned n rank (now (right .entry)) (now (y .entry)) (private.firstTurned n rank) ⌝ }
 {
     if rank < n {
         turn_each(right, n, rank, y);

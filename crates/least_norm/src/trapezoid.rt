@@ -4,7 +4,7 @@ ghost use mathlib.Core.Path.{_≡_};
 ghost use Prim.Native.Nat.{suc, _+_, _*_, _≤_, _<_};
 ghost use lib.ListN.{length, replicate};
 ghost use Rattle.floats.specs.Ops.{0ᶠ};
-ghost use Rattle.least_norm.specs.LeastNorm as def;
+ghost use Rattle.least_norm.specs.LeastNorm as least;
 ghost use Rattle.least_norm.specs.Private as private;
 ghost use Rattle.least_norm.specs.Private.{Trapezoidal};
 use crate::place;
@@ -75,8 +75,8 @@ fn keep_row(a: &[f64], m: usize, n: usize, rank: usize, i: usize, right: &mut [f
 // Clears row i past the rank.
 fn clear_row(a: &mut [f64], m: usize, n: usize, rank: usize, i: usize, right: &mut [f64])
     requires { ⌜ Trapezoidal (now a) m n rank (now right) × (i < rank) ⌝ }
-    ensures { λ r. ⌜ def.trapezoid (now (a .exit)) (now (right .exit))
-        ≡ private.clear n rank i (def.trapezoid (now (a .entry)) (now (right .entry))) ⌝ }
+    ensures { λ r. ⌜ least.trapezoid (now (a .exit)) (now (right .exit))
+        ≡ private.clear n rank i (least.trapezoid (now (a .entry)) (now (right .entry))) ⌝ }
 {
     let alpha = place::cell(a, m, n, i, i);
     let sigma = row_norm2(a, m, n, rank, i, 0.0);
@@ -91,7 +91,7 @@ fn clear_row(a: &mut [f64], m: usize, n: usize, rank: usize, i: usize, right: &m
 
 fn clear_rows(a: &mut [f64], m: usize, n: usize, rank: usize, right: &mut [f64])
     requires { ⌜ Trapezoidal (now a) m n rank (now right) × (now right ≡ replicate (rank * n) 0ᶠ) ⌝ }
-    ensures { λ r. ⌜ def.trapezoid (now (a .exit)) (now (right .exit)) ≡ def.cleared n rank (now (a .entry)) 0 ⌝ }
+    ensures { λ r. ⌜ least.trapezoid (now (a .exit)) (now (right .exit)) ≡ least.cleared n rank (now (a .entry)) 0 ⌝ }
 {
     let mut i = rank;
     while i > 0 {
@@ -103,8 +103,8 @@ fn clear_rows(a: &mut [f64], m: usize, n: usize, rank: usize, right: &mut [f64])
 // The whole trapezoid; at full rank there is nothing to clear.
 pub fn clear(a: &mut [f64], m: usize, n: usize, rank: usize, right: &mut [f64])
     requires { ⌜ Trapezoidal (now a) m n rank (now right) ⌝ }
-    ensures { λ r. ⌜ def.trapezoid (now (a .exit)) (now (right .exit))
-        ≡ def.cleared n rank (now (a .entry)) (private.lastCleared n rank) ⌝ }
+    ensures { λ r. ⌜ least.trapezoid (now (a .exit)) (now (right .exit))
+        ≡ least.cleared n rank (now (a .entry)) (private.lastCleared n rank) ⌝ }
 {
     vector::zero(right);
     if rank < n {

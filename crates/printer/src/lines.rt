@@ -3,7 +3,7 @@ ghost use mathlib.Core.Path.{_≡_};
 ghost use mathlib.Core.List.{_++_};
 ghost use Prim.Native.Nat.{_≤_};
 ghost use lib.ListN.{length, getD};
-ghost use Rattle.printer.specs.Output as def;
+ghost use Rattle.printer.specs.Output as print;
 ghost use Rattle.printer.specs.Writing.{Wrote};
 use crate::write;
 use box_rows::AT_HI;
@@ -14,7 +14,7 @@ use boxed::Cause;
 
 pub fn cause_word(out: &mut [u8], at: usize, cause: Cause) -> usize
     requires { ⌜ at ≤ length (now out) ⌝ }
-    ensures { λ r. ⌜ Wrote (now (out .entry)) at (now (out .exit)) r (def.cause cause) ⌝ }
+    ensures { λ r. ⌜ Wrote (now (out .entry)) at (now (out .exit)) r (print.cause cause) ⌝ }
 {
     match cause {
         Cause::Growth => write::text(out, at, b"growth"),
@@ -27,7 +27,7 @@ pub fn cause_word(out: &mut [u8], at: usize, cause: Cause) -> usize
 pub fn opening(out: &mut [u8], at: usize, cause: Cause) -> usize
     requires { ⌜ at ≤ length (now out) ⌝ }
     ensures { λ r. ⌜ Wrote (now (out .entry)) at (now (out .exit)) r
-        (def.bytes "infeasible " ++ def.cause cause ++ def.newline) ⌝ }
+        (print.bytes "infeasible " ++ print.cause cause ++ print.newline) ⌝ }
 {
     let a = write::text(out, at, b"infeasible ");
     let b = cause_word(out, a, cause);
@@ -37,7 +37,7 @@ pub fn opening(out: &mut [u8], at: usize, cause: Cause) -> usize
 pub fn counts(out: &mut [u8], at: usize, sweeps: u32, passes: u32) -> usize
     requires { ⌜ at ≤ length (now out) ⌝ }
     ensures { λ r. ⌜ Wrote (now (out .entry)) at (now (out .exit)) r
-        ((def.bytes "sweeps " ++ def.decimal sweeps) ++ (def.bytes " passes " ++ def.decimal passes)) ⌝ }
+        ((print.bytes "sweeps " ++ print.decimal sweeps) ++ (print.bytes " passes " ++ print.decimal passes)) ⌝ }
 {
     let a = write::count(out, at, b"sweeps ", sweeps as u64);
     write::count(out, a, b" passes ", passes as u64)
@@ -46,7 +46,7 @@ pub fn counts(out: &mut [u8], at: usize, sweeps: u32, passes: u32) -> usize
 pub fn flags(out: &mut [u8], at: usize, converged: bool, exact: bool) -> usize
     requires { ⌜ at ≤ length (now out) ⌝ }
     ensures { λ r. ⌜ Wrote (now (out .entry)) at (now (out .exit)) r
-        ((def.bytes " converged " ++ def.flag converged) ++ (def.bytes " exact " ++ def.flag exact)) ⌝ }
+        ((print.bytes " converged " ++ print.flag converged) ++ (print.bytes " exact " ++ print.flag exact)) ⌝ }
 {
     let a = write::flag(out, at, b" converged ", converged);
     write::flag(out, a, b" exact ", exact)
@@ -55,8 +55,8 @@ pub fn flags(out: &mut [u8], at: usize, converged: bool, exact: bool) -> usize
 pub fn remains(out: &mut [u8], at: usize, idle: u32, residual: f64) -> usize
     requires { ⌜ at ≤ length (now out) ⌝ }
     ensures { λ r. ⌜ Wrote (now (out .entry)) at (now (out .exit)) r
-        ((def.bytes " idle " ++ def.decimal idle) ++ (def.bytes " residual " ++ def.pattern residual)
-        ++ def.newline) ⌝ }
+        ((print.bytes " idle " ++ print.decimal idle) ++ (print.bytes " residual " ++ print.pattern residual)
+        ++ print.newline) ⌝ }
 {
     let a = write::count(out, at, b" idle ", idle as u64);
     let b = write::bits(out, a, b" residual ", residual);
@@ -66,7 +66,7 @@ pub fn remains(out: &mut [u8], at: usize, idle: u32, residual: f64) -> usize
 // Line 2.
 pub fn report(out: &mut [u8], at: usize, r: BoxReport) -> usize
     requires { ⌜ at ≤ length (now out) ⌝ }
-    ensures { λ q. ⌜ Wrote (now (out .entry)) at (now (out .exit)) q (def.reportLine r) ⌝ }
+    ensures { λ q. ⌜ Wrote (now (out .entry)) at (now (out .exit)) q (print.reportLine r) ⌝ }
 {
     let a = counts(out, at, r.sweeps, r.exact_passes);
     let b = flags(out, a, r.converged, r.exact);
@@ -75,7 +75,7 @@ pub fn report(out: &mut [u8], at: usize, r: BoxReport) -> usize
 
 // The letter of a state: I, L, H or Z.
 pub fn letter(state: u8) -> u8
-    ensures { λ r. ⌜ r ≡ def.letter state ⌝ }
+    ensures { λ r. ⌜ r ≡ print.letter state ⌝ }
 {
     if state == INSIDE {
         return b'I';
@@ -101,7 +101,7 @@ pub fn state_of(states: &[u8], i: usize) -> u8
 
 pub fn row(out: &mut [u8], at: usize, i: usize, state: u8, nu: f64) -> usize
     requires { ⌜ at ≤ length (now out) ⌝ }
-    ensures { λ r. ⌜ Wrote (now (out .entry)) at (now (out .exit)) r (def.rowLine i state nu) ⌝ }
+    ensures { λ r. ⌜ Wrote (now (out .entry)) at (now (out .exit)) r (print.rowLine i state nu) ⌝ }
 {
     let a = write::count(out, at, b"row ", i as u64);
     let b = write::put(out, a, b' ');
@@ -114,7 +114,7 @@ pub fn row(out: &mut [u8], at: usize, i: usize, state: u8, nu: f64) -> usize
 pub fn rows(out: &mut [u8], at: usize, states: &[u8], nu: &[f64]) -> usize
     requires { ⌜ at ≤ length (now out) ⌝ }
     ensures { λ r. ⌜ Wrote (now (out .entry)) at (now (out .exit)) r
-        (def.rowLines (now (states .entry)) (now (nu .entry)) (length (now (nu .entry)))) ⌝ }
+        (print.rowLines (now (states .entry)) (now (nu .entry)) (length (now (nu .entry)))) ⌝ }
 {
     let mut next = at;
     let mut i = 0;
@@ -129,7 +129,7 @@ pub fn rows(out: &mut [u8], at: usize, states: &[u8], nu: &[f64]) -> usize
 pub fn body(out: &mut [u8], at: usize, r: BoxReport, states: &[u8], nu: &[f64]) -> usize
     requires { ⌜ at ≤ length (now out) ⌝ }
     ensures { λ q. ⌜ Wrote (now (out .entry)) at (now (out .exit)) q
-        (def.body r (now (states .entry)) (now (nu .entry))) ⌝ }
+        (print.body r (now (states .entry)) (now (nu .entry))) ⌝ }
 {
     let a = report(out, at, r);
     rows(out, a, states, nu)
@@ -137,7 +137,7 @@ pub fn body(out: &mut [u8], at: usize, r: BoxReport, states: &[u8], nu: &[f64]) 
 
 pub fn listed_row(out: &mut [u8], at: usize, row: usize) -> usize
     requires { ⌜ at ≤ length (now out) ⌝ }
-    ensures { λ r. ⌜ Wrote (now (out .entry)) at (now (out .exit)) r (def.bytes " " ++ def.decimal row) ⌝ }
+    ensures { λ r. ⌜ Wrote (now (out .entry)) at (now (out .exit)) r (print.bytes " " ++ print.decimal row) ⌝ }
 {
     write::count(out, at, b" ", row as u64)
 }
@@ -145,7 +145,7 @@ pub fn listed_row(out: &mut [u8], at: usize, row: usize) -> usize
 pub fn listed(out: &mut [u8], at: usize, rows: &[usize]) -> usize
     requires { ⌜ at ≤ length (now out) ⌝ }
     ensures { λ r. ⌜ Wrote (now (out .entry)) at (now (out .exit)) r
-        (def.listed (now (rows .entry)) (length (now (rows .entry)))) ⌝ }
+        (print.listed (now (rows .entry)) (length (now (rows .entry)))) ⌝ }
 {
     let mut next = at;
     let mut i = 0;
@@ -160,7 +160,7 @@ pub fn listed(out: &mut [u8], at: usize, rows: &[usize]) -> usize
 pub fn closing(out: &mut [u8], at: usize, rows: &[usize]) -> usize
     requires { ⌜ at ≤ length (now out) ⌝ }
     ensures { λ r. ⌜ Wrote (now (out .entry)) at (now (out .exit)) r
-        (def.bytes "fights" ++ def.listed (now (rows .entry)) (length (now (rows .entry))) ++ def.newline) ⌝ }
+        (print.bytes "fights" ++ print.listed (now (rows .entry)) (length (now (rows .entry))) ++ print.newline) ⌝ }
 {
     let a = write::text(out, at, b"fights");
     let b = listed(out, a, rows);

@@ -3,7 +3,7 @@ ghost use mathlib.Core.Path.{_≡_};
 ghost use mathlib.Core.List.{[], _∷_, _++_};
 ghost use Prim.Native.Nat.{_<_, _≤_};
 ghost use lib.ListN.{length};
-ghost use Rattle.printer.specs.Output as def;
+ghost use Rattle.printer.specs.Output as print;
 ghost use Rattle.printer.specs.Writing.{Wrote};
 
 pub fn put(out: &mut [u8], at: usize, byte: u8) -> usize
@@ -33,7 +33,7 @@ pub fn text(out: &mut [u8], at: usize, bytes: &[u8]) -> usize
 // A digit of a base up to 16.
 pub fn digit(d: u64) -> u8
     requires { ⌜ d < 16 ⌝ }
-    ensures { λ r. ⌜ r ≡ def.digit d ⌝ }
+    ensures { λ r. ⌜ r ≡ print.digit d ⌝ }
 {
     if d < 10 {
         return 48 + d as u8;
@@ -43,7 +43,7 @@ pub fn digit(d: u64) -> u8
 
 pub fn decimal(out: &mut [u8], at: usize, x: u64) -> usize
     requires { ⌜ at ≤ length (now out) ⌝ }
-    ensures { λ r. ⌜ Wrote (now (out .entry)) at (now (out .exit)) r (def.decimal x) ⌝ }
+    ensures { λ r. ⌜ Wrote (now (out .entry)) at (now (out .exit)) r (print.decimal x) ⌝ }
 {
     if x < 10 {
         return put(out, at, digit(x));
@@ -55,7 +55,7 @@ pub fn decimal(out: &mut [u8], at: usize, x: u64) -> usize
 // The last `places` hexadecimal digits of x.
 pub fn hex(out: &mut [u8], at: usize, places: usize, x: u64) -> usize
     requires { ⌜ at ≤ length (now out) ⌝ }
-    ensures { λ r. ⌜ Wrote (now (out .entry)) at (now (out .exit)) r (def.hex places x) ⌝ }
+    ensures { λ r. ⌜ Wrote (now (out .entry)) at (now (out .exit)) r (print.hex places x) ⌝ }
 {
     if places == 0 {
         return at;
@@ -67,7 +67,7 @@ pub fn hex(out: &mut [u8], at: usize, places: usize, x: u64) -> usize
 // The bits of v. `to_bits` is not defined at a NaN, and every NaN is printed as one.
 pub fn pattern(out: &mut [u8], at: usize, v: f64) -> usize
     requires { ⌜ at ≤ length (now out) ⌝ }
-    ensures { λ r. ⌜ Wrote (now (out .entry)) at (now (out .exit)) r (def.pattern v) ⌝ }
+    ensures { λ r. ⌜ Wrote (now (out .entry)) at (now (out .exit)) r (print.pattern v) ⌝ }
 {
     if v != v {
         return hex(out, at, 16, 0x7ff8_0000_0000_0000);
@@ -78,7 +78,7 @@ pub fn pattern(out: &mut [u8], at: usize, v: f64) -> usize
 // A word and a number after it.
 pub fn count(out: &mut [u8], at: usize, word: &[u8], x: u64) -> usize
     requires { ⌜ at ≤ length (now out) ⌝ }
-    ensures { λ r. ⌜ Wrote (now (out .entry)) at (now (out .exit)) r (now (word .entry) ++ def.decimal x) ⌝ }
+    ensures { λ r. ⌜ Wrote (now (out .entry)) at (now (out .exit)) r (now (word .entry) ++ print.decimal x) ⌝ }
 {
     let next = text(out, at, word);
     decimal(out, next, x)
@@ -87,7 +87,7 @@ pub fn count(out: &mut [u8], at: usize, word: &[u8], x: u64) -> usize
 // A word and 0 or 1 after it.
 pub fn flag(out: &mut [u8], at: usize, word: &[u8], on: bool) -> usize
     requires { ⌜ at ≤ length (now out) ⌝ }
-    ensures { λ r. ⌜ Wrote (now (out .entry)) at (now (out .exit)) r (now (word .entry) ++ def.flag on) ⌝ }
+    ensures { λ r. ⌜ Wrote (now (out .entry)) at (now (out .exit)) r (now (word .entry) ++ print.flag on) ⌝ }
 {
     let next = text(out, at, word);
     if on {
@@ -99,7 +99,7 @@ pub fn flag(out: &mut [u8], at: usize, word: &[u8], on: bool) -> usize
 // A word and a value's bits after it.
 pub fn bits(out: &mut [u8], at: usize, word: &[u8], v: f64) -> usize
     requires { ⌜ at ≤ length (now out) ⌝ }
-    ensures { λ r. ⌜ Wrote (now (out .entry)) at (now (out .exit)) r (now (word .entry) ++ def.pattern v) ⌝ }
+    ensures { λ r. ⌜ Wrote (now (out .entry)) at (now (out .exit)) r (now (word .entry) ++ print.pattern v) ⌝ }
 {
     let next = text(out, at, word);
     pattern(out, next, v)

@@ -5,9 +5,9 @@ ghost use mathlib.Core.List.{[], _∷_};
 ghost use lib.ListN.{length};
 ghost use Rattle.box_rows.specs.Rows as box;
 ghost use Rattle.boxed.specs.Solve as solve;
-ghost use Rattle.report.specs.Joins as join;
+ghost use Rattle.report.specs.Joins as joins;
 ghost use Rattle.tally.specs.Tally as def;
-ghost use Rattle.tallied.specs.Joining as said;
+ghost use Rattle.tallied.specs.Joining as joining;
 use report::Joined;
 use report::SolveReport;
 use tallied::Tallied;
@@ -28,9 +28,9 @@ pub fn lend_tally(
     workspace: &mut [f64],
 ) -> Tallied
     ensures { λ r. ⌜
-        said.Entered
+        joining.Entered
         (def.tallied tally
-        (said.call
+        (joining.call
         (box.problem (now (w .entry)) (now («u_free» .entry)) (now (lo .entry)) (now (hi .entry)) (now (scale .entry)))
         (solve.watch (now (motion .entry)) tolerance)
         (now (nu .entry)) (now (states .entry)) (now (rows .entry)) (length (now (workspace .entry)))))
@@ -57,7 +57,7 @@ pub fn lend_tally(
 
 // `join_all` on a list of its own of three reports.
 pub fn lend_list(first: SolveReport, second: SolveReport, third: SolveReport) -> Joined
-    ensures { λ r. ⌜ join.answer r ≡ join.all (first ∷ second ∷ third ∷ []) ⌝ }
+    ensures { λ r. ⌜ joins.answer r ≡ joins.all (first ∷ second ∷ third ∷ []) ⌝ }
 {
     let list = [first, second, third];
     report::join_all(&list)

@@ -2,7 +2,7 @@
 // is total, and its contract is an equation with a definition of specs/.
 ghost use mathlib.Core.Path.{_≡_};
 ghost use Prim.Native.Nat.{max as natMax};
-ghost use Rattle.report.specs.Joins as def;
+ghost use Rattle.report.specs.Joins as joins;
 
 // The counts and the residual of a solve, or of several added together.
 pub struct SolveReport {
@@ -55,7 +55,7 @@ impl SolveReport {
     // This increment's report, the increment then going on from where it stopped as `then` reports: one increment, its
     // steps and sweeps added up, and how it ended, `then`'s.
     pub fn continued(self, then: SolveReport) -> Joined
-        ensures { λ r. ⌜ def.answer r ≡ def.continued self then ⌝ }
+        ensures { λ r. ⌜ joins.answer r ≡ joins.continued self then ⌝ }
     {
         if sums_fit(self, then) {
             return Joined::Report(onward(self, then));
@@ -65,7 +65,7 @@ impl SolveReport {
 
     // This report and `other` together, as one procedure's.
     pub fn and(self, other: SolveReport) -> Joined
-        ensures { λ r. ⌜ def.answer r ≡ def.and self other ⌝ }
+        ensures { λ r. ⌜ joins.answer r ≡ joins.and self other ⌝ }
     {
         if all_sums_fit(self, other) {
             return Joined::Report(both(self, other));
@@ -76,7 +76,7 @@ impl SolveReport {
 
 // The reports joined by `and`, front to back from NOTHING; 13 at the first sum too large.
 pub fn join_all(reports: &[SolveReport]) -> Joined
-    ensures { λ r. ⌜ def.answer r ≡ def.all (now (reports .entry)) ⌝ }
+    ensures { λ r. ⌜ joins.answer r ≡ joins.all (now (reports .entry)) ⌝ }
 {
     let mut so_far = start();
     let mut i = 0;
@@ -88,13 +88,13 @@ pub fn join_all(reports: &[SolveReport]) -> Joined
 }
 
 fn start() -> Joined
-    ensures { λ r. ⌜ def.answer r ≡ def.Answer.joined def.NOTHING ⌝ }
+    ensures { λ r. ⌜ joins.answer r ≡ joins.Answer.joined joins.NOTHING ⌝ }
 {
     Joined::Report(SolveReport::NOTHING)
 }
 
 fn next(joined: Joined, report: SolveReport) -> Joined
-    ensures { λ r. ⌜ def.answer r ≡ def.next (def.answer joined) report ⌝ }
+    ensures { λ r. ⌜ joins.answer r ≡ joins.next (joins.answer joined) report ⌝ }
 {
     match joined {
         Joined::Refused(number) => Joined::Refused(number),
@@ -104,14 +104,14 @@ fn next(joined: Joined, report: SolveReport) -> Joined
 
 // Whether two counts have a sum that is at most 4,294,967,295.
 fn sum_fits(x: u32, y: u32) -> bool
-    ensures { λ r. ⌜ r ≡ def.sumFits x y ⌝ }
+    ensures { λ r. ⌜ r ≡ joins.sumFits x y ⌝ }
 {
     y <= 4294967295 - x
 }
 
 // Whether the sums that both joins make fit.
 fn sums_fit(a: SolveReport, b: SolveReport) -> bool
-    ensures { λ r. ⌜ r ≡ def.sumsFit a b ⌝ }
+    ensures { λ r. ⌜ r ≡ joins.sumsFit a b ⌝ }
 {
     sum_fits(a.iterations, b.iterations)
         & sum_fits(a.rejected, b.rejected)
@@ -123,7 +123,7 @@ fn sums_fit(a: SolveReport, b: SolveReport) -> bool
 
 // Whether the sums that `and` makes fit.
 fn all_sums_fit(a: SolveReport, b: SolveReport) -> bool
-    ensures { λ r. ⌜ r ≡ def.allSumsFit a b ⌝ }
+    ensures { λ r. ⌜ r ≡ joins.allSumsFit a b ⌝ }
 {
     sum_fits(a.increments, b.increments) & sums_fit(a, b)
 }
@@ -135,8 +135,8 @@ fn max(x: u32, y: u32) -> u32
 }
 
 fn onward(a: SolveReport, b: SolveReport) -> SolveReport
-    requires { ⌜ def.Summable a b ⌝ }
-    ensures { λ r. ⌜ r ≡ def.onward a b ⌝ }
+    requires { ⌜ joins.Summable a b ⌝ }
+    ensures { λ r. ⌜ r ≡ joins.onward a b ⌝ }
 {
     let iterations = a.iterations + b.iterations;
     SolveReport {
@@ -155,8 +155,8 @@ fn onward(a: SolveReport, b: SolveReport) -> SolveReport
 }
 
 fn both(a: SolveReport, b: SolveReport) -> SolveReport
-    requires { ⌜ def.AllSummable a b ⌝ }
-    ensures { λ r. ⌜ r ≡ def.both a b ⌝ }
+    requires { ⌜ joins.AllSummable a b ⌝ }
+    ensures { λ r. ⌜ r ≡ joins.both a b ⌝ }
 {
     SolveReport {
         increments: a.increments + b.increments,

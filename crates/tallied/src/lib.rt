@@ -6,9 +6,9 @@ ghost use lib.Dec.{eqb};
 ghost use lib.ListN.{length};
 ghost use Rattle.box_rows.specs.Rows as box;
 ghost use Rattle.boxed.specs.Solve as solve;
-ghost use Rattle.report.specs.Joins as join;
+ghost use Rattle.report.specs.Joins as joins;
 ghost use Rattle.tally.specs.Tally as def;
-ghost use Rattle.tallied.specs.Joining as said;
+ghost use Rattle.tallied.specs.Joining as joining;
 ghost use Rattle.tallied.specs.Private as private;
 use boxed::BoxAnswer;
 use boxed::BoxReport;
@@ -84,7 +84,7 @@ pub fn taken(report: BoxReport, nu: &[f64]) -> SolveReport
 
 // What a join leaves of the tally: a refused one all. Number 11 is there so that none is.
 fn kept(tally: SolveReport, joined: Joined) -> SolveReport
-    ensures { λ r. ⌜ r ≡ def.kept tally (join.answer joined) ⌝ }
+    ensures { λ r. ⌜ r ≡ def.kept tally (joins.answer joined) ⌝ }
 {
     match joined {
         Joined::Refused(_) => tally,
@@ -139,9 +139,9 @@ pub fn tallied_solve(
     workspace: &mut [f64],
 ) -> Tallied
     ensures { λ r. ⌜
-        said.Entered
+        joining.Entered
         (def.tallied tally
-        (said.call
+        (joining.call
         (box.problem (now (w .entry)) (now («u_free» .entry)) (now (lo .entry)) (now (hi .entry)) (now (scale .entry)))
         (solve.watch (now (motion .entry)) tolerance)
         (now (nu .entry)) (now (states .entry)) (now (rows .entry)) (length (now (workspace .entry)))))
@@ -192,9 +192,9 @@ pub fn solve_into(
     workspace: &mut [f64],
 ) -> BoxAnswer
     ensures { λ r. ⌜
-        said.Entered
+        joining.Entered
         (def.tallied (now (tally .entry))
-        (said.call
+        (joining.call
         (box.problem (now (w .entry)) (now («u_free» .entry)) (now (lo .entry)) (now (hi .entry)) (now (scale .entry)))
         (solve.watch (now (motion .entry)) tolerance)
         (now (nu .entry)) (now (states .entry)) (now (rows .entry)) (length (now (workspace .entry)))))

@@ -2,9 +2,9 @@
 ghost use mathlib.Core.Path.{_≡_};
 ghost use lib.ListN.{length};
 ghost use Rattle.boxed.specs.Solve as solve;
-ghost use Rattle.triangle.specs.Triangle as lower;
+ghost use Rattle.triangle.specs.Triangle as triangle;
 ghost use Rattle.tally.specs.Tally as def;
-ghost use Rattle.tallied.specs.Joining as said;
+ghost use Rattle.tallied.specs.Joining as joining;
 use crate::Tallied;
 use boxed::BoxAnswer;
 use report::SolveReport;
@@ -25,10 +25,10 @@ pub fn tallied_triangle(
     workspace: &mut [f64],
 ) -> Tallied
     ensures { λ r. ⌜
-        said.Entered
+        joining.Entered
         (def.tallied tally
-        (said.triangleCall (length (now (t .entry)))
-        (lower.problem (now (t .entry)) (now («u_free» .entry)) (now (lo .entry)) (now (hi .entry))
+        (joining.triangleCall (length (now (t .entry)))
+        (triangle.problem (now (t .entry)) (now («u_free» .entry)) (now (lo .entry)) (now (hi .entry))
         (now (scale .entry)))
         (solve.watch (now (motion .entry)) tolerance)
         (now (nu .entry)) (now (states .entry)) (now (rows .entry)) (length (now (workspace .entry)))))
@@ -79,10 +79,10 @@ pub fn triangle_into(
     workspace: &mut [f64],
 ) -> BoxAnswer
     ensures { λ r. ⌜
-        said.Entered
+        joining.Entered
         (def.tallied (now (tally .entry))
-        (said.triangleCall (length (now (t .entry)))
-        (lower.problem (now (t .entry)) (now («u_free» .entry)) (now (lo .entry)) (now (hi .entry))
+        (joining.triangleCall (length (now (t .entry)))
+        (triangle.problem (now (t .entry)) (now («u_free» .entry)) (now (lo .entry)) (now (hi .entry))
         (now (scale .entry)))
         (solve.watch (now (motion .entry)) tolerance)
         (now (nu .entry)) (now (states .entry)) (now (rows .entry)) (length (now (workspace .entry)))))

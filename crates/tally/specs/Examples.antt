@@ -19,7 +19,7 @@ use Rattle.exact_pass.specs.Pass as pass
 use Rattle.boxed.specs.Sweep as sweep
 use Rattle.boxed.specs.Solve as solve
 use Rattle.triangle.specs.Triangle.{whole, triangle, rowStart, withinLimits, wrongLength, triangleRefusal, refusalOf}
-use Rattle.report.specs.Joins as report
+use Rattle.report.specs.Joins as joins
 use Rattle.report.specs.declared.SolveReport.{SolveReport}
 use Rattle.tally.specs.Tally as def
 
@@ -232,28 +232,28 @@ allPass (c ∷ l) = passes c && allPass l
 
 cases : List Case
 cases =
-    case "growth, a fight and a refused solve, which joins nothing" report.NOTHING (grows ∷ fights ∷ refuses ∷ [])
+    case "growth, a fight and a refused solve, which joins nothing" joins.NOTHING (grows ∷ fights ∷ refuses ∷ [])
     (counts 2 2 1 0 false false 0x4000000000000000) (0 ∷ 0 ∷ 8 ∷ []) ∷
-    case "the same in another order" report.NOTHING (refuses ∷ fights ∷ grows ∷ []) (counts 2 2 1 0 false false 0x4000000000000000) (8 ∷ 0 ∷ 0 ∷ []) ∷
-    case "exact solves, and one of no rows" report.NOTHING (exact 2304 ∷ empty ∷ exact 2304 ∷ []) (tallyOf 3 2 2 0) (0 ∷ 0 ∷ 0 ∷ []) ∷
-    case "no solve" report.NOTHING [] report.NOTHING [] ∷
+    case "the same in another order" joins.NOTHING (refuses ∷ fights ∷ grows ∷ []) (counts 2 2 1 0 false false 0x4000000000000000) (8 ∷ 0 ∷ 0 ∷ []) ∷
+    case "exact solves, and one of no rows" joins.NOTHING (exact 2304 ∷ empty ∷ exact 2304 ∷ []) (tallyOf 3 2 2 0) (0 ∷ 0 ∷ 0 ∷ []) ∷
+    case "no solve" joins.NOTHING [] joins.NOTHING [] ∷
     case "11 by increments" (tallyOf 4294967295 0 0 0) (empty ∷ []) (tallyOf 4294967295 0 0 0) (11 ∷ []) ∷
     case "one increment below, then 11" (tallyOf 4294967294 0 0 0) (empty ∷ exact 2304 ∷ []) (tallyOf 4294967295 0 0 0) (0 ∷ 11 ∷ []) ∷
     case "11 by sweeps" (tallyOf 0 4294967096 0 0) (exact 2304 ∷ []) (tallyOf 0 4294967096 0 0) (11 ∷ []) ∷
     case "one sweep below, then 11" (tallyOf 0 4294967095 0 0) (exact 2304 ∷ empty ∷ []) (tallyOf 1 4294967096 1 0) (0 ∷ 11 ∷ []) ∷
     case "11 by passes" (tallyOf 0 0 4294967287 0) (grows ∷ []) (tallyOf 0 0 4294967287 0) (11 ∷ []) ∷
     case "one pass below, then 11" (tallyOf 0 0 4294967286 0) (exact 2304 ∷ empty ∷ []) (tallyOf 1 1 4294967287 0) (0 ∷ 11 ∷ []) ∷
-    case "rows stopped are summed, those of every accepted solve" report.NOTHING (stops ∷ exact 2304 ∷ refuses ∷ growsBeside ∷ stops ∷ [])
+    case "rows stopped are summed, those of every accepted solve" joins.NOTHING (stops ∷ exact 2304 ∷ refuses ∷ growsBeside ∷ stops ∷ [])
     (counts 4 4 3 3 false false 0) (0 ∷ 0 ∷ 8 ∷ 0 ∷ 0 ∷ []) ∷
-    case "a dead cell between two solves that end well: neither flag is won back" report.NOTHING (exact 2304 ∷ dead ∷ exact 2304 ∷ []) (counts 3 3 3 0 false false 0)
+    case "a dead cell between two solves that end well: neither flag is won back" joins.NOTHING (exact 2304 ∷ dead ∷ exact 2304 ∷ []) (counts 3 3 3 0 false false 0)
     (0 ∷ 0 ∷ 0 ∷ []) ∷
-    case "the same in another order" report.NOTHING (dead ∷ exact 2304 ∷ exact 2304 ∷ []) (counts 3 3 3 0 false false 0) (0 ∷ 0 ∷ 0 ∷ []) ∷
-    case "a refused solve joins nothing, NaN or not" report.NOTHING (refusesDead ∷ []) report.NOTHING (8 ∷ []) ∷
+    case "the same in another order" joins.NOTHING (dead ∷ exact 2304 ∷ exact 2304 ∷ []) (counts 3 3 3 0 false false 0) (0 ∷ 0 ∷ 0 ∷ []) ∷
+    case "a refused solve joins nothing, NaN or not" joins.NOTHING (refusesDead ∷ []) joins.NOTHING (8 ∷ []) ∷
     case "a dead cell on a full tally" (tallyOf 4294967295 0 0 0) (dead ∷ []) (tallyOf 4294967295 0 0 0) (11 ∷ []) ∷
     case "11 by rows stopped, though this solve would stop none" (tallyOf 0 0 0 4294967264) (exact 2304 ∷ []) (tallyOf 0 0 0 4294967264) (11 ∷ []) ∷
     case "one row stopped below, then 11" (tallyOf 0 0 0 4294967263) (stops ∷ empty ∷ []) (tallyOf 1 1 1 4294967264) (0 ∷ 11 ∷ []) ∷
     case "10 and 8 before 11" (tallyOf 4294967295 0 0 0) (exact 2303 ∷ refuses ∷ empty ∷ []) (tallyOf 4294967295 0 0 0) (10 ∷ 8 ∷ 11 ∷ []) ∷
-    case "a triangle is tallied as its mirrored matrix, and one of another length gets 16" report.NOTHING (lower 3 fights ∷ lower 4 fights ∷ grows ∷ [])
+    case "a triangle is tallied as its mirrored matrix, and one of another length gets 16" joins.NOTHING (lower 3 fights ∷ lower 4 fights ∷ grows ∷ [])
     (counts 2 2 1 0 false false 0x4000000000000000) (0 ∷ 16 ∷ 0 ∷ []) ∷
     case "16 before 8, and both before 11" (tallyOf 4294967295 0 0 0) (lower 2 refuses ∷ lower 1 refuses ∷ lower 3 fights ∷ []) (tallyOf 4294967295 0 0 0)
     (16 ∷ 8 ∷ 11 ∷ []) ∷ []
@@ -282,7 +282,7 @@ isTaken k t = says (k .converged) (k .exact) (t .answer .outcome) && same (map (
 
 allTaken : List Taking → Bool
 allTaken [] = true
-allTaken (k ∷ l) = isTaken k (def.tallied report.NOTHING (k .call)) && allTaken l
+allTaken (k ∷ l) = isTaken k (def.tallied joins.NOTHING (k .call)) && allTaken l
 
 takings : List Taking
 takings =
@@ -320,7 +320,7 @@ unfolding
     solve.unfound solve.result solve.solve solve.refusal solve.reply solve.solveReply
     rowStart withinLimits wrongLength triangleRefusal refusalOf
     add sub mul div ofBits toBits lt le eq ne neg
-    report.sumFits report.sumsFit report.allSumsFit report.and
+    joins.sumFits joins.sumsFit joins.allSumsFit joins.and
     def.alone def.noNaN def.turned def.taken def.full def.numberOn def.answerOn def.with def.tallied def.before def.all
     counts tallyOf case sameTally same numberIn unless sameBuffers answersAre comesTo passes allPass cases
     taking says isTaken allTaken takings

@@ -12,7 +12,7 @@ use Rattle.box_rows.specs.Rows.{Problem}
 use Rattle.boxed.specs.Solve.{Watch, Outcome, refused, solved, infeasible, Result, reply, SWEEP_CAP}
 use Rattle.boxed.specs.declared.BoxReport.{BoxReport}
 use Rattle.triangle.specs.Triangle.{Sent, refusalOf}
-use Rattle.report.specs.Joins as report
+use Rattle.report.specs.Joins as joins
 use Rattle.report.specs.declared.SolveReport.{SolveReport}
 
 -- What a solve is given: the problem with its watched motion, the form in which its matrix came (of a triangle the problem has the mirrored matrix), and what its buffers hold as lent. Of the workspace it is the length alone, since no answer depends on what
@@ -65,15 +65,15 @@ unfoldable pub taken : BoxReport → List Float → SolveReport
 taken r nu = turned r (noNaN nu)
 
 -- a join that is refused leaves the tally as it was; number 11 is there so that none is
-abbrev pub kept : SolveReport → report.Answer → SolveReport
-kept t (report.refused k) = t
-kept t (report.joined s) = s
+abbrev pub kept : SolveReport → joins.Answer → SolveReport
+kept t (joins.refused k) = t
+kept t (joins.joined s) = s
 
 -- the tally after a solve that left the multipliers nu; a refused one joins nothing
 abbrev pub joinedTo : SolveReport → Outcome → List Float → SolveReport
 joinedTo t (refused k) nu = t
-joinedTo t (solved r) nu = kept t (report.and t (taken r nu))
-joinedTo t (infeasible c l r) nu = kept t (report.and t (taken r nu))
+joinedTo t (solved r) nu = kept t (joins.and t (taken r nu))
+joinedTo t (infeasible c l r) nu = kept t (joins.and t (taken r nu))
 
 -- ---- the tallied solve
 

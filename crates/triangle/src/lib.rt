@@ -5,8 +5,8 @@ ghost use mathlib.Core.Bool.{not, _||_};
 ghost use Prim.Native.Nat.{_*_, _≤_};
 ghost use lib.Dec.{ltb, eqb};
 ghost use lib.ListN.{length};
-ghost use Rattle.boxed.specs.Solve as solved;
-ghost use Rattle.triangle.specs.Triangle as def;
+ghost use Rattle.boxed.specs.Solve as solve;
+ghost use Rattle.triangle.specs.Triangle as triangle;
 use boxed::BoxAnswer;
 use boxed::BoxSolver;
 
@@ -25,7 +25,7 @@ fn too_large(n: usize, motion: usize) -> bool
 // 16: a triangle that has not n (n + 1) / 2 values.
 fn wrong_length(t: usize, n: usize) -> bool
     requires { ⌜ n ≤ 32 ⌝ }
-    ensures { λ r. ⌜ r ≡ not (eqb t (def.rowStart n)) ⌝ }
+    ensures { λ r. ⌜ r ≡ not (eqb t (triangle.rowStart n)) ⌝ }
 {
     t != mirror::row_start(n)
 }
@@ -45,13 +45,13 @@ fn solve_in(
     workspace: &mut [f64],
     w: &mut [f64],
 ) -> BoxAnswer
-    requires { ⌜ (length (now «u_free») ≤ 32) × (length (now t) ≡ def.rowStart (length (now «u_free»)))
+    requires { ⌜ (length (now «u_free») ≤ 32) × (length (now t) ≡ triangle.rowStart (length (now «u_free»)))
         × (length (now «u_free») * length (now «u_free») ≤ length (now w)) ⌝ }
     ensures { λ r. ⌜
-        solved.Left
-        (solved.solveReply
-        (def.problem (now (t .entry)) (now («u_free» .entry)) (now (lo .entry)) (now (hi .entry)) (now (scale .entry)))
-        (solved.watch (now (motion .entry)) tolerance)
+        solve.Left
+        (solve.solveReply
+        (triangle.problem (now (t .entry)) (now («u_free» .entry)) (now (lo .entry)) (now (hi .entry)) (now (scale .entry)))
+        (solve.watch (now (motion .entry)) tolerance)
         (now (nu .entry)) (now (states .entry)) (now (rows .entry)) (length (now (workspace .entry))))
         r (now (nu .exit)) (now (states .exit)) (now (rows .exit))
         (now (workspace .entry)) (now (workspace .exit)) ⌝ }
@@ -87,12 +87,12 @@ fn solve_rows(
     rows: &mut [usize],
     workspace: &mut [f64],
 ) -> BoxAnswer
-    requires { ⌜ (length (now «u_free») ≤ 32) × (length (now t) ≡ def.rowStart (length (now «u_free»))) ⌝ }
+    requires { ⌜ (length (now «u_free») ≤ 32) × (length (now t) ≡ triangle.rowStart (length (now «u_free»))) ⌝ }
     ensures { λ r. ⌜
-        solved.Left
-        (solved.solveReply
-        (def.problem (now (t .entry)) (now («u_free» .entry)) (now (lo .entry)) (now (hi .entry)) (now (scale .entry)))
-        (solved.watch (now (motion .entry)) tolerance)
+        solve.Left
+        (solve.solveReply
+        (triangle.problem (now (t .entry)) (now («u_free» .entry)) (now (lo .entry)) (now (hi .entry)) (now (scale .entry)))
+        (solve.watch (now (motion .entry)) tolerance)
         (now (nu .entry)) (now (states .entry)) (now (rows .entry)) (length (now (workspace .entry))))
         r (now (nu .exit)) (now (states .exit)) (now (rows .exit))
         (now (workspace .entry)) (now (workspace .exit)) ⌝ }
@@ -145,8 +145,8 @@ pub fn refusal(
     rows: &[usize],
     room: usize,
 ) -> u32
-    ensures { λ r. ⌜ r ≡ def.triangleRefusal (length (now (t .entry)))
-        (def.problem (now (t .entry)) (now («u_free» .entry)) (now (lo .entry)) (now (hi .entry)) (now (scale .entry)))
+    ensures { λ r. ⌜ r ≡ triangle.triangleRefusal (length (now (t .entry)))
+        (triangle.problem (now (t .entry)) (now («u_free» .entry)) (now (lo .entry)) (now (hi .entry)) (now (scale .entry)))
         (now (motion .entry)) (now (nu .entry)) (now (states .entry)) (now (rows .entry)) room ⌝ }
 {
     let n = u_free.len();
@@ -187,10 +187,10 @@ pub fn solve(
     workspace: &mut [f64],
 ) -> BoxAnswer
     ensures { λ r. ⌜
-        solved.Left
-        (def.triangleReply (length (now (t .entry)))
-        (def.problem (now (t .entry)) (now («u_free» .entry)) (now (lo .entry)) (now (hi .entry)) (now (scale .entry)))
-        (solved.watch (now (motion .entry)) tolerance)
+        solve.Left
+        (triangle.triangleReply (length (now (t .entry)))
+        (triangle.problem (now (t .entry)) (now («u_free» .entry)) (now (lo .entry)) (now (hi .entry)) (now (scale .entry)))
+        (solve.watch (now (motion .entry)) tolerance)
         (now (nu .entry)) (now (states .entry)) (now (rows .entry)) (length (now (workspace .entry))))
         r (now (nu .exit)) (now (states .exit)) (now (rows .exit))
         (now (workspace .entry)) (now (workspace .exit)) ⌝ }

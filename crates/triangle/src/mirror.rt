@@ -3,12 +3,12 @@ ghost use mathlib.Core.Path.{_≡_};
 ghost use Prim.Native.Nat.{_+_, _*_, _≤_, _<_};
 ghost use lib.ListN.{length, set};
 ghost use Rattle.floats.specs.Ops as ops;
-ghost use Rattle.triangle.specs.Triangle as def;
+ghost use Rattle.triangle.specs.Triangle as triangle;
 
 // Where row i of a triangle begins; at n, the length of a triangle of n rows.
 pub fn row_start(i: usize) -> usize
     requires { ⌜ i ≤ 32 ⌝ }
-    ensures { λ r. ⌜ r ≡ def.rowStart i ⌝ }
+    ensures { λ r. ⌜ r ≡ triangle.rowStart i ⌝ }
 {
     i * (i + 1) / 2
 }
@@ -30,8 +30,8 @@ fn put(v: &mut [f64], j: usize, x: f64)
 // The place of the next column's value: along the triangle's row up to the diagonal, and then a row further down in each
 // step.
 fn next(place: usize, i: usize, j: usize) -> usize
-    requires { ⌜ (i < 32) × (j < 32) × (place ≡ def.place i j) ⌝ }
-    ensures { λ r. ⌜ r ≡ def.place i (j + 1) ⌝ }
+    requires { ⌜ (i < 32) × (j < 32) × (place ≡ triangle.place i j) ⌝ }
+    ensures { λ r. ⌜ r ≡ triangle.place i (j + 1) ⌝ }
 {
     if j < i {
         return place + 1;
@@ -40,8 +40,8 @@ fn next(place: usize, i: usize, j: usize) -> usize
 }
 
 fn mirror_row(t: &[f64], n: usize, i: usize, out: &mut [f64])
-    requires { ⌜ (n ≤ 32) × (length (now t) ≡ def.rowStart n) × (i < n) × (length (now out) ≡ n) ⌝ }
-    ensures { λ q. ⌜ now (out .exit) ≡ def.mirrorRow (now (t .entry)) n i ⌝ }
+    requires { ⌜ (n ≤ 32) × (length (now t) ≡ triangle.rowStart n) × (i < n) × (length (now out) ≡ n) ⌝ }
+    ensures { λ q. ⌜ now (out .exit) ≡ triangle.mirrorRow (now (t .entry)) n i ⌝ }
 {
     let mut place = row_start(i);
     let mut j = 0;
@@ -54,8 +54,8 @@ fn mirror_row(t: &[f64], n: usize, i: usize, out: &mut [f64])
 
 // The matrix in w, in rows of n.
 pub fn mirror(t: &[f64], n: usize, w: &mut [f64])
-    requires { ⌜ (n ≤ 32) × (length (now t) ≡ def.rowStart n) × (length (now w) ≡ n * n) ⌝ }
-    ensures { λ q. ⌜ now (w .exit) ≡ def.mirrored n (now (t .entry)) ⌝ }
+    requires { ⌜ (n ≤ 32) × (length (now t) ≡ triangle.rowStart n) × (length (now w) ≡ n * n) ⌝ }
+    ensures { λ q. ⌜ now (w .exit) ≡ triangle.mirrored n (now (t .entry)) ⌝ }
 {
     let mut i = 0;
     while i < n {

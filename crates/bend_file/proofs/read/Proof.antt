@@ -1,6 +1,6 @@
 -- `bend_file::read` meets its contract. Assumes nothing.
 use mathlib.Core.Path.{sym, _∙_}
-use Rattle.bend_file.specs.Read as def
+use Rattle.bend_file.specs.Read as read
 use Rattle.bend_file.proofs.Accepted.{answer-refused, answer-accepted, room}
 use borrow.Author.Needs.{needs}
 use Rattle.bend_file.proofs.read.Statement.{statement}
@@ -20,7 +20,7 @@ returns c =
     record { result = rw is-refused; buffers = rw is-refused }
 
 returns-2 : tie.Need-returns-2
-unfolding def.problem
+unfolding read.problem
 returns-2 c =
     let at-start = c .before .before .before .before .before .before .before .before .before in
     let at-shape-of = at-start .before .before in

@@ -1,5 +1,5 @@
 use Rattle.capi.proofs.Room.{room}
-use Rattle.capi.specs.Reports as def
+use Rattle.capi.specs.Reports as report
 use mathlib.Core.Path.{sym, _∙_, refl}
 use borrow.Author.Needs.{needs}
 use Rattle.capi.proofs.piskorlu_continued.Statement.{statement}

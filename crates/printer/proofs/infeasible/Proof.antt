@@ -1,5 +1,5 @@
 -- `printer::infeasible` meets its contract. Assumes nothing.
-use Rattle.printer.specs.Output as def
+use Rattle.printer.specs.Output as print
 use Rattle.printer.proofs.Laws.{then}
 use borrow.Author.Needs.{needs}
 use Rattle.printer.proofs.infeasible.Statement.{statement}
@@ -18,7 +18,7 @@ same-length : tie.Need-same-length
 same-length c = search needs
 
 returns : tie.Need-returns
-unfolding def.infeasible
+unfolding print.infeasible
 returns c = then (then (c .before .before .before .before .before .before .before .before .before .before .opening .ensures) (c .before .before .before .before .before .before .body .ensures)) (c .before .before .closing .ensures)
 
 pub infeasible-spec : {M : Type 1} → statement M

@@ -1,5 +1,5 @@
 -- `printer::refused` meets its contract. Assumes nothing.
-use Rattle.printer.specs.Output as def
+use Rattle.printer.specs.Output as print
 use Rattle.printer.proofs.Laws.{then}
 use borrow.Author.Needs.{needs}
 use Rattle.printer.proofs.refused.Statement.{statement}
@@ -18,7 +18,7 @@ same-length : tie.Need-same-length
 same-length c = search needs
 
 returns : tie.Need-returns
-unfolding def.refused
+unfolding print.refused
 returns c = then (c .before .before .before .before .before .before .count .ensures) (c .before .before .put .ensures)
 
 pub refused-spec : {M : Type 1} → statement M

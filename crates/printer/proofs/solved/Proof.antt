@@ -1,5 +1,5 @@
 -- `printer::solved` meets its contract. Assumes nothing.
-use Rattle.printer.specs.Output as def
+use Rattle.printer.specs.Output as print
 use Rattle.printer.proofs.Laws.{then}
 use borrow.Author.Needs.{needs}
 use Rattle.printer.proofs.solved.Statement.{statement}
@@ -18,7 +18,7 @@ same-length : tie.Need-same-length
 same-length c = search needs
 
 returns : tie.Need-returns
-unfolding def.solved
+unfolding print.solved
 returns c = then (c .before .before .before .before .before .before .text .ensures) (c .before .before .body .ensures)
 
 pub solved-spec : {M : Type 1} → statement M

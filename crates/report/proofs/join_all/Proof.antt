@@ -51,7 +51,7 @@ use denote.Triple.Clauses.{ensured, lasts}
 use denote.Triple.Table.{entered, cited}
 use denote.Triple.Walked.{says, Stays, stay-dropped, walkOf, goes-dropped, Walks, ends-at, walked, walk-meets}
 use denote.Exit.{yes}
-use Rattle.report.specs.Joins as def
+use Rattle.report.specs.Joins as joins
 use Rattle.report.specs.Joins.{Answer, joined, answer, NOTHING, all}
 use Rattle.report.specs.declared.SolveReport.{SolveReport}
 use Rattle.report.specs.declared.Joined.{Joined}
@@ -109,14 +109,14 @@ abbrev Started : Joined → Type 0
 Started r = answer r ≡ joined NOTHING
 
 abbrev Stepped : Joined → SolveReport → Joined → Type 0
-Stepped j y r = answer r ≡ def.next (answer j) y
+Stepped j y r = answer r ≡ joins.next (answer j) y
 
 record State (ys : List SolveReport) : Type 0 where
   i : ℕ
   j : Joined
   within : i ≤ length ys
   is : IsJ j
-  so-far : def.from (answer j) (drop i ys) ≡ all ys
+  so-far : joins.from (answer j) (drop i ys) ≡ all ys
 
 abbrev _≺_ : {ys : List SolveReport} → State ys → State ys → Type 0
 _≺_ {ys} t′ t = length ys - t′ .i < length ys - t .i
@@ -131,15 +131,15 @@ onward ys t d r l e is = record {
   j = r;
   within = omega (arith, l);
   is = is;
-  so-far = ap (λ (k : ℕ). def.from (answer r) (drop k ys)) (add-one (t .i)) ∙ ap (λ (a : Answer). def.from a (drop (suc (t .i)) ys)) e ∙ ap (def.from (answer (t .j))) (sym (drop-at ys (t .i) d l)) ∙ t .so-far;
+  so-far = ap (λ (k : ℕ). joins.from (answer r) (drop k ys)) (add-one (t .i)) ∙ ap (λ (a : Answer). joins.from a (drop (suc (t .i)) ys)) e ∙ ap (joins.from (answer (t .j))) (sym (drop-at ys (t .i) d l)) ∙ t .so-far;
 }
 
 none-left : (ys : List SolveReport) → 0 ≤ length ys
 none-left ys = omega arith
 
-from-nothing : (ys : List SolveReport) (r : Joined) → Started r → def.from (answer r) ys ≡ all ys
+from-nothing : (ys : List SolveReport) (r : Joined) → Started r → joins.from (answer r) ys ≡ all ys
 unfolding all
-from-nothing ys r e = ap (λ (a : Answer). def.from a ys) e
+from-nothing ys r e = ap (λ (a : Answer). joins.from a ys) e
 
 abbrev begun : (ys : List SolveReport) (r : Joined) → Started r → IsJ r → State ys
 begun ys r e is = record { i = 0; j = r; within = none-left ys; is = is; so-far = from-nothing ys r e }
@@ -288,7 +288,7 @@ module _ {M : Type 1} (𝓤 : URA M) (H : Heap 𝓤) (A : Atoms 𝓤) (W : Given
         move ! (9 ∷ 10 ∷ []) $ free1 ! $ move ! (8 ∷ 9 ∷ []) $ free1 ! $ move ! (0 ∷ 8 ∷ []) $ free1 ! $ move ! (0 ∷ 7 ∷ []) $
         free1 ! $ move ! (0 ∷ 6 ∷ []) $ free1 ! $ move ! (0 ∷ 5 ∷ []) $ free1 ! $ move ! (0 ∷ 4 ∷ []) $ free1 ! $
         move ! (0 ∷ 3 ∷ []) $ free1 ! $ free0 ! $
-        keep ! (1 ∷ []) $ by ! (exits (t .j) (t .is) (sym (ap (def.from (answer (t .j))) (drop-of-length-le ys past)) ∙ t .so-far))
+        keep ! (1 ∷ []) $ by ! (exits (t .j) (t .is) (sym (ap (joins.from (answer (t .j))) (drop-of-length-le ys past)) ∙ t .so-far))
 
     turns : (t : State ys) → Sq W (Inv t) (runs C Λ E the-mir.turn-1 (anyQ (afterTurn 𝓤 H (Below 𝓤 H A _≺_ Inv t) Left)))
     turns t = by-order (t .i) n (more t) (ends t)

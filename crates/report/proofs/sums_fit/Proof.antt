@@ -1,11 +1,11 @@
 -- `report::sums_fit` meets its contract. Assumes nothing.
-use Rattle.report.specs.Joins as def
+use Rattle.report.specs.Joins as joins
 use borrow.Author.Needs.{needs}
 use Rattle.report.proofs.sums_fit.Statement.{statement}
 use Rattle.report.proofs.sums_fit.Tie as tie
 
 returns : tie.Need-returns
-unfolding def.sumsFit
+unfolding joins.sumsFit
 returns c =
     rw (
       c .before .before .before .before .before .sum-fits .ensures,

@@ -1,7 +1,7 @@
 use native.Mathlib.Omega.{arith}
 use borrow.Author.Needs.{needs}
 use mathlib.Core.Path.{refl, sym, _∙_}
-use Rattle.accumulator.specs.Accumulators as def
+use Rattle.accumulator.specs.Accumulators as acc
 use Rattle.accumulator.specs.Joins as joins
 use Rattle.accumulator.proofs.Accumulator.join.Statement.{statement}
 use Rattle.accumulator.proofs.Accumulator.join.Tie as tie
@@ -20,12 +20,12 @@ joined-requires c κs = sym (c .before .joinable .ensures) ∙ c .if1 .taken
 
 -- src/joining.rt:81:13
 returns : tie.Need-returns
-unfolding joins.join def.taken
+unfolding joins.join acc.taken
 returns c = rw (sym (c .before .before .joinable .ensures) ∙ c .before .if1 .taken, c .joined .ensures) refl
 
 -- src/joining.rt:77:5
 returns-2 : tie.Need-returns-2
-unfolding joins.join def.refused
+unfolding joins.join acc.refused
 returns-2 c = rw (sym (c .before .joinable .ensures) ∙ c .if1 .left) refl
 
 pub join-spec : {M : Type 1} → statement M

@@ -5,7 +5,7 @@ use mathlib.Core.Path.{_≡_, sym, _∙_}
 use mathlib.Core.Bool.{true}
 use lib.ListN.{length}
 use Rattle.loops.specs.Loops.{every}
-use Rattle.accumulator.specs.Accumulators as def
+use Rattle.accumulator.specs.Accumulators as acc
 use Rattle.accumulator.specs.Steps as steps
 use Rattle.accumulator.proofs.Calls.{first-finite, second-finite, finite-at, products-first, products-again, products-done}
 use Rattle.accumulator.proofs.rows.add_products.Statement.{statement}
@@ -21,7 +21,7 @@ Inv-loop words₀ w nu n j₀ words j =
     × (length words ≡ length words₀)
     × (n ≤ length w)
     × (n ≤ length nu)
-    × (every (def.bothFinite w nu) n ≡ true)
+    × (every (acc.bothFinite w nu) n ≡ true)
     × (words ≡ steps.products words₀ w nu j)
 
 abbrev μ-loop : tie.MeasureT-loop

@@ -5,7 +5,7 @@ use mathlib.Core.Path.{_≡_, sym, _∙_}
 use mathlib.Core.Bool.{true}
 use lib.ListN.{length}
 use Rattle.loops.specs.Loops.{every}
-use Rattle.accumulator.specs.Accumulators as def
+use Rattle.accumulator.specs.Accumulators as acc
 use Rattle.accumulator.proofs.Calls.{finite-first, finite-again, finite-done, finite-not}
 use Rattle.accumulator.proofs.rows.all_finite.Statement.{statement}
 use Rattle.accumulator.proofs.rows.all_finite.Tie as tie
@@ -14,7 +14,7 @@ use Rattle.accumulator.proofs.rows.all_finite.Lts as lts
 use Rattle.accumulator.proofs.rows.both_finite.Reads as both-finite-reads
 
 abbrev Inv-loop : tie.InvT-loop
-Inv-loop w nu n j₀ j = (j ≤ n) × (n ≤ length w) × (n ≤ length nu) × (every (def.bothFinite w nu) j ≡ true)
+Inv-loop w nu n j₀ j = (j ≤ n) × (n ≤ length w) × (n ≤ length nu) × (every (acc.bothFinite w nu) j ≡ true)
 
 abbrev μ-loop : tie.MeasureT-loop
 μ-loop w nu n j₀ j = n - j

@@ -2,7 +2,7 @@
 use native.Mathlib.Omega.{arith}
 use mathlib.Core.Path.{sym, _∙_}
 use borrow.Author.Tests.{not-true, not-false}
-use Rattle.bend_file.specs.Read as def
+use Rattle.bend_file.specs.Read as read
 use Rattle.bend_file.proofs.Picked.{reads-short, reads-refused, reads-past, reads-found, fits}
 use borrow.Author.Needs.{needs}
 use Rattle.bend_file.proofs.chain.read_step.Statement.{statement}
@@ -54,7 +54,7 @@ returns-3 c =
     (sym (c .enum-told .given .1) ∙ at-find .find .ensures)
 
 returns-4 : tie.Need-returns-4
-unfolding def.problem
+unfolding read.problem
 returns-4 c =
     let at-cells = c .before .before .before .before in
     let at-boxes = at-cells .before .before .before .before .before .before .before .before .before .before .before .before .before in

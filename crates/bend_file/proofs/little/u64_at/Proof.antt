@@ -1,11 +1,11 @@
 -- `bend_file::little::u64_at` meets its contract. Assumes nothing.
-use Rattle.bend_file.specs.Little as def
+use Rattle.bend_file.specs.Little as little
 use borrow.Author.Needs.{needs}
 use Rattle.bend_file.proofs.little.u64_at.Statement.{statement}
 use Rattle.bend_file.proofs.little.u64_at.Tie as tie
 
 returns : tie.Need-returns
-unfolding def.u64
+unfolding little.u64
 returns c = search needs
 
 pub u64-at-spec : {M : Type 1} → statement M

@@ -1,11 +1,11 @@
 -- `bend_file::parts::problem` meets its contract. Assumes nothing.
-use Rattle.bend_file.specs.Read as def
+use Rattle.bend_file.specs.Read as read
 use borrow.Author.Needs.{needs}
 use Rattle.bend_file.proofs.parts.problem.Statement.{statement}
 use Rattle.bend_file.proofs.parts.problem.Tie as tie
 
 returns : tie.Need-returns
-unfolding def.problem
+unfolding read.problem
 returns c =
     let b = c .before .before .before .boxes .ensures in
     let v = c .cells .ensures in

@@ -1,7 +1,7 @@
 -- `bend_file::step::fields_number` meets its contract. Assumes nothing.
 use borrow.Author.Tests.{not-true, not-false}
 use mathlib.Core.Path.{sym, _∙_}
-use Rattle.bend_file.specs.Trailer as fields
+use Rattle.bend_file.specs.Trailer as trailer
 use Rattle.bend_file.proofs.Rules.{small-is}
 use Rattle.bend_file.proofs.StepRules.{large, miscounted, as-link}
 use borrow.Author.Needs.{needs}
@@ -22,7 +22,7 @@ returns-2 c =
     (λ h. c .if2 .taken (h ∙ sym (at-wanted .wanted .ensures)))
 
 link-number-requires : tie.Need-link-number-requires
-unfolding fields.count
+unfolding trailer.count
 link-number-requires c κs = search needs
 
 returns-3 : tie.Need-returns-3

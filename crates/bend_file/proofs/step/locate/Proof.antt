@@ -1,12 +1,12 @@
 -- `bend_file::step::locate` meets its contract. Assumes nothing.
-use Rattle.bend_file.specs.Trailer as fields
+use Rattle.bend_file.specs.Trailer as trailer
 use Rattle.bend_file.proofs.StepRules.{located}
 use borrow.Author.Needs.{needs}
 use Rattle.bend_file.proofs.step.locate.Statement.{statement}
 use Rattle.bend_file.proofs.step.locate.Tie as tie
 
 sub-t9 : tie.Need-sub-t9
-unfolding fields.count
+unfolding trailer.count
 sub-t9 c = search needs
 
 pub locate-spec : {M : Type 1} → statement M

@@ -1,11 +1,11 @@
 -- `bend_file::trailer::marked` meets its contract. Assumes nothing.
-use Rattle.bend_file.specs.Trailer as def
+use Rattle.bend_file.specs.Trailer as trailer
 use borrow.Author.Needs.{needs}
 use Rattle.bend_file.proofs.trailer.marked.Statement.{statement}
 use Rattle.bend_file.proofs.trailer.marked.Tie as tie
 
 returns : tie.Need-returns
-unfolding def.marked
+unfolding trailer.marked
 returns c = search needs
 
 pub marked-spec : {M : Type 1} → statement M

@@ -1,5 +1,5 @@
 -- `bend_file::trailer::small` meets its contract. Assumes nothing.
-use Rattle.bend_file.specs.Trailer as def
+use Rattle.bend_file.specs.Trailer as trailer
 use Rattle.bend_file.proofs.Rules.{moving-fits}
 use borrow.Author.Needs.{needs}
 use native.Mathlib.Omega.{arith}
@@ -7,7 +7,7 @@ use Rattle.bend_file.proofs.trailer.small.Statement.{statement}
 use Rattle.bend_file.proofs.trailer.small.Tie as tie
 
 returns : tie.Need-returns
-unfolding def.small
+unfolding trailer.small
 returns c = search needs
 
 pub small-spec : {M : Type 1} → statement M

@@ -1,7 +1,7 @@
 -- `bend_writer::put::put_f64` meets its contract. Assumes nothing.
 use borrow.Author.Needs.{needs}
 use Rattle.floats.proofs.Bits.{number-kind}
-use Rattle.bend_writer.specs.Bytes as def
+use Rattle.bend_writer.specs.Bytes as bytes
 use Rattle.bend_writer.proofs.Laying.{nan-pattern, reading}
 use Rattle.bend_writer.proofs.put.put_f64.Statement.{statement}
 use Rattle.bend_writer.proofs.put.put_f64.Tie as tie
@@ -25,7 +25,7 @@ same-length-2 : tie.Need-same-length-2
 same-length-2 c = search needs
 
 returns-2 : tie.Need-returns-2
-unfolding def.pattern
+unfolding bytes.pattern
 returns-2 c = search needs
 
 pub put-f64-spec : {M : Type 1} → statement M

@@ -1,6 +1,6 @@
 -- `bend_writer::put::put_u32` meets its contract. Assumes nothing.
 use borrow.Author.Needs.{needs}
-use Rattle.bend_writer.specs.Bytes as def
+use Rattle.bend_writer.specs.Bytes as bytes
 use Rattle.bend_writer.proofs.Laying.{then, length16}
 use Rattle.bend_writer.proofs.put.put_u32.Statement.{statement}
 use Rattle.bend_writer.proofs.put.put_u32.Tie as tie
@@ -18,7 +18,7 @@ same-length : tie.Need-same-length
 same-length c = search needs
 
 returns : tie.Need-returns
-unfolding def.bytes32
+unfolding bytes.bytes32
 returns c = then (c .before .before .before .before .before .before .put-u16 .ensures) (c .before .before .put-u162 .ensures) (rw length16)
 
 pub put-u32-spec : {M : Type 1} → statement M

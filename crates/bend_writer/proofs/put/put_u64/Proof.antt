@@ -1,6 +1,6 @@
 -- `bend_writer::put::put_u64` meets its contract. Assumes nothing.
 use borrow.Author.Needs.{needs}
-use Rattle.bend_writer.specs.Bytes as def
+use Rattle.bend_writer.specs.Bytes as bytes
 use Rattle.bend_writer.proofs.Laying.{then, length32}
 use Rattle.bend_writer.proofs.put.put_u64.Statement.{statement}
 use Rattle.bend_writer.proofs.put.put_u64.Tie as tie
@@ -18,7 +18,7 @@ same-length : tie.Need-same-length
 same-length c = search needs
 
 returns : tie.Need-returns
-unfolding def.bytes64
+unfolding bytes.bytes64
 returns c = then (c .before .before .before .before .before .before .put-u32 .ensures) (c .before .before .put-u322 .ensures) (rw length32)
 
 pub put-u64-spec : {M : Type 1} → statement M

@@ -1,6 +1,6 @@
 use native.Mathlib.Omega.{arith}
 use Rattle.boxed.proofs.Checks.{member-skip, member-hit, member-end}
-use Rattle.boxed.specs.Solve as def
+use Rattle.boxed.specs.Solve as solve
 use Rattle.boxed.specs.Private as private
 use lib.ListN.{drop}
 use mathlib.Core.List.{[], _∷_, _++_}
@@ -11,7 +11,7 @@ use Rattle.boxed.proofs.checkpoints.checkpoint.Statement.{statement}
 use Rattle.boxed.proofs.checkpoints.checkpoint.Tie as tie
 
 abbrev Inv-loop : tie.InvT-loop
-Inv-loop cap k i₀ i = (i ≤ 8) × (def.member k (drop i private.table ++ (cap ∷ [])) ≡ def.checkpoint cap k)
+Inv-loop cap k i₀ i = (i ≤ 8) × (solve.member k (drop i private.table ++ (cap ∷ [])) ≡ solve.checkpoint cap k)
 
 abbrev μ-loop : tie.MeasureT-loop
 μ-loop cap k i₀ i = 8 - i

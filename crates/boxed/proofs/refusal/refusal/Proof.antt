@@ -5,7 +5,7 @@ use mathlib.Core.Bool.{Bool, true, false, not, cond, _&&_, _||_}
 use mathlib.Core.Path.{_≡_, sym, _∙_}
 use lib.Dec.{ltb, eqb}
 use borrow.Author.Tests.{ltb-false, eqb-true, not-false}
-use Rattle.boxed.specs.Solve as def
+use Rattle.boxed.specs.Solve as solve
 use Rattle.boxed.specs.Private as private
 use Rattle.loops.proofs.Every.{both-true}
 use Rattle.boxed.proofs.refusal.refusal.Statement.{statement}
@@ -26,18 +26,18 @@ module _ (q c : Bool) (k r : ℕ) (e : q ≡ c) where
   passes-not n h g = rw (← e, h) g
 
 returns : tie.Need-returns
-unfolding def.refusal private.goodScale
+unfolding solve.refusal private.goodScale
 returns c = search (refuses, passes, refuses-not, passes-not, needs)
 
 few : (q b : Bool) (n : ℕ) → q ≡ (ltb 32 n || b) → q ≡ false → n ≤ 32
 few q b n e h = ltb-false 32 n (or-false (ltb 32 n) b (sym e ∙ h) .0)
 
 returns-2 : tie.Need-returns-2
-unfolding def.refusal private.goodScale
+unfolding solve.refusal private.goodScale
 returns-2 c = search (refuses, passes, refuses-not, passes-not, needs)
 
 returns-3 : tie.Need-returns-3
-unfolding def.refusal private.goodScale
+unfolding solve.refusal private.goodScale
 returns-3 c = search (refuses, passes, refuses-not, passes-not, needs)
 
 -- where 7 does not refuse, there is a scale for each row
@@ -47,15 +47,15 @@ equal-third a b c d n q e h =
     eqb-true c n (both-true (eqb a n && eqb b n) (eqb c n) (both-true (eqb a n && eqb b n && eqb c n) (eqb d n) all .0) .1)
 
 returns-4 : tie.Need-returns-4
-unfolding def.refusal private.goodScale
+unfolding solve.refusal private.goodScale
 returns-4 c = search (refuses, passes, refuses-not, passes-not, needs)
 
 returns-5 : tie.Need-returns-5
-unfolding def.refusal private.goodScale
+unfolding solve.refusal private.goodScale
 returns-5 c = search (refuses, passes, refuses-not, passes-not, needs)
 
 returns-6 : tie.Need-returns-6
-unfolding def.refusal private.goodScale
+unfolding solve.refusal private.goodScale
 returns-6 c =
     let at-if2 = c .before .before .before .before .before .before .before .before in
     let at-if1 = at-if2 .before .before in
@@ -63,7 +63,7 @@ returns-6 c =
     (passes _ _ _ _ (at-if2 .before .not-square .ensures) _ (at-if2 .if2 .left) (search (refuses, passes, refuses-not, passes-not, needs)))
 
 returns-7 : tie.Need-returns-7
-unfolding def.refusal private.goodScale
+unfolding solve.refusal private.goodScale
 returns-7 c =
     let at-if2 = c .before .before .before .before .before .before .before .before in
     let at-if1 = at-if2 .before .before in

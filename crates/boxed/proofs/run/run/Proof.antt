@@ -1,7 +1,7 @@
 use borrow.Author.Needs.{needs}
 use Rattle.boxed.proofs.Turns.{Kept, Reached, run-start, run-again, run-ended, run-over}
 use Rattle.box_rows.specs.Rows as box
-use Rattle.boxed.specs.Solve as def
+use Rattle.boxed.specs.Solve as solve
 use Prim.Native.Nat.{_-_}
 use native.Mathlib.Omega.{arith}
 use Rattle.boxed.proofs.run.run.Statement.{statement}
@@ -10,7 +10,7 @@ use Rattle.boxed.proofs.run.run.Tie as tie
 abbrev Inv-loop : tie.InvT-loop
 Inv-loop limits w u-free lo hi scale motion states₀ nu₀ rows₀ work₀ counts₀ states nu rows work counts =
     Kept (limits .cap) states₀ states nu₀ nu rows₀ rows work₀ work counts
-    × Reached (limits .cap) (box.problem w u-free lo hi scale) (def.watch motion (limits .tolerance)) nu₀ states₀ rows₀ work₀ nu states rows work counts
+    × Reached (limits .cap) (box.problem w u-free lo hi scale) (solve.watch motion (limits .tolerance)) nu₀ states₀ rows₀ work₀ nu states rows work counts
 
 abbrev μ-loop : tie.MeasureT-loop
 μ-loop limits w u-free lo hi scale motion states₀ nu₀ rows₀ work₀ counts₀ states nu rows work counts =

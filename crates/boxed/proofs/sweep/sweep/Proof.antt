@@ -1,4 +1,4 @@
-use Rattle.boxed.specs.Sweep as def
+use Rattle.boxed.specs.Sweep as sweep
 use Rattle.boxed.specs.Private as private
 use Rattle.loops.proofs.Turns.{turns-from, turns-again, turns-done}
 use Prim.Native.Nat.{_≤_, _-_}
@@ -16,20 +16,20 @@ use Rattle.boxed.proofs.sweep.sweep.Tie as tie
 
 abbrev Inv-loop : tie.InvT-loop
 Inv-loop w u-free lo hi states nu₀ before₀ n k₀ i₀ nu before k i =
-    (i ≤ n) × (n ≡ length u-free) × (length nu ≡ length nu₀) × (nu ≡ def.sweep w u-free lo hi states nu₀ i)
-    × (length before ≡ length before₀) × (before ≡ pasted (take i nu₀) before₀) × (k ≤ i) × (k ≡ def.stopped w u-free lo hi states nu₀ i)
+    (i ≤ n) × (n ≡ length u-free) × (length nu ≡ length nu₀) × (nu ≡ sweep.sweep w u-free lo hi states nu₀ i)
+    × (length before ≡ length before₀) × (before ≡ pasted (take i nu₀) before₀) × (k ≤ i) × (k ≡ sweep.stopped w u-free lo hi states nu₀ i)
 
 abbrev μ-loop : tie.MeasureT-loop
 μ-loop w u-free lo hi states nu₀ before₀ n k₀ i₀ nu before k i = n - i
 
 loop-holds : tie.Need-loop-holds Inv-loop μ-loop
-unfolding def.sweep def.stopped private.sweepRow
+unfolding sweep.sweep sweep.stopped private.sweepRow
 loop-holds c =
     let at-args = c .before .before .before .before .before .before .before in
     (search needs, search needs, search needs, turns-from _ _, search needs, front-start (at-args .args .nu .now) (at-args .args .before .now), search needs, turns-from _ _)
 
 loop-again : tie.Need-loop-again Inv-loop μ-loop
-unfolding def.sweep private.sweepRow
+unfolding sweep.sweep private.sweepRow
 loop-again c =
     let at-sweep-row = c .before .before in
     let at-put = at-sweep-row .before .before .before .before in
@@ -48,7 +48,7 @@ loop-again c =
     )
 
 returns : tie.Need-returns Inv-loop μ-loop
-unfolding def.sweep def.stopped private.sweepRow
+unfolding sweep.sweep sweep.stopped private.sweepRow
 returns c =
     let at-loop = c .before in
     let at-args = at-loop .before .before .before .before .before .before .before .before in

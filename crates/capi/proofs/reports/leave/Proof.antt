@@ -1,6 +1,6 @@
 use mathlib.Core.Path.{refl}
-use Rattle.report.specs.Joins as join
-use Rattle.capi.specs.Reports as def
+use Rattle.report.specs.Joins as joins
+use Rattle.capi.specs.Reports as report
 use borrow.Author.Needs.{needs}
 use Rattle.capi.proofs.reports.leave.Statement.{statement}
 use Rattle.capi.proofs.reports.leave.Tie as tie
@@ -30,7 +30,7 @@ same-length-2 : tie.Need-same-length-2
 same-length-2 c = search needs
 
 returns-2 : tie.Need-returns-2
-unfolding def.written
+unfolding report.written
 returns-2 c = rw (c .before .before .before .before .before .joined2 .given .1) (record { number-is = refl; counts-are = c .before .before .write .ensures; residual-is = refl })
 
 pub leave-spec : {M : Type 1} → statement M

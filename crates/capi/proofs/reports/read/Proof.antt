@@ -1,4 +1,4 @@
-use Rattle.capi.specs.Reports as def
+use Rattle.capi.specs.Reports as report
 use borrow.Author.Needs.{needs}
 use Rattle.capi.proofs.reports.read.Statement.{statement}
 use Rattle.capi.proofs.reports.read.Tie as tie
@@ -42,7 +42,7 @@ shared-slice-read-t24 : tie.Need-shared-slice-read-t24
 shared-slice-read-t24 c = search needs
 
 returns : tie.Need-returns
-unfolding def.read
+unfolding report.read
 returns c = rw (c .before .before .before .flagged .ensures, c .before .flagged2 .ensures)
 
 pub read-spec : {M : Type 1} → statement M

@@ -1,4 +1,4 @@
-use Rattle.capi.specs.Reports as def
+use Rattle.capi.specs.Reports as report
 use lib.ListN.{length-set}
 use native.Mathlib.Omega.{arith}
 use borrow.Author.Needs.{needs}
@@ -47,7 +47,7 @@ same-length : tie.Need-same-length
 same-length c = search needs
 
 returns : tie.Need-returns
-unfolding def.written
+unfolding report.written
 returns c = rw (c .before .flag .ensures, c .flag2 .ensures)
 
 pub write-spec : {M : Type 1} → statement M

@@ -1,5 +1,5 @@
 use mathlib.Core.Path.{refl}
-use Rattle.capi.specs.Solves as def
+use Rattle.capi.specs.Solves as plain
 use native.Mathlib.Omega.{arith}
 use borrow.Author.Needs.{needs}
 use Rattle.capi.proofs.solves.leave.Statement.{statement}

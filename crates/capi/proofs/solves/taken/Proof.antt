@@ -1,5 +1,5 @@
 use borrow.Author.Tests.{le-leb, lt-leb}
-use Rattle.capi.specs.Solves as def
+use Rattle.capi.specs.Solves as plain
 use native.Mathlib.Omega.{arith}
 use borrow.Author.Needs.{needs}
 use Rattle.capi.proofs.solves.taken.Statement.{statement}
@@ -8,11 +8,11 @@ use Rattle.capi.proofs.solves.taken.Reads as reads
 use Rattle.capi.proofs.solves.taken.Lts as lts
 
 returns : tie.Need-returns
-unfolding def.taken
+unfolding plain.taken
 returns c = rw (lt-leb _ _ (c .if1 .taken))
 
 returns-2 : tie.Need-returns-2
-unfolding def.taken
+unfolding plain.taken
 returns-2 c = rw (le-leb _ _ (c .if1 .left))
 
 pub taken-spec : {M : Type 1} → statement M

@@ -1,5 +1,5 @@
 use lib.ListN.{length-set}
-use Rattle.capi.specs.Solves as def
+use Rattle.capi.specs.Solves as plain
 use native.Mathlib.Omega.{arith}
 use borrow.Author.Needs.{needs}
 use Rattle.capi.proofs.solves.write.Statement.{statement}
@@ -59,7 +59,7 @@ same-length : tie.Need-same-length
 same-length c = search needs
 
 returns : tie.Need-returns
-unfolding def.written
+unfolding plain.written
 returns c = rw (c .before .before .before .flag .ensures, c .before .before .flag2 .ensures)
 
 pub write-spec : {M : Type 1} → statement M

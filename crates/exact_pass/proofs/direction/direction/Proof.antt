@@ -2,7 +2,7 @@ use Rattle.loops.proofs.Common.{_-_, _≤_, _≡_, _++_, arith, length, drop, n
 use Rattle.box_rows.proofs.Matrix.{tab-filled}
 use Rattle.loops.proofs.Fill.{tab-start, tab-again}
 use Rattle.exact_pass.proofs.Rows.{free-row}
-use Rattle.exact_pass.specs.Pass as def
+use Rattle.exact_pass.specs.Pass as pass
 use Rattle.exact_pass.specs.Private as private
 use Rattle.exact_pass.proofs.direction.direction as this
 use this.Tie as tie
@@ -14,7 +14,7 @@ abbrev μ-loop : tie.MeasureT-loop
 μ-loop inconsistent scale free z nu y₀ k i₀ y i = k - i
 
 returns : tie.Need-returns Inv-loop μ-loop
-unfolding def.direction
+unfolding pass.direction
 returns c = rw (c .if1 .taken)
 
 loop-again : tie.Need-loop-again Inv-loop μ-loop
@@ -23,7 +23,7 @@ loop-again c =
     (search needs, search needs, search needs, cc (tab-again _ _ _ _ (l .inv .3) (l .inv .2) (omega arith)))
 
 returns-2 : tie.Need-returns-2 Inv-loop μ-loop
-unfolding def.direction
+unfolding pass.direction
 returns-2 c =
     let at-loop = c .before in
     let at-if1 = at-loop .before in

@@ -1,27 +1,27 @@
 use Rattle.loops.proofs.Common.{_-_, _≤_, _≡_, arith, length, needs}
 use Rattle.exact_pass.proofs.Rows.{free-row}
-use Rattle.exact_pass.specs.Pass as def
+use Rattle.exact_pass.specs.Pass as pass
 use Rattle.loops.proofs.Turns.{turns-from, turns-again, turns-done}
 use Rattle.exact_pass.proofs.ratio.advance as this
 use this.Tie as tie
 
 abbrev Inv-loop : tie.InvT-loop
-Inv-loop free y alpha nu₀ k i₀ nu i = (i ≤ k) × (k ≡ length free) × (length nu₀ ≡ length nu) × (nu ≡ def.advance free y alpha nu₀ i)
+Inv-loop free y alpha nu₀ k i₀ nu i = (i ≤ k) × (k ≡ length free) × (length nu₀ ≡ length nu) × (nu ≡ pass.advance free y alpha nu₀ i)
 
 abbrev μ-loop : tie.MeasureT-loop
 μ-loop free y alpha nu₀ k i₀ nu i = k - i
 
 loop-holds : tie.Need-loop-holds Inv-loop μ-loop
-unfolding def.advance
+unfolding pass.advance
 loop-holds c = search (turns-from, needs)
 
 loop-again : tie.Need-loop-again Inv-loop μ-loop
-unfolding def.advance
+unfolding pass.advance
 loop-again c =
     (search needs, search needs, search needs, turns-again _ _ _ _ _ (c .before .before .before .before .before .before .before .before .before .loop .inv .3) (cc))
 
 returns : tie.Need-returns Inv-loop μ-loop
-unfolding def.advance
+unfolding pass.advance
 returns c = search (turns-done, needs)
 
 pub advance-spec : {M : Type 1} → this.Statement.statement M

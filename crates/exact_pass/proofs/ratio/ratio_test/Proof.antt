@@ -1,27 +1,27 @@
 use Rattle.loops.proofs.Common.{_-_, _≤_, _≡_, arith, length, needs}
 use Rattle.exact_pass.proofs.Rows.{free-row}
-use Rattle.exact_pass.specs.Pass as def
+use Rattle.exact_pass.specs.Pass as pass
 use Rattle.exact_pass.specs.Private as private
 use Rattle.loops.proofs.Turns.{turns-from, turns-again, turns-done}
 use Rattle.exact_pass.proofs.ratio.ratio_test as this
 use this.Tie as tie
 
 abbrev Inv-loop : tie.InvT-loop
-Inv-loop lo hi free nu y alpha k r₀ i₀ r i = (i ≤ k) × (k ≡ length free) × (r ≡ def.ratioTest lo hi free nu y alpha i)
+Inv-loop lo hi free nu y alpha k r₀ i₀ r i = (i ≤ k) × (k ≡ length free) × (r ≡ pass.ratioTest lo hi free nu y alpha i)
 
 abbrev μ-loop : tie.MeasureT-loop
 μ-loop lo hi free nu y alpha k r₀ i₀ r i = k - i
 
 loop-holds : tie.Need-loop-holds Inv-loop μ-loop
-unfolding def.ratioTest
+unfolding pass.ratioTest
 loop-holds c = search (turns-from, needs)
 
 loop-again : tie.Need-loop-again Inv-loop μ-loop
-unfolding def.ratioTest private.ratioRow private.nearer
+unfolding pass.ratioTest private.ratioRow private.nearer
 loop-again c = (search needs, search needs, turns-again _ _ _ _ _ (c .before .before .before .before .before .before .before .loop .inv .2) (cc))
 
 returns : tie.Need-returns Inv-loop μ-loop
-unfolding def.ratioTest
+unfolding pass.ratioTest
 returns c = search (turns-done, needs)
 
 pub ratio-test-spec : {M : Type 1} → this.Statement.statement M

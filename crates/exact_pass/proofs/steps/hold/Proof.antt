@@ -1,10 +1,10 @@
 use native.Mathlib.Omega.{arith}
-use Rattle.exact_pass.specs.Pass as def
+use Rattle.exact_pass.specs.Pass as pass
 use Rattle.exact_pass.proofs.steps.hold as this
 use this.Tie as tie
 
 returns : tie.Need-returns
-unfolding def.hold
+unfolding pass.hold
 returns c =
     let at-put-state = c .before .before in
     let at-put = at-put-state .before .before .before .before in

@@ -1,27 +1,27 @@
 use Rattle.loops.proofs.Common.{_-_, _≤_, _≡_, arith, length, needs}
 use Rattle.exact_pass.proofs.Rows.{free-row}
-use Rattle.exact_pass.specs.Pass as def
+use Rattle.exact_pass.specs.Pass as pass
 use Rattle.loops.proofs.Turns.{turns-from, turns-again, turns-done}
 use Rattle.exact_pass.proofs.steps.scatter as scatter
 use scatter.Tie as tie
 
 abbrev Inv-loop : tie.InvT-loop
-Inv-loop free y d₀ k i₀ d i = (i ≤ k) × (k ≡ length free) × (length d ≡ length d₀) × (d ≡ def.scattered free y d₀ i)
+Inv-loop free y d₀ k i₀ d i = (i ≤ k) × (k ≡ length free) × (length d ≡ length d₀) × (d ≡ pass.scattered free y d₀ i)
 
 abbrev μ-loop : tie.MeasureT-loop
 μ-loop free y d₀ k i₀ d i = k - i
 
 loop-holds : tie.Need-loop-holds Inv-loop μ-loop
-unfolding def.scattered
+unfolding pass.scattered
 loop-holds c = search (turns-from, needs)
 
 loop-again : tie.Need-loop-again Inv-loop μ-loop
-unfolding def.scattered
+unfolding pass.scattered
 loop-again c =
     (search needs, search needs, search needs, turns-again _ _ _ _ _ (c .before .before .before .before .before .before .before .loop .inv .3) (cc))
 
 returns : tie.Need-returns Inv-loop μ-loop
-unfolding def.scattered
+unfolding pass.scattered
 returns c = search (turns-done, needs)
 
 pub scatter-spec : {M : Type 1} → scatter.Statement.statement M

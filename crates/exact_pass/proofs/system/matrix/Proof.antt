@@ -3,14 +3,14 @@ use native.Mathlib.Nat.{mul-le-mul-right, suc-mul}
 use Rattle.loops.proofs.Index.{product}
 use Rattle.loops.proofs.Parts.{part-length}
 use Rattle.box_rows.proofs.Matrix.{row-length}
-use Rattle.exact_pass.specs.Pass as def
+use Rattle.exact_pass.specs.Pass as pass
 use Rattle.exact_pass.proofs.Rows.{free-row}
 use Rattle.exact_pass.proofs.Systems.{matrix-start, matrix-again, matrix-done}
 use Rattle.exact_pass.proofs.system.matrix as this
 use this.Tie as tie
 
 abbrev Inv-loop : tie.InvT-loop
-Inv-loop w scale free m₀ k n i₀ m i = (i ≤ k) × (k ≡ length free) × (n ≡ length scale) × (length m ≡ length m₀) × (m ≡ def.matrix w scale free i ++ drop (i * length free) m₀)
+Inv-loop w scale free m₀ k n i₀ m i = (i ≤ k) × (k ≡ length free) × (n ≡ length scale) × (length m ≡ length m₀) × (m ≡ pass.matrix w scale free i ++ drop (i * length free) m₀)
 
 abbrev μ-loop : tie.MeasureT-loop
 μ-loop w scale free m₀ k n i₀ m i = k - i

@@ -1,5 +1,5 @@
 -- `printer::lines::body` meets its contract. Assumes nothing.
-use Rattle.printer.specs.Output as def
+use Rattle.printer.specs.Output as print
 use Rattle.printer.proofs.Laws.{then}
 use borrow.Author.Needs.{needs}
 use Rattle.printer.proofs.lines.body.Statement.{statement}
@@ -15,7 +15,7 @@ same-length : tie.Need-same-length
 same-length c = search needs
 
 returns : tie.Need-returns
-unfolding def.body
+unfolding print.body
 returns c = then (c .before .before .before .before .before .before .report .ensures) (c .before .before .rows .ensures)
 
 pub body-spec : {M : Type 1} → statement M

@@ -1,5 +1,5 @@
 -- `printer::lines::cause_word` meets its contract. Assumes nothing.
-use Rattle.printer.specs.Output as def
+use Rattle.printer.specs.Output as print
 use Rattle.printer.proofs.Laws.{reading}
 use borrow.Author.Needs.{needs}
 use Rattle.printer.proofs.lines.cause_word.Statement.{statement}
@@ -36,21 +36,21 @@ same-length : tie.Need-same-length
 same-length c = search needs
 
 returns : tie.Need-returns
-unfolding def.cause
+unfolding print.cause
 returns c = reading (c .before .before .text .ensures) (rw (c .before .before .before .before .before .enum-told .given .1))
 
 same-length-2 : tie.Need-same-length-2
 same-length-2 c = search needs
 
 returns-2 : tie.Need-returns-2
-unfolding def.cause
+unfolding print.cause
 returns-2 c = reading (c .before .before .text2 .ensures) (rw (c .before .before .before .before .before .enum-told2 .given .1))
 
 same-length-3 : tie.Need-same-length-3
 same-length-3 c = search needs
 
 returns-3 : tie.Need-returns-3
-unfolding def.cause
+unfolding print.cause
 returns-3 c = reading (c .before .before .text3 .ensures) (rw (c .before .before .before .before .before .enum-told3 .given .1))
 
 pub cause-word-spec : {M : Type 1} → statement M

@@ -2,7 +2,7 @@
 use Prim.Native.Nat.{_≤_, _-_}
 use mathlib.Core.Path.{_≡_}
 use lib.ListN.{length}
-use Rattle.printer.specs.Output as def
+use Rattle.printer.specs.Output as print
 use Rattle.printer.specs.Writing.{Wrote}
 use Rattle.printer.proofs.Laws.{listed-start, listed-again, listed-done}
 use borrow.Author.Needs.{needs}
@@ -10,7 +10,7 @@ use Rattle.printer.proofs.lines.listed.Statement.{statement}
 use Rattle.printer.proofs.lines.listed.Tie as tie
 
 abbrev Inv-loop : tie.InvT-loop
-Inv-loop out₀ at rows next₀ i₀ out next i = (i ≤ length rows) × (length out ≡ length out₀) × Wrote out₀ at out next (def.listed rows i)
+Inv-loop out₀ at rows next₀ i₀ out next i = (i ≤ length rows) × (length out ≡ length out₀) × Wrote out₀ at out next (print.listed rows i)
 
 abbrev μ-loop : tie.MeasureT-loop
 μ-loop out₀ at rows next₀ i₀ out next i = length rows - i

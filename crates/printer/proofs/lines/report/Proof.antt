@@ -1,5 +1,5 @@
 -- `printer::lines::report` meets its contract. Assumes nothing.
-use Rattle.printer.specs.Output as def
+use Rattle.printer.specs.Output as print
 use Rattle.printer.proofs.Laws.{then}
 use borrow.Author.Needs.{needs}
 use Rattle.printer.proofs.lines.report.Statement.{statement}
@@ -18,7 +18,7 @@ same-length : tie.Need-same-length
 same-length c = search needs
 
 returns : tie.Need-returns
-unfolding def.reportLine
+unfolding print.reportLine
 returns c = then (then (c .before .before .before .before .before .before .before .before .before .before .counts .ensures) (c .before .before .before .before .before .before .flags .ensures)) (c .before .before .remains .ensures)
 
 pub report-spec : {M : Type 1} → statement M

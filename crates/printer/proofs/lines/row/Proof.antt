@@ -1,5 +1,5 @@
 -- `printer::lines::row` meets its contract. Assumes nothing.
-use Rattle.printer.specs.Output as def
+use Rattle.printer.specs.Output as print
 use Rattle.printer.proofs.Laws.{then, reading}
 use borrow.Author.Needs.{needs}
 use Rattle.printer.proofs.lines.row.Statement.{statement}
@@ -33,7 +33,7 @@ same-length : tie.Need-same-length
 same-length c = search needs
 
 returns : tie.Need-returns
-unfolding def.rowLine
+unfolding print.rowLine
 returns c =
     reading (then (then (then (then (then (c .before .before .before .before .before .before .before .before .before .before .before .before .before .before .before .before .before .before .before .before .before .before .before .count .ensures)
     (c .before .before .before .before .before .before .before .before .before .before .before .before .before .before .before .before .before .before .before .put .ensures))

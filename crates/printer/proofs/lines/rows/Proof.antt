@@ -2,7 +2,7 @@
 use Prim.Native.Nat.{_≤_, _-_}
 use mathlib.Core.Path.{_≡_}
 use lib.ListN.{length}
-use Rattle.printer.specs.Output as def
+use Rattle.printer.specs.Output as print
 use Rattle.printer.specs.Writing.{Wrote}
 use Rattle.printer.proofs.Laws.{rows-start, rows-again, rows-done}
 use borrow.Author.Needs.{needs}
@@ -10,7 +10,7 @@ use Rattle.printer.proofs.lines.rows.Statement.{statement}
 use Rattle.printer.proofs.lines.rows.Tie as tie
 
 abbrev Inv-loop : tie.InvT-loop
-Inv-loop out₀ at states nu next₀ i₀ out next i = (i ≤ length nu) × (length out ≡ length out₀) × Wrote out₀ at out next (def.rowLines states nu i)
+Inv-loop out₀ at states nu next₀ i₀ out next i = (i ≤ length nu) × (length out ≡ length out₀) × Wrote out₀ at out next (print.rowLines states nu i)
 
 abbrev μ-loop : tie.MeasureT-loop
 μ-loop out₀ at states nu next₀ i₀ out next i = length nu - i

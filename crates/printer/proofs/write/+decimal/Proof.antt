@@ -2,7 +2,7 @@
 use mathlib.Core.Path.{ap, _∙_}
 use mathlib.Core.List.{[], _∷_, _++_}
 use Prim.Native.Nat.{_/_}
-use Rattle.printer.specs.Output as def
+use Rattle.printer.specs.Output as print
 use Rattle.printer.proofs.Laws.{reading, then, decimal-low, decimal-high}
 use borrow.Author.Needs.{needs}
 use Prim.Native.Nat.{ℕ, _<_}
@@ -114,7 +114,7 @@ decimal-returns-2 : (t : ℕ) → decimal-lts.Need-returns-2 (
   decimal.Post,
 ) (decimal-at t) decimal.Post
 decimal-returns-2 t c =
-    reading (then (c .before .before .before .before .before .before .before .decimal .ensures) (c .before .before .put2 .ensures)) (ap (λ (d : ℕ). def.decimal
+    reading (then (c .before .before .before .before .before .before .before .decimal .ensures) (c .before .before .put2 .ensures)) (ap (λ (d : ℕ). print.decimal
     (c .before .before .before .before .before .before .before .before .before .before .before .args .x / 10) ++ (d ∷ [])) (c .before .before .before .digit2 .ensures) ∙ decimal-high _
     (c .before .before .before .before .before .before .before .before .before .if1 .left))
 

@@ -2,7 +2,7 @@
 use mathlib.Core.Path.{ap, _∙_}
 use mathlib.Core.List.{[], _∷_, _++_}
 use Prim.Native.Nat.{_/_, _-_}
-use Rattle.printer.specs.Output as def
+use Rattle.printer.specs.Output as print
 use Rattle.printer.proofs.Laws.{reading, then, nothing-wrote, hex-none, hex-more}
 use borrow.Author.Needs.{needs}
 use native.Mathlib.Omega.{arith}
@@ -95,7 +95,7 @@ hex-returns-2 : (t : ℕ) → hex-lts.Need-returns-2 (
   put-reads.Learnt,
 ) (hex-at t) hex.Post
 hex-returns-2 t c =
-    reading (then (c .before .before .before .before .before .before .before .hex .ensures) (c .before .before .put .ensures)) (ap (λ (d : ℕ). def.hex (c .before .before .before .before .before .before .before .before .before .before .before .args .places - 1)
+    reading (then (c .before .before .before .before .before .before .before .hex .ensures) (c .before .before .put .ensures)) (ap (λ (d : ℕ). print.hex (c .before .before .before .before .before .before .before .before .before .before .before .args .places - 1)
     (c .before .before .before .before .before .before .before .before .before .before .before .args .x / 16) ++ (d ∷ []))
     (c .before .before .before .digit .ensures) ∙ hex-more _ _ (omega (arith, c .before .before .before .before .before .before .before .before .before .if1 .left)))
 

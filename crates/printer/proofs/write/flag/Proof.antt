@@ -1,5 +1,5 @@
 -- `printer::write::flag` meets its contract. Assumes nothing.
-use Rattle.printer.specs.Output as def
+use Rattle.printer.specs.Output as print
 use Rattle.printer.proofs.Laws.{then, reading}
 use borrow.Author.Needs.{needs}
 use Rattle.printer.proofs.write.flag.Statement.{statement}
@@ -15,7 +15,7 @@ same-length : tie.Need-same-length
 same-length c = search needs
 
 returns : tie.Need-returns
-unfolding def.flag
+unfolding print.flag
 returns c = reading (then (c .before .before .before .before .before .before .before .text .ensures) (c .before .before .put .ensures)) (rw (c .before .before .before .before .if1 .taken))
 
 put-requires-2 : tie.Need-put-requires-2
@@ -25,7 +25,7 @@ same-length-2 : tie.Need-same-length-2
 same-length-2 c = search needs
 
 returns-2 : tie.Need-returns-2
-unfolding def.flag
+unfolding print.flag
 returns-2 c = reading (then (c .before .before .before .before .before .before .before .text .ensures) (c .before .before .put2 .ensures)) (rw (c .before .before .before .before .if1 .left))
 
 pub flag-spec : {M : Type 1} → statement M

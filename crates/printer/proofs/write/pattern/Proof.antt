@@ -1,5 +1,5 @@
 -- `printer::write::pattern` meets its contract. Assumes nothing.
-use Rattle.printer.specs.Output as def
+use Rattle.printer.specs.Output as print
 use Rattle.printer.proofs.Laws.{reading, nan-printed, has-bits}
 use borrow.Author.Needs.{needs}
 use Rattle.printer.proofs.write.pattern.Statement.{statement}
@@ -24,7 +24,7 @@ same-length-2 : tie.Need-same-length-2
 same-length-2 c = search needs
 
 returns-2 : tie.Need-returns-2
-unfolding def.pattern
+unfolding print.pattern
 returns-2 c = search needs
 
 pub pattern-spec : {M : Type 1} → statement M

@@ -5,7 +5,7 @@ use native.Mathlib.Nat.{mul-le-mul-right, suc-mul}
 use lib.ListN.{length, drop}
 use Rattle.loops.proofs.Index.{product}
 use Rattle.loops.proofs.Parts.{parts-start, parts-again, parts-done, part-length}
-use Rattle.triangle.specs.Triangle as def
+use Rattle.triangle.specs.Triangle as triangle
 use Rattle.triangle.proofs.Mirrored.{mirror-row-length}
 use borrow.Author.Needs.{needs}
 use native.Mathlib.Omega.{arith}
@@ -13,16 +13,16 @@ use Rattle.triangle.proofs.mirror.mirror.Statement.{statement}
 use Rattle.triangle.proofs.mirror.mirror.Tie as tie
 
 abbrev Inv-loop : tie.InvT-loop
-Inv-loop t n w₀ i₀ w i = (i ≤ n) × (length w ≡ length w₀) × (w ≡ def.rowsMirrored t n i ++ drop (i * n) w₀)
+Inv-loop t n w₀ i₀ w i = (i ≤ n) × (length w ≡ length w₀) × (w ≡ triangle.rowsMirrored t n i ++ drop (i * n) w₀)
 
 abbrev μ-loop : tie.MeasureT-loop
 μ-loop t n w₀ i₀ w i = n - i
 
 loop-holds : tie.Need-loop-holds Inv-loop μ-loop
-unfolding def.rowsMirrored
+unfolding triangle.rowsMirrored
 loop-holds c =
     let at-args = c .before .before in
-    (search needs, search needs, parts-start (def.mirrorRow (at-args .args .t .now) (at-args .args .n)) (at-args .args .n) (mirror-row-length (at-args .args .t .now) (at-args .args .n)) _)
+    (search needs, search needs, parts-start (triangle.mirrorRow (at-args .args .t .now) (at-args .args .n)) (at-args .args .n) (mirror-row-length (at-args .args .t .now) (at-args .args .n)) _)
 
 mul-a : tie.Need-mul-a Inv-loop μ-loop
 mul-a c =
@@ -68,14 +68,14 @@ loop-less : tie.Need-loop-less Inv-loop μ-loop
 loop-less c = search needs
 
 loop-again : tie.Need-loop-again Inv-loop μ-loop
-unfolding def.rowsMirrored
+unfolding triangle.rowsMirrored
 loop-again c =
     let at-row = c .before .before in
     let at-loop = at-row .before .before .before in
     let at-args = at-loop .before .before .before in (
       search needs,
       search needs,
-      parts-again (def.mirrorRow (at-args .args .t .now) (at-args .args .n)) (at-args .args .n) (mirror-row-length (at-args .args .t .now) (at-args .args .n))
+      parts-again (triangle.mirrorRow (at-args .args .t .now) (at-args .args .n)) (at-args .args .n) (mirror-row-length (at-args .args .t .now) (at-args .args .n))
           _ (at-loop .loop .i) (at-loop .loop .w) (at-row .mirror-row .last .1 .1 .1 .0) (at-loop .loop .inv .2) (at-row .mirror-row .ensures),
     )
 
@@ -83,11 +83,11 @@ same-length : tie.Need-same-length Inv-loop μ-loop
 same-length c = search needs
 
 returns : tie.Need-returns Inv-loop μ-loop
-unfolding def.mirrored def.rowsMirrored
+unfolding triangle.mirrored triangle.rowsMirrored
 returns c =
     let at-loop = c .before in
     let at-args = at-loop .before .before .before in
-    parts-done (def.mirrorRow (at-args .args .t .now) (at-args .args .n)) (at-args .args .n) (mirror-row-length (at-args .args .t .now) (at-args .args .n)) _ (at-loop .loop .i) (at-loop .loop .w) (at-args .pre .2) (omega arith) (omega arith) (at-loop .loop .inv .2)
+    parts-done (triangle.mirrorRow (at-args .args .t .now) (at-args .args .n)) (at-args .args .n) (mirror-row-length (at-args .args .t .now) (at-args .args .n)) _ (at-loop .loop .i) (at-loop .loop .w) (at-args .pre .2) (omega arith) (omega arith) (at-loop .loop .inv .2)
 
 pub mirror-spec : {M : Type 1} → statement M
 mirror-spec =

@@ -4,7 +4,7 @@ use mathlib.Core.List.{_++_}
 use lib.ListN.{length, drop}
 use Rattle.loops.proofs.Fill.{tab-start, tab-again}
 use Rattle.box_rows.proofs.Matrix.{tab-filled}
-use Rattle.triangle.specs.Triangle as def
+use Rattle.triangle.specs.Triangle as triangle
 use Rattle.triangle.proofs.Mirrored.{place-start, place-within}
 use borrow.Author.Needs.{needs}
 use native.Mathlib.Omega.{arith}
@@ -12,7 +12,7 @@ use Rattle.triangle.proofs.mirror.mirror_row.Statement.{statement}
 use Rattle.triangle.proofs.mirror.mirror_row.Tie as tie
 
 abbrev Inv-loop : tie.InvT-loop
-Inv-loop t n i out₀ place₀ j₀ out place j = (j ≤ n) × (place ≡ def.place i j) × (length out ≡ length out₀) × (out ≡ def.mirrorRow t j i ++ drop j out₀)
+Inv-loop t n i out₀ place₀ j₀ out place j = (j ≤ n) × (place ≡ triangle.place i j) × (length out ≡ length out₀) × (out ≡ triangle.mirrorRow t j i ++ drop j out₀)
 
 abbrev μ-loop : tie.MeasureT-loop
 μ-loop t n i out₀ place₀ j₀ out place j = n - j
@@ -21,7 +21,7 @@ row-start-requires : tie.Need-row-start-requires Inv-loop μ-loop
 row-start-requires c κs = search needs
 
 loop-holds : tie.Need-loop-holds Inv-loop μ-loop
-unfolding def.mirrorRow
+unfolding triangle.mirrorRow
 loop-holds c = (search needs, c .row-start .ensures ∙ place-start _, search needs, tab-start _ _)
 
 at-requires : tie.Need-at-requires Inv-loop μ-loop
@@ -46,7 +46,7 @@ loop-less : tie.Need-loop-less Inv-loop μ-loop
 loop-less c = search needs
 
 loop-again : tie.Need-loop-again Inv-loop μ-loop
-unfolding def.mirrorRow
+unfolding triangle.mirrorRow
 loop-again c =
     let at-put = c .before .before .before in
     let at-at = at-put .before in
@@ -62,7 +62,7 @@ same-length : tie.Need-same-length Inv-loop μ-loop
 same-length c = search needs
 
 returns : tie.Need-returns Inv-loop μ-loop
-unfolding def.mirrorRow
+unfolding triangle.mirrorRow
 returns c =
     let at-loop = c .before in
     let at-args = at-loop .before .before .before .before in

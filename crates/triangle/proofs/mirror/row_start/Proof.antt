@@ -1,5 +1,5 @@
 use Rattle.loops.proofs.Index.{product}
-use Rattle.triangle.specs.Triangle as def
+use Rattle.triangle.specs.Triangle as triangle
 use native.Mathlib.Omega.{arith}
 use borrow.Author.Needs.{needs}
 use Rattle.triangle.proofs.mirror.row_start.Statement.{statement}
@@ -12,7 +12,7 @@ mul-result : tie.Need-mul-result
 mul-result c = omega (arith, product (c .args .i) (c .args .i) (c .pre) (c .pre))
 
 returns : tie.Need-returns
-unfolding def.rowStart
+unfolding triangle.rowStart
 returns c = search needs
 
 pub row-start-spec : {M : Type 1} → statement M
