@@ -1,5 +1,5 @@
 -- Words of private contracts, here and in the crates above: what they are lent. No promise of a public call stands on them. Definitions only.
-use Prim.Native.Nat.{ℕ, _+_, _*_, _≤_}
+use Prim.Native.Nat.{ℕ, _+_, _*_, _≤_, _<_}
 use mathlib.Core.Logic.{_⊎_}
 use mathlib.Core.Path.{_≡_}
 use mathlib.Core.Bool.{Bool, not}
@@ -7,6 +7,7 @@ use mathlib.Core.List.{List}
 use lib.Dec.{eqb}
 use lib.ListN.{length}
 use lib.Ieee.{Float}
+use Rattle.loops.specs.Loops.{counted, noted}
 use Rattle.floats.specs.Ops.{at}
 use Rattle.floats.specs.Helpers.{none}
 use Rattle.floats.specs.declared.Clamped.{Clamped}
@@ -23,6 +24,22 @@ pub record Fewer (a b r : ℕ) : Type 0 where
 pub record Updated (row : Row) (r : Clamped) : Type 0 where
   pub value : r .value ≡ update (row .nu) (row .u) (row .diagonal) (row .lo) (row .hi)
   pub side : r .side ≡ updateSide (row .nu) (row .u) (row .diagonal) (row .lo) (row .hi)
+
+-- what A says of the lists, and that i is one of n rows
+pub record AtRow (A : Type 0) (n i : ℕ) : Type 0 where
+  pub lists : A
+  pub row : i < n
+
+-- the same, and that k counts some of the rows before row i
+pub record CountedRow (A : Type 0) (n i k : ℕ) : Type 0 where
+  pub lists : A
+  pub row : i < n
+  pub count : k ≤ i
+
+-- k and the row list l after row i, where b tells whether it is noted
+pub record Noted (b : Bool) (i k : ℕ) (l : List ℕ) (k′ : ℕ) (l′ : List ℕ) : Type 0 where
+  pub count : k′ ≡ counted b k
+  pub listed : l′ ≡ noted b l k i
 
 -- w is a matrix of n rows and columns, few enough
 abbrev pub Square : List Float → ℕ → Type 0

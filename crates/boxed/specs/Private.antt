@@ -70,17 +70,6 @@ pub record Lists (p : box.Problem) (st : List ℕ) (nu : List Float) : Type 0 wh
   pub matrix : Matrix (box.size p) (p .w) (p .lo) (p .hi) st nu
   pub scales : length (p .scale) ≡ box.size p
 
--- what A says of the lists, and that i is one of n rows
-pub record Row (A : Type 0) (n i : ℕ) : Type 0 where
-  pub lists : A
-  pub row : i < n
-
--- the same, and that k counts some of the rows before row i
-pub record CountedRow (A : Type 0) (n i k : ℕ) : Type 0 where
-  pub lists : A
-  pub row : i < n
-  pub count : k ≤ i
-
 -- two lists of n values
 pub record Pair (n : ℕ) (a b : List Float) : Type 0 where
   pub first : length a ≡ n
@@ -144,11 +133,6 @@ pub record TurnLent (p : box.Problem) (st : List ℕ) (nu : List Float) (l : Lis
 pub record RowRead (w : List Float) (n i : ℕ) (r : List Float) : Type 0 where
   pub row : r ≡ box.row w n i
   pub long : length r ≡ n
-
--- k and the row list l after row i, where b tells whether it is noted
-pub record Noted (b : Bool) (i k : ℕ) (l : List ℕ) (k′ : ℕ) (l′ : List ℕ) : Type 0 where
-  pub count : k′ ≡ counted b k
-  pub listed : l′ ≡ noted b l k i
 
 -- the start x, with at most m rows Idle
 pub record Started (x : sweep.Start) (m : ℕ) (nu : List Float) (st : List ℕ) (k : ℕ) : Type 0 where

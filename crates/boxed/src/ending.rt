@@ -2,6 +2,7 @@
 ghost use mathlib.Core.Path.{_≡_};
 ghost use lib.ListN.{length};
 ghost use Rattle.box_rows.specs.Rows as box;
+ghost use Rattle.box_rows.specs.Private.{AtRow};
 ghost use Rattle.boxed.specs.Sweep as sweep;
 ghost use Rattle.boxed.specs.Private as private;
 use crate::BoxAnswer;
@@ -28,7 +29,7 @@ pub fn nothing(idle: u32) -> BoxReport
 }
 
 fn classify_row(lo: &[f64], hi: &[f64], scale: &[f64], nu: &[f64], states: &mut [u8], i: usize)
-    requires { ⌜ private.Row
+    requires { ⌜ AtRow
         (private.Scaled (length (now nu)) (now lo) (now hi) (now scale) (now states) (now nu))
         (length (now nu)) i ⌝ }
     ensures { λ q. ⌜ now (states .exit)

@@ -2,12 +2,13 @@
 ghost use Prim.Native.Nat.{_<_};
 ghost use lib.ListN.{length};
 ghost use Rattle.loops.specs.Gathering.{Gathering};
+ghost use Rattle.box_rows.specs.Private.{Noted};
 ghost use Rattle.boxed.specs.Private as private;
 use crate::read;
 
 fn grown_row(v: f64, s: f64, i: usize, k: usize, rows: &mut [usize]) -> usize
     requires { ⌜ k < length (now rows) ⌝ }
-    ensures { λ q. ⌜ private.Noted (private.isGrown v s) i k (now (rows .entry)) q (now (rows .exit)) ⌝ }
+    ensures { λ q. ⌜ Noted (private.isGrown v s) i k (now (rows .entry)) q (now (rows .exit)) ⌝ }
 {
     if floats::abs(v) > exact_pass::DIVERGENCE * s {
         read::put_number(rows, k, i);

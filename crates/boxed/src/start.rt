@@ -3,6 +3,7 @@
 ghost use mathlib.Core.Path.{_≡_};
 ghost use Prim.Native.Nat.{_+_};
 ghost use lib.ListN.{length};
+ghost use Rattle.box_rows.specs.Private.{CountedRow};
 ghost use Rattle.boxed.specs.Sweep as sweep;
 ghost use Rattle.boxed.specs.Private as private;
 use crate::read;
@@ -17,7 +18,7 @@ fn start_row(
     i: usize,
     idle: usize,
 ) -> usize
-    requires { ⌜ private.CountedRow (length (now states) ≡ length (now nu)) (length (now nu)) i idle ⌝ }
+    requires { ⌜ CountedRow (length (now states) ≡ length (now nu)) (length (now nu)) i idle ⌝ }
     ensures { λ q. ⌜ private.Started
         (private.startRow d lo hi i (private.started (now (nu .entry)) (now (states .entry)) idle)) (i + 1)
         (now (nu .exit)) (now (states .exit)) q ⌝ }

@@ -3,7 +3,7 @@ ghost use mathlib.Core.Path.{_≡_};
 ghost use Prim.Native.Nat.{_+_, _<_};
 ghost use lib.ListN.{length};
 ghost use Rattle.loops.specs.Loops.{counted};
-ghost use Rattle.box_rows.specs.Private.{isStopped};
+ghost use Rattle.box_rows.specs.Private.{CountedRow, isStopped};
 ghost use Rattle.boxed.specs.Private as private;
 use crate::read;
 
@@ -29,7 +29,7 @@ fn sweep_row(
     i: usize,
     k: u32,
 ) -> u32
-    requires { ⌜ private.CountedRow
+    requires { ⌜ CountedRow
         (private.Matrix (length (now «u_free»)) (now w) (now lo) (now hi) (now states) (now nu))
         (length (now «u_free»)) i k ⌝ }
     ensures { λ q. ⌜ private.SweptRow

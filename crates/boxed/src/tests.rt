@@ -5,6 +5,7 @@ ghost use Prim.Native.Nat.{_/_};
 ghost use lib.ListN.{length};
 ghost use Rattle.box_rows.specs.Rows as box;
 ghost use Rattle.exact_pass.specs.Ray.{ray};
+ghost use Rattle.box_rows.specs.Private.{AtRow};
 ghost use Rattle.boxed.specs.Sweep as sweep;
 ghost use Rattle.boxed.specs.Solve as solve;
 ghost use Rattle.boxed.specs.Private as private;
@@ -25,7 +26,7 @@ fn residual_row(
     i: usize,
     worst: f64,
 ) -> f64
-    requires { ⌜ private.Row
+    requires { ⌜ AtRow
         (private.Lists (box.problem (now w) (now «u_free») (now lo) (now hi) (now scale)) (now states) (now nu))
         (length (now «u_free»)) i ⌝ }
     ensures { λ q. ⌜ q ≡ private.residualRow

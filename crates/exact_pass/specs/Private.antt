@@ -61,23 +61,12 @@ pub record Scaled (n : ℕ) (lo hi scale : List Float) (st : List ℕ) : Type 0 
   pub scales : length scale ≡ n
   pub states : length st ≡ n
 
--- what A says of the lists, and that i is one of n rows
-pub record Row (A : Type 0) (n i : ℕ) : Type 0 where
-  pub lists : A
-  pub row : i < n
-
--- the same, and that k counts some of the rows before row i
-pub record CountedRow (A : Type 0) (n i k : ℕ) : Type 0 where
-  pub lists : A
-  pub row : i < n
-  pub count : k ≤ i
-
 -- what A says of the lists, and that l lists some of n rows
 pub record Rows (A : Type 0) (n : ℕ) (l : List ℕ) : Type 0 where
   pub lists : A
   pub below : Below n l
 
--- what A says of the rows, and that l has room for n of them
+-- what A says of the rows, and that l has a place for each of n
 pub record Listing (A : Type 0) (n : ℕ) (l : List ℕ) : Type 0 where
   pub rows : A
   pub list : n ≤ length l
@@ -168,7 +157,7 @@ pub record MatrixLent (n : ℕ) (w : List Float) (l : List ℕ) (m : List Float)
   pub few : length l ≤ 32
   pub matrix : length m ≡ length l * length l
 
--- a system of k rows, at most 32, with room for its solution and the workspace of a least-norm call
+-- a system of k rows, at most 32, a place for each value of its solution, and the workspace of a least-norm call
 pub record SolveLent (k : ℕ) (m z work : List Float) : Type 0 where
   pub few : k ≤ 32
   pub matrix : length m ≡ k * k
@@ -251,11 +240,6 @@ pub record AfterLent (n : ℕ) (st : List ℕ) (work : List Float) (marks : List
   pub span : m .span ≤ 528
 
 -- ---- what they leave
-
--- k and the row list l after row i, where b tells whether it is noted
-pub record Noted (b : Bool) (i k : ℕ) (l : List ℕ) (k′ : ℕ) (l′ : List ℕ) : Type 0 where
-  pub count : k′ ≡ counted b k
-  pub listed : l′ ≡ noted b l k i
 
 -- the start x, with at most m rows that act
 pub record Started (x : pass.Start) (m : ℕ) (nu : List Float) (st : List ℕ) (k : ℕ) : Type 0 where

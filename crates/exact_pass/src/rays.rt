@@ -7,7 +7,7 @@ ghost use lib.ListN.{length};
 ghost use Rattle.loops.specs.Loops.{fronted};
 ghost use Rattle.floats.specs.Helpers.{larger};
 ghost use Rattle.box_rows.specs.Rows as box;
-ghost use Rattle.box_rows.specs.Private.{Square};
+ghost use Rattle.box_rows.specs.Private.{AtRow, Noted, Square};
 ghost use Rattle.exact_pass.specs.Ray as rays;
 ghost use Rattle.exact_pass.specs.Walk as walks;
 ghost use Rattle.exact_pass.specs.Promise as promise;
@@ -22,7 +22,7 @@ fn size(y: f64, s: f64) -> f64
 }
 
 fn larger_row(scale: &[f64], states: &[u8], y: &[f64], a: usize, worst: f64) -> f64
-    requires { ⌜ private.Row (private.SizesLent (length (now y)) (now scale) (now states)) (length (now y)) a ⌝ }
+    requires { ⌜ AtRow (private.SizesLent (length (now y)) (now scale) (now states)) (length (now y)) a ⌝ }
     ensures { λ q. ⌜ q ≡ private.largestRow (now (scale .entry)) (now (states .entry)) (now (y .entry)) a worst ⌝ }
 {
     if read::state(states, a) == box_rows::IDLE {
@@ -74,7 +74,7 @@ fn verdict(lo: f64, hi: f64, state: u8, size: f64, y: f64, least: f64) -> u8
 
 fn taken(verdict: u8, a: usize, k: usize, list: &mut [usize]) -> usize
     requires { ⌜ k < length (now list) ⌝ }
-    ensures { λ q. ⌜ private.Noted (eqb verdict 1) a k (now (list .entry)) q (now (list .exit)) ⌝ }
+    ensures { λ q. ⌜ Noted (eqb verdict 1) a k (now (list .entry)) q (now (list .exit)) ⌝ }
 {
     if verdict == 1 {
         read::put_number(list, k, a);

@@ -4,7 +4,7 @@ ghost use Prim.Native.Nat.{_+_, _≤_, _<_};
 ghost use lib.ListN.{length, getD, set};
 ghost use Rattle.floats.specs.Ops as ops;
 ghost use Rattle.box_rows.specs.Rows as box;
-ghost use Rattle.box_rows.specs.Private.{Square};
+ghost use Rattle.box_rows.specs.Private.{AtRow, Square};
 ghost use Rattle.exact_pass.specs.Private as private;
 
 pub fn at(v: &[f64], i: usize) -> f64
@@ -59,7 +59,7 @@ pub fn put_state(l: &mut [u8], i: usize, x: u8)
 
 // Row i of a matrix of n rows and columns.
 pub fn row(w: &[f64], n: usize, i: usize) -> &[f64]
-    requires { ⌜ private.Row (Square (now w) n) n i ⌝ }
+    requires { ⌜ AtRow (Square (now w) n) n i ⌝ }
     ensures { λ q. ⌜ now q ≡ box.row (now (w .entry)) n i ⌝ }
 {
     let a = i * n;

@@ -7,6 +7,7 @@ ghost use Prim.Native.Nat.{ℕ};
 ghost use lib.ListN.{length};
 ghost use Rattle.floats.specs.Ops.{at};
 ghost use Rattle.box_rows.specs.Rows as box;
+ghost use Rattle.box_rows.specs.Private.{AtRow};
 ghost use Rattle.exact_pass.specs.Pass as pass;
 ghost use Rattle.exact_pass.specs.Private as private;
 ghost use Rattle.exact_pass.specs.Promise as promise;
@@ -50,7 +51,7 @@ fn bound_row(
     i: usize,
     worst: Worst,
 ) -> Worst
-    requires { ⌜ private.Row (length (now row) ≡ length (now nu)) (length (now nu)) i ⌝ }
+    requires { ⌜ AtRow (length (now row) ≡ length (now nu)) (length (now nu)) i ⌝ }
     ensures { λ q. ⌜ q ≡ cond (private.pushed state (box.rowSum (now (row .entry)) «u_free» (now (nu .entry))))
         (private.worse i
         (box.naturalResidual (at (now (nu .entry)) i) (box.rowSum (now (row .entry)) «u_free» (now (nu .entry)))
@@ -83,7 +84,7 @@ fn release_row(
     i: usize,
     worst: Worst,
 ) -> Worst
-    requires { ⌜ private.Row
+    requires { ⌜ AtRow
         (private.Fit (length (now «u_free»)) (now w) (now lo) (now hi) (now scale) (now states) (now nu))
         (length (now «u_free»)) i ⌝ }
     ensures { λ q. ⌜ q ≡ private.releaseRow

@@ -2,6 +2,7 @@
 ghost use mathlib.Core.Path.{_≡_};
 ghost use Prim.Native.Nat.{_+_};
 ghost use lib.ListN.{length};
+ghost use Rattle.box_rows.specs.Private.{CountedRow};
 ghost use Rattle.exact_pass.specs.Pass as pass;
 ghost use Rattle.exact_pass.specs.Private as private;
 use crate::read;
@@ -28,7 +29,7 @@ fn start_row(
     i: usize,
     acting: usize,
 ) -> usize
-    requires { ⌜ private.CountedRow
+    requires { ⌜ CountedRow
         (private.Scaled (length (now nu)) (now lo) (now hi) (now scale) (now states))
         (length (now nu)) i acting ⌝ }
     ensures { λ q. ⌜ private.Started
