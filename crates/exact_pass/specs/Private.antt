@@ -207,6 +207,12 @@ pub record RayLent (n : ℕ) (w lo hi scale : List Float) (st l : List ℕ) (y :
   pub listed : Listed n l y
   pub list : n ≤ length rows
 
+-- the same, and d is 0 for each of the n rows
+pub record FreeRayLent (n : ℕ) (w lo hi scale : List Float) (st l : List ℕ) (y : List Float) (rows : List ℕ)
+    (d : List Float) : Type 0 where
+  pub lent : RayLent n w lo hi scale st l y rows
+  pub zeros : d ≡ replicate n 0ᶠ
+
 -- what a step of the free rows l in the direction y is lent
 pub record StepLent (n : ℕ) (w lo hi scale : List Float) (st : List ℕ) (nu : List Float) (l : List ℕ) (y : List Float) (rows : List ℕ) : Type 0 where
   pub fit : Fit n w lo hi scale st nu

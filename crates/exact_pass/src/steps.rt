@@ -47,9 +47,8 @@ fn free_ray(
     rows: &mut [usize],
     d: &mut [f64],
 ) -> usize
-    requires { ⌜ private.RayLent (length (now «u_free»)) (now w) (now lo) (now hi) (now scale) (now states)
-        (now free) (now y) (now rows)
-        × (now d ≡ replicate (length (now «u_free»)) 0ᶠ) ⌝ }
+    requires { ⌜ private.FreeRayLent (length (now «u_free»)) (now w) (now lo) (now hi) (now scale) (now states)
+        (now free) (now y) (now rows) (now d) ⌝ }
     ensures { λ q. ⌜ promise.Front
         (ray
         (box.problem (now (w .entry)) (now («u_free» .entry)) (now (lo .entry)) (now (hi .entry))

@@ -11,7 +11,7 @@ unbounded-spec =
     (tie.spec
     (λ c. omega arith)
     (λ c. let at-pre = c .before .before .before .before .before .before .before .before .before .before .before in sym (length-take-le _ _ (at-pre .pre .sized .0)))
-    (λ c κs. let at-pre = c .before .before .before .before .before .before .before .before .before .before .before in (at-pre .pre, take-replicate _ _ _ (at-pre .pre .sized .0)))
+    (λ c κs. let at-pre = c .before .before .before .before .before .before .before .before .before .before .before in record { lent = at-pre .pre; zeros = take-replicate _ _ _ (at-pre .pre .sized .0) })
     (λ c. omega arith)
     (λ c. unbounded-failed _ _ _ _ _ _ _ _ refl (c .before .before .before .before .free-ray .ensures) (c .if1 .taken))
     (λ c. omega arith)
