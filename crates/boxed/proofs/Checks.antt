@@ -110,7 +110,7 @@ module _ (p : box.Problem) (st : List ℕ) (nu : List Float) (rows : List ℕ) (
       → Passed (exactPass p st nu) rows e v st′ rows′ × (drop WORKSPACE work′ ≡ drop WORKSPACE w)
   unfolding reply
   accepted w q h =
-      let f : fits p st nu rows ≡ true = all-fit (z .lists) nu rows (z .lists .matrix .multipliers) (z .listed) in
+      let f : fits p (length st) (length nu) (length rows) ≡ true = all-fit (z .lists) nu rows (z .lists .matrix .multipliers) (z .listed) in
       (rw (le-leb _ _ q, f) at (h .passed), rw (le-leb _ _ q, f) at (h .workspace))
 
   -- t is the copy of the multipliers that is kept

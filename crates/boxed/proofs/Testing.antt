@@ -40,7 +40,7 @@ module _ (a : Cause) (nu : List Float) (st rows : List ℕ) (k : ℕ) (rows′ :
 -- ---- lists of the problem's lengths are none that the ray refuses
 
 pub all-fit : {p : box.Problem} {st : List ℕ} {nu : List Float} → Lists p st nu → (v : List Float) (rows : List ℕ)
-    → length v ≡ box.size p → box.size p ≤ length rows → fits p st v rows ≡ true
+    → length v ≡ box.size p → box.size p ≤ length rows → fits p (length st) (length v) (length rows) ≡ true
 all-fit z v rows e h =
     let m = z .matrix in
     rw (

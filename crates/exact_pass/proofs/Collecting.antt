@@ -57,19 +57,19 @@ module _ (lo hi scale : List Float) (st : List ℕ) (y : List Float) (least : Fl
 
   module _ {a k : ℕ} {far : Float} {l : List ℕ} (h : Going (to a) a k far l) where
     -- v is the verdict on what the loop reads
-    pub collect-again : {n v state k′ : ℕ} {size y₁ s₁ y₂ lo₁ hi₁ far′ : Float} {l′ : List ℕ} → a < n → n ≤ length l → (v ≡ 2 → ⊥) → v ≡ verdict (walks.dropped (not (eqb state box.idle)) size least) (walks.grows y₂ lo₁ hi₁)
-        → state ≡ box.state st a → size ≡ rays.sizeOf y₁ s₁ → y₁ ≡ at y a → s₁ ≡ at scale a → y₂ ≡ at y a → lo₁ ≡ at lo a → hi₁ ≡ at hi a
-        → k′ ≡ counted (eqb v 1) k → far′ ≡ cond (eqb v 1) (larger far size) far → l′ ≡ noted (eqb v 1) l k a → Going (to (a + 1)) (a + 1) k′ far′ l′
-    unfolding walks.walked walks.walkRow turns
-    collect-again {v = v} b r s e q₁ q₂ q₃ q₄ q₅ q₆ q₇ i j m =
-        let g : v ≡ at-row a = cc in
-        rw (add-one a, i, j, m, g, q₂, q₃, q₄) (going-on _ h _ _ (omega arith) (λ q. s (g ∙ q)))
+    module _ {v state : ℕ} {size x s lo₁ hi₁ : Float} (e : v ≡ verdict (walks.dropped (not (eqb state box.idle)) size least) (walks.grows x lo₁ hi₁)) (q₁ : state ≡ box.state st a) (q₂ : size ≡ rays.sizeOf x s) (q₃ : x ≡ at y a) (q₄ : s ≡ at scale a) (q₅ : lo₁ ≡ at lo a) (q₆ : hi₁ ≡ at hi a) where
+      told : v ≡ at-row a
+      told = rw (e, q₁, q₂, q₃, q₄, q₅, q₆)
 
-    pub collect-stop : {n v : ℕ} {l′ : List ℕ} → v ≡ 2 → v ≡ at-row a → a < n → Collecting (to n) n 0 0ᶠ l′
-    unfolding walks.walked walks.walkRow walks.walk turns
-    collect-stop {n = n} s e b =
-        let t : to n ≡ none = stays (walks.walkRow lo hi scale st y least) _ none (suc a) (stopped _ h _ _ (sym e ∙ s)) (λ i g. refl) n b in
-        record { rows = rw t; farthest = rw t; few = omega arith; within = omega arith; below = λ i b. absurd (not-suc-le-zero b) }
+      pub collect-again : {n k′ : ℕ} {far′ : Float} {l′ : List ℕ} → a < n → n ≤ length l → (v ≡ 2 → ⊥) → k′ ≡ counted (eqb v 1) k → far′ ≡ cond (eqb v 1) (larger far size) far → l′ ≡ noted (eqb v 1) l k a → Going (to (a + 1)) (a + 1) k′ far′ l′
+      unfolding walks.walked walks.walkRow turns
+      collect-again b r s i j m = rw (add-one a, i, j, m, told, q₂, q₃, q₄) (going-on _ h _ _ (omega arith) (λ q. s (told ∙ q)))
+
+      pub collect-stop : {n : ℕ} {l′ : List ℕ} → v ≡ 2 → a < n → Collecting (to n) n 0 0ᶠ l′
+      unfolding walks.walked walks.walkRow walks.walk turns
+      collect-stop {n = n} s b =
+          let t : to n ≡ none = stays (walks.walkRow lo hi scale st y least) _ none (suc a) (stopped _ h _ _ (sym told ∙ s)) (λ i g. refl) n b in
+          record { rows = rw t; farthest = rw t; few = omega arith; within = omega arith; below = λ i b. absurd (not-suc-le-zero b) }
 
     pub collect-done : {n : ℕ} → a ≤ n → n ≤ a → n ≤ length l → Collecting (to n) n k far l
     collect-done {n = n} f g r =

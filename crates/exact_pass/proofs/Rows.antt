@@ -10,9 +10,6 @@ use Rattle.exact_pass.specs.Private.{Below, Free}
 pub free-row : (l : List ℕ) (n m i k a : ℕ) → Below n l → n ≡ m → k ≡ length l → i < k → a ≡ getD l i 0 → a < m
 free-row l n m i k a h q e b g = rw (g, ← q) (h i (omega arith))
 
-pub below-as : (l : List ℕ) (n m : ℕ) → n ≡ m → Below n l → Below m l
-below-as l n m e h i b = rw (← e) (h i b)
-
 pub those-below : (test : ℕ → Bool) (n : ℕ) → Below n (those test n)
 those-below test n i b = each-at (λ (a : ℕ). a < n) (those test n) (those-gathered test n .below) i b
 

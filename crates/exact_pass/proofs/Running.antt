@@ -9,7 +9,7 @@ use Rattle.exact_pass.specs.Pass as pass
 use Rattle.exact_pass.specs.Pass.{Trial, trial, Pass, moved, found, failed, infeasible}
 use Rattle.exact_pass.specs.Promise.{Passed}
 use Rattle.exact_pass.specs.Private as private
-use Rattle.exact_pass.specs.Private.{isMoved, part, Copied, RunLent, MarksLent, Stepped}
+use Rattle.exact_pass.specs.Private.{isEnd, Copied, RunLent, MarksLent, Stepped}
 use Rattle.exact_pass.specs.declared.Mark.{Mark}
 use Rattle.exact_pass.specs.declared.Exact.{Exact}
 use Rattle.exact_pass.specs.declared.Exact.the-variants.{Failed}
@@ -18,16 +18,16 @@ use Rattle.exact_pass.proofs.Periods.{steps-more}
 
 -- ---- how a step ends a pass, or does not
 
-going-on : (c : Pass) (q : List ℕ) (e : Exact) (nu : List Float) (st q′ : List ℕ) → Passed c q e nu st q′ → isMoved e ≡ true → (c ≡ moved (trial nu st)) × (q′ ≡ q)
+going-on : (c : Pass) (q : List ℕ) (e : Exact) (nu : List Float) (st q′ : List ℕ) → Passed c q e nu st q′ → isEnd e ≡ false → (c ≡ moved (trial nu st)) × (q′ ≡ q)
 going-on (moved t) q e nu st q′ h f = (ap moved (sym (h .tried)), h .listed)
-going-on (found t) q e nu st q′ h f = absurd (true≢false (sym (rw (h .answer) at f)))
-going-on (failed t) q e nu st q′ h f = absurd (true≢false (sym (rw (h .answer) at f)))
-going-on (infeasible l t) q e nu st q′ h f = absurd (true≢false (sym (rw (h .answer) at f)))
+going-on (found t) q e nu st q′ h f = absurd (true≢false (rw (h .answer) at f))
+going-on (failed t) q e nu st q′ h f = absurd (true≢false (rw (h .answer) at f))
+going-on (infeasible l t) q e nu st q′ h f = absurd (true≢false (rw (h .answer) at f))
 
 -- a step that ends the pass ends it for good
-ended-stays : (p : box.Problem) (c : Pass) {q : List ℕ} {e : Exact} {nu : List Float} {st q′ : List ℕ} → Passed c q e nu st q′ → isMoved e ≡ false → ((i : ℕ) → pass.step p i c ≡ c) × (pass.closed c ≡ c)
+ended-stays : (p : box.Problem) (c : Pass) {q : List ℕ} {e : Exact} {nu : List Float} {st q′ : List ℕ} → Passed c q e nu st q′ → isEnd e ≡ true → ((i : ℕ) → pass.step p i c ≡ c) × (pass.closed c ≡ c)
 unfolding pass.step pass.closed
-ended-stays p (moved t) h f = absurd (true≢false (rw (h .answer) at f))
+ended-stays p (moved t) h f = absurd (true≢false (sym (rw (h .answer) at f)))
 ended-stays p (found t) h f = (λ i. refl, refl)
 ended-stays p (failed t) h f = (λ i. refl, refl)
 ended-stays p (infeasible l t) h f = (λ i. refl, refl)
@@ -115,7 +115,7 @@ module _ {p : box.Problem} {most : ℕ} {b n : Now} (g : Going p most b n) where
     beyond-step = later 1088 1120 work (n .work) (omega arith) (s .workspace) ∙ g .beyond
 
     -- the pass ends in this step
-    pub going-ended : isMoved e ≡ false → Passed (pass.closed (pass.steps p (at b) most)) (b .q) e nu st q × (drop 1120 work ≡ drop 1120 (b .work))
+    pub going-ended : isEnd e ≡ true → Passed (pass.closed (pass.steps p (at b) most)) (b .q) e nu st q × (drop 1120 work ≡ drop 1120 (b .work))
     unfolding pass.steps
     going-ended f =
         let o = ended-stays p (next p (at n)) (s .passed) f in
@@ -123,7 +123,7 @@ module _ {p : box.Problem} {most : ℕ} {b n : Now} (g : Going p most b n) where
         (rw (← g .listed, x, o .1) (s .passed), beyond-step)
 
     -- the pass goes on with fewer steps, and may be marked anew
-    pub going-again : {work′ : List Float} {marks : List ℕ} {mark : Mark} → isMoved e ≡ true → Kept (n .st) (n .nu) (n .q) (n .work) st nu q work → private.MarkedOn (trial nu st) (n .mark) work (n .marks) mark work′ marks
+    pub going-again : {work′ : List Float} {marks : List ℕ} {mark : Mark} → isEnd e ≡ false → Kept (n .st) (n .nu) (n .q) (n .work) st nu q work → private.MarkedOn (trial nu st) (n .mark) work (n .marks) mark work′ marks
         → length work′ ≡ length work → length marks ≡ length (n .marks) → Going p most b (now st nu q work′ marks mark)
     going-again f h a kept-work kept-marks =
         let o = going-on (next p (at n)) (n .q) e nu st q (s .passed) f in

@@ -1,19 +1,17 @@
 -- The system of the free rows: its matrix as a loop fills it row by row, and its least-norm solution, from what the calls promise.
 use Rattle.loops.proofs.Common.{ℕ, _+_, _-_, _*_, _≤_, _<_, _≡_, refl, sym, ap, _∙_, Bool, true, false, cond, List, arith, add-one, length, getD, drop, Float, nan, eq-eqb, _++_}
-use lib.Seq.{ext-getD, set-set}
-use lib.ListN.{set, length-set}
-use mathlib.Core.Bool.{_||_, or-assoc, or-self}
+use lib.Seq.{ext-getD}
+use lib.ListN.{set}
+use mathlib.Core.Bool.{_||_}
 use lib.Dec.{eqb}
 use lib.Ieee.{neg}
 use Rattle.loops.proofs.Updates.{updated-here, updated-long}
 use Rattle.floats.specs.Ops.{at, _⊖_, _⊗_}
 use borrow.Author.Tests.{le-leb}
-use native.Mathlib.Nat.{eq-or-lt-of-le}
-use mathlib.Core.Logic.{⊎-elim}
 use Rattle.loops.specs.Loops.{turns, tab}
 use borrow.Rule.Slice.PartMut.{putMid}
 use Rattle.loops.proofs.Parts.{parts-start, parts-again, parts-done}
-use Rattle.loops.proofs.Fill.{tab-length, tab-at, tab-again}
+use Rattle.loops.proofs.Fill.{tab-length, tab-at}
 use Rattle.least_norm.specs.LeastNorm.{leastNorm}
 use Rattle.least_norm.specs.Promise as promise
 use Rattle.box_rows.specs.Rows as box
@@ -51,26 +49,13 @@ pub residual-is : (w scale : List Float) (l : List ℕ) (rhs z : List Float) (i 
 unfolding pass.residual private.residualRow
 residual-is w scale l rhs z i e f g h = rw (h, g, f, e)
 
-pub two-tested : (w scale : List Float) (l : List ℕ) (rhs z : List Float) (i e : ℕ) (y : List Float) {y₁ y₂ : List Float} {a b : Float} {s t : Bool} → y₁ ≡ set y i (neg a) → y₂ ≡ set y₁ e (neg b) → s ≡ private.tooLarge w scale l i a → t ≡ private.tooLarge w scale l e b
-    → a ≡ pass.residual w scale l rhs z i → b ≡ pass.residual w scale l rhs z e → private.TwoTested w scale l rhs z i e y (s || t) y₂
-two-tested w scale l rhs z i e y p q s t g h = record { downhill = rw (q, p, g, h); inconsistent = rw (s, t, g, h) }
+pub too-large-is : (w scale : List Float) (l : List ℕ) (rhs z : List Float) (i : ℕ) {a : ℕ} {r : List Float} {x : Float} {b : Bool} → a ≡ getD l i 0 → r ≡ box.row w (length scale) a → x ≡ pass.residual w scale l rhs z i
+    → b ≡ private.tooLarge r scale a x → b ≡ private.tooLargeAt w scale l rhs z i
+too-large-is w scale l rhs z i e f g h = rw (h, g, f, e)
 
-module _ {i k e : ℕ} (s : private.Second i k e) where
-  pub tab-two : (f : ℕ → Float) (d y : List Float) → y ≡ tab f i ++ drop i d → length y ≡ length d → k ≤ length d → set (set y i (f i)) e (f e) ≡ tab f (e + 1) ++ drop (e + 1) d
-  tab-two f d y g h b =
-      let one = tab-again f i d y g h (omega arith) in
-      ⊎-elim
-      (λ (q : i ≡ e). rw (← q, set-set) one)
-      (λ (q : i < e). let p : e ≡ i + 1 = omega arith in rw p (tab-again f (i + 1) d (set y i (f i)) one (simp length-set h) (simp length-set (omega (arith, p)))))
-      (eq-or-lt-of-le (s .least))
-
-  pub or-two : (t : ℕ → Bool) (b c : Bool) → b ≡ turns i false (λ i b. b || t i) → c ≡ (t i || t e) → (b || c) ≡ turns (e + 1) false (λ i b. b || t i)
-  unfolding turns
-  or-two t b c g h =
-      ⊎-elim
-      (λ (q : i ≡ e). rw (h, ← q, or-self, g, add-one))
-      (λ (q : i < e). let p : e ≡ i + 1 = omega arith in rw (h, p, ← or-assoc, g, add-one, add-one))
-      (eq-or-lt-of-le (s .least))
+pub two-tested : (w scale : List Float) (l : List ℕ) (rhs z : List Float) (i e : ℕ) (y : List Float) {y₁ y₂ : List Float} {a b : Float} {s t : Bool} → y₁ ≡ set y i (neg a) → y₂ ≡ set y₁ e (neg b) → a ≡ pass.residual w scale l rhs z i → b ≡ pass.residual w scale l rhs z e
+    → s ≡ private.tooLargeAt w scale l rhs z i → t ≡ private.tooLargeAt w scale l rhs z e → private.TwoTested w scale l rhs z i e y (s || t) y₂
+two-tested w scale l rhs z i e y p q g h s t = record { downhill = rw (q, p, g, h); inconsistent = rw (s, t) }
 
 -- ---- the right-hand side, column by column
 

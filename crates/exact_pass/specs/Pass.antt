@@ -1,6 +1,6 @@
 -- The exact pass of boxed.rs, by its steps. Definitions only. l lists the free rows; the right-hand side, z and y have a value for each of them.
 use Prim.Native.Nat.{ℕ, suc, _+_, _*_}
-use mathlib.Core.Bool.{Bool, true, false, cond, _&&_, _||_}
+use mathlib.Core.Bool.{Bool, false, cond, _||_}
 use mathlib.Core.List.{List, [], _∷_, _++_}
 use lib.Dec.{eqb}
 use lib.ListN.{getD, set, length, replicate}

@@ -6,7 +6,7 @@ use mathlib.Core.List.{List, []}
 use lib.Dec.{eqb}
 use lib.ListN.{getD, set, length, take, drop, replicate}
 use lib.Ieee.{Float, nan, lt, le, neg}
-use Rattle.loops.specs.Loops.{turns, tab, counted, noted}
+use Rattle.loops.specs.Loops.{turns, tab}
 use Rattle.loops.specs.Updates.{updated}
 use Rattle.floats.specs.Ops.{_⊕_, _⊖_, _⊗_, _⊘_, at, 0ᶠ, 1e6, 1e-9}
 use Rattle.floats.specs.Helpers.{larger, abs, isFinite}
@@ -28,11 +28,12 @@ use Rattle.exact_pass.specs.declared.Exact.the-variants.{Moved, Found, F
 abbrev pub Below : ℕ → List ℕ → Type 0
 Below n l = (i : ℕ) → i < length l → getD l i 0 < n
 
-abbrev pub isMoved : Exact → Bool
-isMoved Moved = true
-isMoved Found = false
-isMoved Failed = false
-isMoved (Infeasible k) = false
+-- whether the pass ends with this step
+abbrev pub isEnd : Exact → Bool
+isEnd Moved = false
+isEnd Found = true
+isEnd Failed = true
+isEnd (Infeasible k) = true
 
 -- a copy of `from` in `to`, which was to₀, from place a on; what lies past it stays
 pub record Copied (from : List Float) (a : ℕ) (to₀ to : List Float) : Type 0 where
@@ -127,11 +128,6 @@ pub record ScratchLent (n : ℕ) (w uFree scale : List Float) (st l : List ℕ) 
   pub system : SystemLent n w uFree scale st l work
   pub scratch : Scratch (length l) m y z
 
--- the system of at most j rows
-pub record AtMost (j n : ℕ) (w uFree scale : List Float) (st l : List ℕ) (work : List Float) : Type 0 where
-  pub system : SystemLent n w uFree scale st l work
-  pub most : length l ≤ j
-
 -- what column j is taken in: the rows l of w, and their right-hand side
 pub record ColumnLent (n : ℕ) (w : List Float) (l : List ℕ) (rhs : List Float) (j : ℕ) : Type 0 where
   pub square : Square w n
@@ -206,12 +202,6 @@ pub record RayLent (n : ℕ) (w lo hi scale : List Float) (st l : List ℕ) (y :
   pub states : length st ≡ n
   pub listed : Listed n l y
   pub list : n ≤ length rows
-
--- the same, and d is 0 for each of the n rows
-pub record FreeRayLent (n : ℕ) (w lo hi scale : List Float) (st l : List ℕ) (y : List Float) (rows : List ℕ)
-    (d : List Float) : Type 0 where
-  pub lent : RayLent n w lo hi scale st l y rows
-  pub zeros : d ≡ replicate n 0ᶠ
 
 -- what a step of the free rows l in the direction y is lent
 pub record StepLent (n : ℕ) (w lo hi scale : List Float) (st : List ℕ) (nu : List Float) (l : List ℕ) (y : List Float) (rows : List ℕ) : Type 0 where
@@ -373,14 +363,14 @@ pub record RowsLeft (r s scale : List Float) (l : List ℕ) (z : List Float) (a 
   pub first : q .first ≡ residualRow r scale l z a (length l)
   pub second : q .second ≡ residualRow s scale l z b (length l)
 
--- whether r, what is left of row i, is too large
-unfoldable pub tooLarge : List Float → List Float → List ℕ → ℕ → Float → Bool
-tooLarge w scale l i r =
-    let a = getD l i 0 in
-    lt 1e-9 (abs (r ⊘ at (box.row w (length scale) a) a) ⊘ at scale a)
+-- whether x, what is left of row a, is too large: r is its row of w
+unfoldable pub tooLarge : List Float → List Float → ℕ → Float → Bool
+tooLarge r scale a x = lt 1e-9 (abs (x ⊘ at r a) ⊘ at scale a)
 
 abbrev pub tooLargeAt : List Float → List Float → List ℕ → List Float → List Float → ℕ → Bool
-tooLargeAt w scale l rhs z i = tooLarge w scale l i (pass.residual w scale l rhs z i)
+tooLargeAt w scale l rhs z i =
+    let a = getD l i 0 in
+    tooLarge (box.row w (length scale) a) scale a (pass.residual w scale l rhs z i)
 
 abbrev pub inconsistent : List Float → List Float → List ℕ → List Float → List Float → ℕ → Bool
 inconsistent w scale l rhs z k = turns k false λ i b. b || tooLargeAt w scale l rhs z i

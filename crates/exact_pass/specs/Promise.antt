@@ -1,7 +1,7 @@
 -- What the public calls promise: the exact pass and the ray. Definitions only.
 use Prim.Native.Nat.{ℕ, _*_}
 use mathlib.Core.Path.{_≡_}
-use mathlib.Core.Bool.{Bool, true, false, cond, _&&_}
+use mathlib.Core.Bool.{Bool, cond, _&&_}
 use mathlib.Core.List.{List, []}
 use lib.Dec.{leb, eqb}
 use lib.ListN.{length, drop}
@@ -14,23 +14,23 @@ use Rattle.exact_pass.specs.declared.Exact.{Exact}
 use Rattle.exact_pass.specs.declared.Exact.the-variants.{Moved, Found, Failed, Infeasible}
 
 -- the lists of a problem of at most 32 rows, with a state and a value for each row, and a row list long enough
-abbrev pub fits : box.Problem → List ℕ → List Float → List ℕ → Bool
-fits p st v rows =
+abbrev pub fits : box.Problem → ℕ → ℕ → ℕ → Bool
+fits p states values rows =
     leb (box.size p) 32 && eqb (length (p .w)) (box.size p * box.size p) && eqb (length (p .lo)) (box.size p)
-    && eqb (length (p .hi)) (box.size p) && eqb (length (p .scale)) (box.size p) && eqb (length st) (box.size p)
-    && eqb (length v) (box.size p) && leb (box.size p) (length rows)
+    && eqb (length (p .hi)) (box.size p) && eqb (length (p .scale)) (box.size p) && eqb states (box.size p)
+    && eqb values (box.size p) && leb (box.size p) rows
 
 -- the workspace of a pass
 abbrev pub WORKSPACE : ℕ
 WORKSPACE = 1120
 
--- a call whose lists do not fit, or whose workspace is too short, fails and changes nothing
+-- A call whose lists do not fit, or whose workspace is too short, fails and changes nothing. `room` is the workspace's length.
 unfoldable pub reply : box.Problem → List ℕ → List Float → List ℕ → ℕ → Pass
-reply p st nu rows room = cond (leb WORKSPACE room && fits p st nu rows) (exactPass p st nu) (failed (trial nu st))
+reply p st nu rows room = cond (leb WORKSPACE room && fits p (length st) (length nu) (length rows)) (exactPass p st nu) (failed (trial nu st))
 
 -- how many values at the workspace's front are free afterwards
 abbrev pub used : box.Problem → List ℕ → List Float → List ℕ → ℕ → ℕ
-used p st nu rows room = cond (leb WORKSPACE room && fits p st nu rows) WORKSPACE 0
+used p st nu rows room = cond (leb WORKSPACE room && fits p (length st) (length nu) (length rows)) WORKSPACE 0
 
 abbrev pub exactOf : Pass → Exact
 exactOf (moved t) = Moved
@@ -64,7 +64,7 @@ pub record Left (p : box.Problem) (st₀ : List ℕ) (nu₀ : List Float) (r₀ 
 -- ---- the ray
 
 unfoldable pub rayReply : box.Problem → List ℕ → List Float → List ℕ → List ℕ
-rayReply p st y rows = cond (fits p st y rows) (ray p st y) []
+rayReply p st y rows = cond (fits p (length st) (length y) (length rows)) (ray p st y) []
 
 -- l by its length k and at the front of what was l₀
 pub record Front (l l₀ : List ℕ) (k : ℕ) (l′ : List ℕ) : Type 0 where

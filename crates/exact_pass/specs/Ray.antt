@@ -1,6 +1,6 @@
 -- The ray test of boxed.rs: the rows along whose direction y the problem falls without end, or no row. Definitions only.
 use Prim.Native.Nat.{ℕ}
-use mathlib.Core.Bool.{Bool, not, cond, _&&_, _||_}
+use mathlib.Core.Bool.{not, cond, _&&_, _||_}
 use mathlib.Core.List.{List, [], _∷_, _++_}
 use lib.ListN.{getD, length}
 use lib.Ieee.{Float, lt, le, eq, neg}

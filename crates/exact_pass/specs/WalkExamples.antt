@@ -33,13 +33,13 @@ abbrev −∞ : ℕ
 −∞ = 0xFFF0000000000000
 
 -- what a number of rows must give: the rows and their farthest, or that a row stopped the walk
-data Shown : Type 0 where
-  has : List ℕ → ℕ → Shown
-  stops : Shown
+data Expected : Type 0 where
+  has : List ℕ → ℕ → Expected
+  stops : Expected
 
 -- a problem, its states and y; what 0 rows give, 1 row and so on; and the rows of the ray
 data Case : Type 0 where
-  walks : box.Problem → List ℕ → List ℕ → List Shown → List ℕ → Case
+  walks : box.Problem → List ℕ → List ℕ → List Expected → List ℕ → Case
 
 abbrev floats : List ℕ → List Float
 floats l = map (ofBits binary64) l
@@ -53,14 +53,14 @@ same [] (y ∷ ys) = false
 same (x ∷ xs) [] = false
 same (x ∷ xs) (y ∷ ys) = eqb x y && same xs ys
 
-abbrev shows : Walked → Shown → Bool
+abbrev shows : Walked → Expected → Bool
 shows none stops = true
 shows none (has l far) = false
 shows (these r x) stops = false
 shows (these r x) (has l far) = same r l && eqb (toBits binary64 x) far
 
 -- the walk up to k rows, k + 1 and so on
-abbrev each : (ℕ → Walked) → ℕ → List Shown → Bool
+abbrev each : (ℕ → Walked) → ℕ → List Expected → Bool
 each to k [] = true
 each to k (s ∷ l) = shows (to k) s && each to (suc k) l
 

@@ -1,6 +1,5 @@
 // The direction of a step: to the target or, where there is none, what its solution leaves.
 ghost use mathlib.Core.Path.{_≡_};
-ghost use Prim.Native.Nat.{_≤_};
 ghost use lib.ListN.{length};
 ghost use Rattle.exact_pass.specs.Pass as pass;
 ghost use Rattle.exact_pass.specs.Private as private;
@@ -89,69 +88,8 @@ fn in_scratch(
     )
 }
 
-fn of_at_most_2(
-    w: &[f64],
-    u_free: &[f64],
-    scale: &[f64],
-    states: &[u8],
-    nu: &[f64],
-    free: &[u8],
-    work: &mut [f64],
-) -> bool
-    requires { ⌜ private.AtMost 2 (length (now nu)) (now w) (now «u_free») (now scale) (now states) (now free)
-        (now work) ⌝ }
-    ensures { λ q. ⌜ private.DirectedTo (now (w .entry)) (now («u_free» .entry)) (now (scale .entry))
-        (now (states .entry)) (now (nu .entry)) (now (free .entry)) (now (work .entry)) q (now (work .exit)) ⌝ }
-{
-    let mut m = [0.0f64; 4];
-    let mut y = [0.0f64; 2];
-    let mut z = [0.0f64; 2];
-    in_scratch(
-        w,
-        u_free,
-        scale,
-        states,
-        nu,
-        free,
-        &mut m,
-        &mut y,
-        &mut z,
-        work,
-    )
-}
-
-fn of_at_most_8(
-    w: &[f64],
-    u_free: &[f64],
-    scale: &[f64],
-    states: &[u8],
-    nu: &[f64],
-    free: &[u8],
-    work: &mut [f64],
-) -> bool
-    requires { ⌜ private.AtMost 8 (length (now nu)) (now w) (now «u_free») (now scale) (now states) (now free)
-        (now work) ⌝ }
-    ensures { λ q. ⌜ private.DirectedTo (now (w .entry)) (now («u_free» .entry)) (now (scale .entry))
-        (now (states .entry)) (now (nu .entry)) (now (free .entry)) (now (work .entry)) q (now (work .exit)) ⌝ }
-{
-    let mut m = [0.0f64; 64];
-    let mut y = [0.0f64; 8];
-    let mut z = [0.0f64; 8];
-    in_scratch(
-        w,
-        u_free,
-        scale,
-        states,
-        nu,
-        free,
-        &mut m,
-        &mut y,
-        &mut z,
-        work,
-    )
-}
-
-fn of_at_most_32(
+// The scratch has one of three sizes, so that few free rows do not clear nine kilobytes: here for all 32.
+fn of_9_or_more(
     w: &[f64],
     u_free: &[f64],
     scale: &[f64],
@@ -182,7 +120,40 @@ fn of_at_most_32(
     )
 }
 
-// The scratch has one of three sizes, so that few free rows do not clear nine kilobytes.
+fn of_3_or_more(
+    w: &[f64],
+    u_free: &[f64],
+    scale: &[f64],
+    states: &[u8],
+    nu: &[f64],
+    free: &[u8],
+    work: &mut [f64],
+) -> bool
+    requires { ⌜ private.SystemLent (length (now nu)) (now w) (now «u_free») (now scale) (now states) (now free)
+        (now work) ⌝ }
+    ensures { λ q. ⌜ private.DirectedTo (now (w .entry)) (now («u_free» .entry)) (now (scale .entry))
+        (now (states .entry)) (now (nu .entry)) (now (free .entry)) (now (work .entry)) q (now (work .exit)) ⌝ }
+{
+    if free.len() > 8 {
+        return of_9_or_more(w, u_free, scale, states, nu, free, work);
+    }
+    let mut m = [0.0f64; 64];
+    let mut y = [0.0f64; 8];
+    let mut z = [0.0f64; 8];
+    in_scratch(
+        w,
+        u_free,
+        scale,
+        states,
+        nu,
+        free,
+        &mut m,
+        &mut y,
+        &mut z,
+        work,
+    )
+}
+
 pub fn of_free_rows(
     w: &[f64],
     u_free: &[f64],
@@ -197,14 +168,24 @@ pub fn of_free_rows(
     ensures { λ q. ⌜ private.DirectedTo (now (w .entry)) (now («u_free» .entry)) (now (scale .entry))
         (now (states .entry)) (now (nu .entry)) (now (free .entry)) (now (work .entry)) q (now (work .exit)) ⌝ }
 {
-    let k = free.len();
-    if k <= 2 {
-        return of_at_most_2(w, u_free, scale, states, nu, free, work);
+    if free.len() > 2 {
+        return of_3_or_more(w, u_free, scale, states, nu, free, work);
     }
-    if k > 8 {
-        return of_at_most_32(w, u_free, scale, states, nu, free, work);
-    }
-    of_at_most_8(w, u_free, scale, states, nu, free, work)
+    let mut m = [0.0f64; 4];
+    let mut y = [0.0f64; 2];
+    let mut z = [0.0f64; 2];
+    in_scratch(
+        w,
+        u_free,
+        scale,
+        states,
+        nu,
+        free,
+        &mut m,
+        &mut y,
+        &mut z,
+        work,
+    )
 }
 
 // The longest step: to the target, or without end.

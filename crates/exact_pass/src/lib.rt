@@ -1,9 +1,6 @@
 // The exact pass of boxed.rs: a primal active-set method from the multipliers of a sweep. `step` reads as the Rust's
 // loop body, and the modules are its parts.
 ghost use mathlib.Core.Path.{_≡_};
-ghost use mathlib.Core.Bool.{_&&_};
-ghost use Prim.Native.Nat.{_*_};
-ghost use lib.Dec.{leb, eqb};
 ghost use Rattle.box_rows.specs.Rows as box;
 ghost use Rattle.exact_pass.specs.Promise as promise;
 
@@ -78,25 +75,33 @@ pub struct Mark {
     pub left: usize,
 }
 
-// Whether the lists are those of a problem of at most 32 rows.
+// Whether the lists are those of a problem of at most 32 rows, with so many states, values and places for rows.
 fn fits(
-    w: usize,
-    n: usize,
-    lo: usize,
-    hi: usize,
-    scale: usize,
+    w: &[f64],
+    u_free: &[f64],
+    lo: &[f64],
+    hi: &[f64],
+    scale: &[f64],
     states: usize,
-    nu: usize,
+    values: usize,
     rows: usize,
 ) -> bool
-    ensures { λ q. ⌜ q
-        ≡ (leb n 32 && eqb w (n * n) && eqb lo n && eqb hi n && eqb scale n && eqb states n && eqb nu n && leb n rows)
-        ⌝ }
+    ensures { λ q. ⌜ q ≡ promise.fits
+        (box.problem (now (w .entry)) (now («u_free» .entry)) (now (lo .entry)) (now (hi .entry))
+        (now (scale .entry)))
+        states values rows ⌝ }
 {
+    let n = u_free.len();
     if n > 32 {
         return false;
     }
-    (w == n * n) & (lo == n) & (hi == n) & (scale == n) & (states == n) & (nu == n) & (n <= rows)
+    (w.len() == n * n)
+        & (lo.len() == n)
+        & (hi.len() == n)
+        & (scale.len() == n)
+        & (states == n)
+        & (values == n)
+        & (n <= rows)
 }
 
 // From the multipliers in nu the exact solution, in their place, with the states that the pass leaves; or the rows
@@ -119,20 +124,8 @@ pub fn exact_pass(
         (now (states .entry)) (now (nu .entry)) (now (rows .entry)) (now (workspace .entry))
         q (now (states .exit)) (now (nu .exit)) (now (rows .exit)) (now (workspace .exit)) ⌝ }
 {
-    let n = u_free.len();
-    if workspace.len() < WORKSPACE {
-        return Exact::Failed;
-    }
-    if fits(
-        w.len(),
-        n,
-        lo.len(),
-        hi.len(),
-        scale.len(),
-        states.len(),
-        nu.len(),
-        rows.len(),
-    ) {
+    let fit = fits(w, u_free, lo, hi, scale, states.len(), nu.len(), rows.len());
+    if (workspace.len() >= WORKSPACE) & fit {
         return steps::run(w, u_free, lo, hi, scale, states, nu, rows, workspace);
     }
     Exact::Failed
@@ -157,17 +150,7 @@ pub fn ray(
         (now (states .entry)) (now (y .entry)) (now (rows .entry)))
         (now (rows .entry)) q (now (rows .exit)) ⌝ }
 {
-    let n = u_free.len();
-    if fits(
-        w.len(),
-        n,
-        lo.len(),
-        hi.len(),
-        scale.len(),
-        states.len(),
-        y.len(),
-        rows.len(),
-    ) {
+    if fits(w, u_free, lo, hi, scale, states.len(), y.len(), rows.len()) {
         return rays::ray(w, u_free, lo, hi, scale, states, y, rows);
     }
     0

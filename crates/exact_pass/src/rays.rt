@@ -116,13 +116,14 @@ fn collect(
     let mut far = 0.0;
     let mut a = 0;
     while a < n {
-        let row_size = size(read::at(y, a), read::at(scale, a));
+        let x = read::at(y, a);
+        let row_size = size(x, read::at(scale, a));
         let v = verdict(
             read::at(lo, a),
             read::at(hi, a),
             read::state(states, a),
             row_size,
-            read::at(y, a),
+            x,
             least,
         );
         if v == 2 {
@@ -257,8 +258,9 @@ pub fn ray(
         &mut list,
     );
     let k = c.count;
-    if falls(w, u_free, y, &list[..k], c.farthest) {
-        front(&list[..k], rows);
+    let l = &list[..k];
+    if falls(w, u_free, y, l, c.farthest) {
+        front(l, rows);
         return k;
     }
     0

@@ -41,9 +41,11 @@ fn start_row(
         return acting;
     }
     let v = read::at(nu, i);
-    let s = box_rows::state_of(read::at(lo, i), read::at(hi, i), read::at(scale, i), v);
+    let low = read::at(lo, i);
+    let high = read::at(hi, i);
+    let s = box_rows::state_of(low, high, read::at(scale, i), v);
     read::put_state(states, i, s);
-    read::put(nu, i, placed(read::at(lo, i), read::at(hi, i), s, v));
+    read::put(nu, i, placed(low, high, s, v));
     acting + 1
 }
 

@@ -1,8 +1,7 @@
 // One step of a pass, and the run of them.
 ghost use mathlib.Core.Path.{_≡_};
 ghost use mathlib.Core.List.{List};
-ghost use lib.ListN.{length, replicate};
-ghost use Rattle.floats.specs.Ops.{0ᶠ};
+ghost use lib.ListN.{length};
 ghost use Rattle.exact_pass.specs.Ray.{ray};
 ghost use lib.Ieee.{Float};
 ghost use Rattle.box_rows.specs.Rows as box;
@@ -21,6 +20,7 @@ use crate::read;
 use crate::release;
 use crate::start;
 
+// The direction of all rows, in place of zeros, from that of the free rows.
 fn scatter(free: &[u8], y: &[f64], d: &mut [f64])
     requires { ⌜ private.Listed (length (now d)) (now free) (now y) ⌝ }
     ensures { λ q. ⌜ now (d .exit)
@@ -32,34 +32,6 @@ fn scatter(free: &[u8], y: &[f64], d: &mut [f64])
         read::put(d, read::row_number(free, i), read::at(y, i));
         i += 1;
     }
-}
-
-// The rows of a ray in the direction y of the free rows. d is 0 everywhere, and becomes the direction of all rows.
-fn free_ray(
-    w: &[f64],
-    u_free: &[f64],
-    lo: &[f64],
-    hi: &[f64],
-    scale: &[f64],
-    states: &[u8],
-    free: &[u8],
-    y: &[f64],
-    rows: &mut [usize],
-    d: &mut [f64],
-) -> usize
-    requires { ⌜ private.FreeRayLent (length (now «u_free»)) (now w) (now lo) (now hi) (now scale) (now states)
-        (now free) (now y) (now rows) (now d) ⌝ }
-    ensures { λ q. ⌜ promise.Front
-        (ray
-        (box.problem (now (w .entry)) (now («u_free» .entry)) (now (lo .entry)) (now (hi .entry))
-        (now (scale .entry)))
-        (now (states .entry))
-        (pass.scattered (now (free .entry)) (now (y .entry)) (replicate (length (now («u_free» .entry))) 0ᶠ)
-        (length (now (free .entry)))))
-        (now (rows .entry)) q (now (rows .exit)) ⌝ }
-{
-    scatter(free, y, d);
-    rays::ray(w, u_free, lo, hi, scale, states, d, rows)
 }
 
 // The direction y of the free rows meets no bound: no motion meets every row, or the pass has failed.
@@ -86,8 +58,10 @@ fn unbounded(
         ⌝ }
 {
     let n = u_free.len();
-    let mut d = [0.0f64; 32];
-    let c = free_ray(w, u_free, lo, hi, scale, states, free, y, rows, &mut d[..n]);
+    let mut zeros = [0.0f64; 32];
+    let d = &mut zeros[..n];
+    scatter(free, y, d);
+    let c = rays::ray(w, u_free, lo, hi, scale, states, d, rows);
     if c == 0 {
         return Exact::Failed;
     }
@@ -169,12 +143,13 @@ fn step(
         (now (rows .entry)) (now (work .entry)) q (now (nu .exit)) (now (states .exit)) (now (rows .exit))
         (now (work .exit)) ⌝ }
 {
-    let mut free = [0u8; 32];
-    let k = free_rows::free_rows(states, &mut free);
+    let mut list = [0u8; 32];
+    let k = free_rows::free_rows(states, &mut list);
     if k == 0 {
         return release::release(w, u_free, lo, hi, scale, states, nu);
     }
-    let inconsistent = direction::of_free_rows(w, u_free, scale, states, nu, &free[..k], work);
+    let free = &list[..k];
+    let inconsistent = direction::of_free_rows(w, u_free, scale, states, nu, free, work);
     let y = read::part(work, crate::DIRECTION, k);
     take_step(
         w,
@@ -184,21 +159,21 @@ fn step(
         scale,
         states,
         nu,
-        &free[..k],
+        free,
         y,
         inconsistent,
         rows,
     )
 }
 
-fn moved(e: Exact) -> bool
-    ensures { λ q. ⌜ q ≡ private.isMoved e ⌝ }
+fn ended(e: Exact) -> bool
+    ensures { λ q. ⌜ q ≡ private.isEnd e ⌝ }
 {
     match e {
-        Exact::Moved => true,
-        Exact::Found => false,
-        Exact::Failed => false,
-        Exact::Infeasible(_) => false,
+        Exact::Moved => false,
+        Exact::Found => true,
+        Exact::Failed => true,
+        Exact::Infeasible(_) => true,
     }
 }
 
@@ -235,7 +210,7 @@ pub fn run(
     };
     while m.left > 0 {
         let e = step(w, u_free, lo, hi, scale, states, nu, rows, work);
-        if !moved(e) {
+        if ended(e) {
             return e;
         }
         m = cycles::after_step(nu, states, work, &mut marks, m);

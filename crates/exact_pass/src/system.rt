@@ -9,6 +9,7 @@ ghost use lib.Ieee.{neg};
 ghost use Rattle.loops.specs.Loops.{tab};
 ghost use Rattle.floats.specs.Ops.{at};
 ghost use Rattle.box_rows.specs.Rows as box;
+ghost use Rattle.box_rows.specs.Private.{AtRow};
 ghost use Rattle.exact_pass.specs.Pass as pass;
 ghost use Rattle.exact_pass.specs.Private as private;
 use crate::Residuals;
@@ -141,14 +142,11 @@ fn residual_rows(
     }
 }
 
-// Whether r, what is left of row i, is too large for its diagonal and scale.
-fn too_large(r: f64, w: &[f64], scale: &[f64], free: &[u8], i: usize) -> bool
-    requires { ⌜ private.RowLent (length (now scale)) (now w) (now free) i ⌝ }
-    ensures { λ q. ⌜ q ≡ private.tooLarge (now (w .entry)) (now (scale .entry)) (now (free .entry)) i r ⌝ }
+// Whether r, what is left of row a, is too large for its diagonal and scale.
+fn too_large(r: f64, row: &[f64], scale: &[f64], a: usize) -> bool
+    requires { ⌜ AtRow (length (now row) ≡ length (now scale)) (length (now scale)) a ⌝ }
+    ensures { λ q. ⌜ q ≡ private.tooLarge (now (row .entry)) (now (scale .entry)) a r ⌝ }
 {
-    let n = scale.len();
-    let a = read::row_number(free, i);
-    let row = read::row(w, n, a);
     floats::abs(r / read::at(row, a)) / read::at(scale, a) > crate::EXACT_RESIDUAL
 }
 
@@ -168,17 +166,20 @@ fn two_rows(
         (now (z .entry)) i e (now (y .entry)) q (now (y .exit)) ⌝ }
 {
     let n = scale.len();
+    let a = read::row_number(free, i);
+    let b = read::row_number(free, e);
+    let first = read::row(w, n, a);
+    let second = read::row(w, n, b);
     let r = residual_rows(
-        read::row(w, n, read::row_number(free, i)),
-        read::row(w, n, read::row_number(free, e)),
+        first,
+        second,
         scale,
         free,
         z,
         read::at(rhs, i),
         read::at(rhs, e),
     );
-    let inconsistent = too_large(r.first, w, scale, free, i)
-        | too_large(r.second, w, scale, free, e);
+    let inconsistent = too_large(r.first, first, scale, a) | too_large(r.second, second, scale, b);
     read::put(y, i, -r.first);
     read::put(y, e, -r.second);
     inconsistent

@@ -1,6 +1,7 @@
 pub mod Common
 pub mod Turns
 pub mod Fill
+pub mod Pairs
 pub mod Gather
 pub mod Index
 pub mod Exchange

@@ -5,15 +5,15 @@ use Rattle.exact_pass.proofs.cycles.mark_states as this
 use this.Tie as tie
 
 abbrev Inv-loop : tie.InvT-loop
-Inv-loop states marks₀ n i₀ marks i = (i ≤ n) × (n ≡ length states) × (length marks ≡ length marks₀) × (marks ≡ pasted (take i states) marks₀)
+Inv-loop states marks₀ n _ marks i = (i ≤ n) × (n ≡ length states) × (length marks ≡ length marks₀) × (marks ≡ pasted (take i states) marks₀)
 
 abbrev μ-loop : tie.MeasureT-loop
-μ-loop states marks₀ n i₀ marks i = n - i
+μ-loop _ _ n _ _ i = n - i
 
 loop-again : tie.Need-loop-again Inv-loop μ-loop
 loop-again c =
     let l = c .before .before .before .before .before .before .loop in
-    (search needs, search needs, search needs, front-again _ _ (l .i) 0 (l .marks) _ (l .inv .3) (omega arith) (cc))
+    (search needs, search needs, search needs, front-again _ _ (l .i) 0 (l .marks) _ (l .inv .3) (omega arith) (rw (c .before .before .put-state .ensures, c .before .before .before .state .ensures)))
 
 returns : tie.Need-returns Inv-loop μ-loop
 returns c =

@@ -10,11 +10,11 @@ use Rattle.exact_pass.proofs.cycles.same_trial as this
 use this.Tie as tie
 
 abbrev Inv-loop : tie.InvT-loop
-Inv-loop nu states work marks n i₀ i =
+Inv-loop nu states work marks n _ i =
     (n ≡ length nu) × (i ≤ n) × ((j : ℕ) → j < i → getD nu j nan ≡ getD (private.part 1088 (length nu) work) j nan) × ((j : ℕ) → j < i → getD states j 0 ≡ getD (take (length nu) marks) j 0)
 
 abbrev μ-loop : tie.MeasureT-loop
-μ-loop nu states work marks n i₀ i = n - i
+μ-loop _ _ _ _ n _ i = n - i
 
 loop-again : tie.Need-loop-again Inv-loop μ-loop
 loop-again c =

@@ -8,10 +8,10 @@ use Rattle.exact_pass.proofs.direction.direction as this
 use this.Tie as tie
 
 abbrev Inv-loop : tie.InvT-loop
-Inv-loop inconsistent scale free z nu y₀ k i₀ y i = (i ≤ k) × (k ≡ length free) × (length y ≡ length y₀) × (y ≡ private.toTarget scale free z nu i ++ drop i y₀)
+Inv-loop _ scale free z nu y₀ k _ y i = (i ≤ k) × (k ≡ length free) × (length y ≡ length y₀) × (y ≡ private.toTarget scale free z nu i ++ drop i y₀)
 
 abbrev μ-loop : tie.MeasureT-loop
-μ-loop inconsistent scale free z nu y₀ k i₀ y i = k - i
+μ-loop _ _ _ _ _ _ k _ _ i = k - i
 
 returns : tie.Need-returns Inv-loop μ-loop
 unfolding pass.direction
@@ -20,7 +20,7 @@ returns c = rw (c .if1 .taken)
 loop-again : tie.Need-loop-again Inv-loop μ-loop
 loop-again c =
     let l = c .before .before .before .before .before .before .before .before .before .loop in
-    (search needs, search needs, search needs, cc (tab-again _ _ _ _ (l .inv .3) (l .inv .2) (omega arith)))
+    (search needs, search needs, search needs, rw (c .before .before .put .ensures, c .before .before .before .at3 .ensures, c .before .before .before .before .at2 .ensures, c .before .before .before .before .before .at .ensures, c .before .before .before .before .before .before .before .row-number .ensures) (tab-again _ _ _ _ (l .inv .3) (l .inv .2) (omega arith)))
 
 returns-2 : tie.Need-returns-2 Inv-loop μ-loop
 unfolding pass.direction

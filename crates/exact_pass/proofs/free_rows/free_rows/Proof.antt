@@ -7,10 +7,10 @@ use Rattle.exact_pass.proofs.free_rows.free_rows as this
 use this.Tie as tie
 
 abbrev Inv-loop : tie.InvT-loop
-Inv-loop states free₀ n k₀ i₀ free k i = (i ≤ n) × (n ≡ length states) × (length free ≡ length free₀) × Gathering (private.isFree states) free₀ i k free
+Inv-loop states free₀ n _ _ free k i = (i ≤ n) × (n ≡ length states) × (length free ≡ length free₀) × Gathering (private.isFree states) free₀ i k free
 
 abbrev μ-loop : tie.MeasureT-loop
-μ-loop states free₀ n k₀ i₀ free k i = n - i
+μ-loop _ _ n _ _ _ _ i = n - i
 
 loop-again : tie.Need-loop-again Inv-loop μ-loop
 loop-again c =

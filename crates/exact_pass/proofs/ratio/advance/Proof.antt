@@ -6,10 +6,10 @@ use Rattle.exact_pass.proofs.ratio.advance as this
 use this.Tie as tie
 
 abbrev Inv-loop : tie.InvT-loop
-Inv-loop free y alpha nu₀ k i₀ nu i = (i ≤ k) × (k ≡ length free) × (length nu₀ ≡ length nu) × (nu ≡ pass.advance free y alpha nu₀ i)
+Inv-loop free y alpha nu₀ k _ nu i = (i ≤ k) × (k ≡ length free) × (length nu₀ ≡ length nu) × (nu ≡ pass.advance free y alpha nu₀ i)
 
 abbrev μ-loop : tie.MeasureT-loop
-μ-loop free y alpha nu₀ k i₀ nu i = k - i
+μ-loop _ _ _ _ k _ _ i = k - i
 
 loop-holds : tie.Need-loop-holds Inv-loop μ-loop
 unfolding pass.advance
@@ -18,7 +18,7 @@ loop-holds c = search (turns-from, needs)
 loop-again : tie.Need-loop-again Inv-loop μ-loop
 unfolding pass.advance
 loop-again c =
-    (search needs, search needs, search needs, turns-again _ _ _ _ _ (c .before .before .before .before .before .before .before .before .before .loop .inv .3) (cc))
+    (search needs, search needs, search needs, turns-again _ _ _ _ _ (c .before .before .before .before .before .before .before .before .before .loop .inv .3) (rw (c .before .before .put .ensures, c .before .before .before .at2 .ensures, c .before .before .before .before .at .ensures, c .before .before .before .before .before .before .before .row-number .ensures)))
 
 returns : tie.Need-returns Inv-loop μ-loop
 unfolding pass.advance

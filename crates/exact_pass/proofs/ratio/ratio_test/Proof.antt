@@ -7,10 +7,10 @@ use Rattle.exact_pass.proofs.ratio.ratio_test as this
 use this.Tie as tie
 
 abbrev Inv-loop : tie.InvT-loop
-Inv-loop lo hi free nu y alpha k r₀ i₀ r i = (i ≤ k) × (k ≡ length free) × (r ≡ pass.ratioTest lo hi free nu y alpha i)
+Inv-loop lo hi free nu y alpha k _ _ r i = (i ≤ k) × (k ≡ length free) × (r ≡ pass.ratioTest lo hi free nu y alpha i)
 
 abbrev μ-loop : tie.MeasureT-loop
-μ-loop lo hi free nu y alpha k r₀ i₀ r i = k - i
+μ-loop _ _ _ _ _ _ k _ _ _ i = k - i
 
 loop-holds : tie.Need-loop-holds Inv-loop μ-loop
 unfolding pass.ratioTest
@@ -18,7 +18,10 @@ loop-holds c = search (turns-from, needs)
 
 loop-again : tie.Need-loop-again Inv-loop μ-loop
 unfolding pass.ratioTest private.ratioRow private.nearer
-loop-again c = (search needs, search needs, turns-again _ _ _ _ _ (c .before .before .before .before .before .before .before .loop .inv .2) (cc))
+loop-again c =
+    let lo = c .before .before in
+    let v = lo .before .before in
+    (search needs, search needs, turns-again _ _ _ _ _ (v .before .before .before .loop .inv .2) (rw (c .ratio-row .ensures, c .before .at4 .ensures, lo .at3 .ensures, lo .before .at2 .ensures, v .at .ensures, v .before .row-number .ensures)))
 
 returns : tie.Need-returns Inv-loop μ-loop
 unfolding pass.ratioTest

@@ -5,10 +5,10 @@ use Rattle.exact_pass.proofs.rays.largest as this
 use this.Tie as tie
 
 abbrev Inv-loop : tie.InvT-loop
-Inv-loop scale states y n worst₀ a₀ worst a = (a ≤ n) × (n ≡ length y) × (worst ≡ private.largest scale states y a)
+Inv-loop scale states y n _ _ worst a = (a ≤ n) × (n ≡ length y) × (worst ≡ private.largest scale states y a)
 
 abbrev μ-loop : tie.MeasureT-loop
-μ-loop scale states y n worst₀ a₀ worst a = n - a
+μ-loop _ _ _ n _ _ _ a = n - a
 
 pub largest-spec : {M : Type 1} → this.Statement.statement M
 unfolding private.largest

@@ -6,10 +6,10 @@ use Rattle.exact_pass.proofs.rays.linear as this
 use this.Tie as tie
 
 abbrev Inv-loop : tie.InvT-loop
-Inv-loop u-free y l k s₀ i₀ s i = (i ≤ k) × (k ≡ length l) × (s ≡ linear u-free y l i)
+Inv-loop u-free y l k _ _ s i = (i ≤ k) × (k ≡ length l) × (s ≡ linear u-free y l i)
 
 abbrev μ-loop : tie.MeasureT-loop
-μ-loop u-free y l k s₀ i₀ s i = k - i
+μ-loop _ _ _ k _ _ _ i = k - i
 
 pub linear-spec : {M : Type 1} → this.Statement.statement M
 unfolding linear
@@ -24,5 +24,5 @@ linear-spec =
     (λ c κs. search (free-row, needs))
     (λ c. omega arith)
     (λ c. omega arith)
-    (λ c. (omega arith, omega arith, turns-again _ _ _ _ _ (c .before .before .before .before .loop .inv .2) (cc)))
+    (λ c. (omega arith, omega arith, turns-again _ _ _ _ _ (c .before .before .before .before .loop .inv .2) (rw (c .at2 .ensures, c .before .at .ensures, c .before .before .number .ensures))))
     (λ c. search (turns-done, needs)))

@@ -7,10 +7,10 @@ use Rattle.exact_pass.proofs.rays.quadratic as this
 use this.Tie as tie
 
 abbrev Inv-loop : tie.InvT-loop
-Inv-loop w y l k n q₀ i₀ q i = (i ≤ k) × (k ≡ length l) × (n ≡ length y) × (q ≡ quadratic w (length y) y l i)
+Inv-loop w y l k n _ _ q i = (i ≤ k) × (k ≡ length l) × (n ≡ length y) × (q ≡ quadratic w (length y) y l i)
 
 abbrev μ-loop : tie.MeasureT-loop
-μ-loop w y l k n q₀ i₀ q i = k - i
+μ-loop _ _ _ k _ _ _ _ i = k - i
 
 pub quadratic-spec : {M : Type 1} → this.Statement.statement M
 unfolding quadratic
@@ -26,5 +26,5 @@ quadratic-spec =
     (λ c κs. record { lists = ap length (c .before .row .ensures) ∙ row-length _ _ _; below = search needs })
     (λ c. omega arith)
     (λ c. omega arith)
-    (λ c. (omega arith, omega arith, omega arith, turns-again _ _ _ _ _ (c .before .before .before .before .before .loop .inv .3) (cc)))
+    (λ c. (omega arith, omega arith, omega arith, turns-again _ _ _ _ _ (c .before .before .before .before .before .loop .inv .3) (rw (c .quadratic-row .ensures, c .before .at .ensures, c .before .before .row .ensures, c .before .before .before .number .ensures))))
     (λ c. search (turns-done, needs)))

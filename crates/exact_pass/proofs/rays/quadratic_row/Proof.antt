@@ -6,10 +6,10 @@ use Rattle.exact_pass.proofs.rays.quadratic_row as this
 use this.Tie as tie
 
 abbrev Inv-loop : tie.InvT-loop
-Inv-loop row v y l quad k q₀ j₀ q j = (j ≤ k) × (k ≡ length l) × (q ≡ quadraticRow row v y l quad j)
+Inv-loop row v y l quad k _ _ q j = (j ≤ k) × (k ≡ length l) × (q ≡ quadraticRow row v y l quad j)
 
 abbrev μ-loop : tie.MeasureT-loop
-μ-loop row v y l quad k q₀ j₀ q j = k - j
+μ-loop _ _ _ _ _ k _ _ _ j = k - j
 
 pub quadratic-row-spec : {M : Type 1} → this.Statement.statement M
 unfolding quadraticRow
@@ -24,5 +24,5 @@ quadratic-row-spec =
     (λ c κs. search (free-row, needs))
     (λ c. omega arith)
     (λ c. omega arith)
-    (λ c. (omega arith, omega arith, turns-again _ _ _ _ _ (c .before .before .before .before .loop .inv .2) (cc)))
+    (λ c. (omega arith, omega arith, turns-again _ _ _ _ _ (c .before .before .before .before .loop .inv .2) (rw (c .at2 .ensures, c .before .at .ensures, c .before .before .number .ensures))))
     (λ c. search (turns-done, needs)))

@@ -20,8 +20,6 @@ ray-spec =
     (λ c. omega arith)
     (λ c. simp length-take (omega arith))
     falls-requires
-    (λ c. omega arith)
-    (λ c. simp length-take (omega arith))
     (λ c κs. simp length-take (omega arith))
     (λ c. omega arith)
     (λ c. search (ray-found, needs))

@@ -5,17 +5,17 @@ use Rattle.exact_pass.proofs.read.copy as this
 use this.Tie as tie
 
 abbrev Inv-loop : tie.InvT-loop
-Inv-loop from to₀ a n i₀ to i = (i ≤ n) × (n ≡ length from) × (length to ≡ length to₀) × (to ≡ paste to₀ a from i)
+Inv-loop from to₀ a n _ to i = (i ≤ n) × (n ≡ length from) × (length to ≡ length to₀) × (to ≡ paste to₀ a from i)
 
 abbrev μ-loop : tie.MeasureT-loop
-μ-loop from to₀ a n i₀ to i = n - i
+μ-loop _ _ _ n _ _ i = n - i
 
 loop-again : tie.Need-loop-again Inv-loop μ-loop
 loop-again c =
     let at-loop = c .before .before .before .before .before .before in
     let l = at-loop .loop in
     let a = at-loop .before .before .before .args in
-    (search needs, search needs, search needs, copy-again (a .from .now) (a .a) (a .to .now) nan (l .i) (l .to) _ (l .inv .3) (omega arith) (omega arith) (cc))
+    (search needs, search needs, search needs, copy-again (a .from .now) (a .a) (a .to .now) nan (l .i) (l .to) _ (l .inv .3) (omega arith) (omega arith) (rw (c .before .before .put .ensures, c .before .before .before .at .ensures)))
 
 returns : tie.Need-returns Inv-loop μ-loop
 returns c =

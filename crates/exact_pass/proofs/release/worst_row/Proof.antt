@@ -7,10 +7,10 @@ use Rattle.exact_pass.proofs.release.worst_row as this
 use this.Tie as tie
 
 abbrev Inv-loop : tie.InvT-loop
-Inv-loop w u-free lo hi scale states nu n worst₀ i₀ worst i = (i ≤ n) × (n ≡ length u-free) × (worst ≡ private.worstRow (box.problem w u-free lo hi scale) states nu i)
+Inv-loop w u-free lo hi scale states nu n _ _ worst i = (i ≤ n) × (n ≡ length u-free) × (worst ≡ private.worstRow (box.problem w u-free lo hi scale) states nu i)
 
 abbrev μ-loop : tie.MeasureT-loop
-μ-loop w u-free lo hi scale states nu n worst₀ i₀ worst i = n - i
+μ-loop _ _ _ _ _ _ _ n _ _ _ i = n - i
 
 pub worst-row-spec : {M : Type 1} → this.Statement.statement M
 worst-row-spec =

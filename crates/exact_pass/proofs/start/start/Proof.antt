@@ -6,10 +6,10 @@ use Rattle.exact_pass.proofs.start.start as this
 use this.Tie as tie
 
 abbrev Inv-loop : tie.InvT-loop
-Inv-loop lo hi scale states₀ nu₀ n acting₀ i₀ states nu acting i = (i ≤ n) × (length nu ≡ length nu₀) × (length states ≡ length states₀) × (n ≡ length nu₀) × private.Started (pass.start lo hi scale nu₀ states₀ i) i nu states acting
+Inv-loop lo hi scale states₀ nu₀ n _ _ states nu acting i = (i ≤ n) × (length nu ≡ length nu₀) × (length states ≡ length states₀) × (n ≡ length nu₀) × private.Started (pass.start lo hi scale nu₀ states₀ i) i nu states acting
 
 abbrev μ-loop : tie.MeasureT-loop
-μ-loop lo hi scale states₀ nu₀ n acting₀ i₀ states nu acting i = n - i
+μ-loop _ _ _ _ _ n _ _ _ _ _ i = n - i
 
 loop-holds : tie.Need-loop-holds Inv-loop μ-loop
 unfolding pass.start private.startRow

@@ -12,7 +12,7 @@ returns-2 : tie.Need-returns-2
 unfolding private.startRow
 returns-2 c =
     let at-placed = c .before .before .before in
-    let at-put-state = at-placed .before .before .before .before .before .before in
+    let at-put-state = at-placed .before .before .before .before in
     let at-of = at-put-state .before .before in
     let at-if1 = at-of .before .before .before .before .before .before in
     let at-args = at-if1 .before .before .before .before .before .before .before .before in
@@ -25,8 +25,6 @@ returns-2 c =
         c .before .before .put .ensures,
         at-put-state .put-state .ensures,
         at-placed .placed .ensures,
-        at-placed .before .before .at5 .ensures,
-        at-placed .before .at6 .ensures,
         at-of .state-of .ensures,
         at-of .before .before .before .at2 .ensures,
         at-of .before .before .at3 .ensures,
@@ -48,8 +46,6 @@ start-row-spec =
     (λ c κs. omega arith)
     (λ c κs. omega arith)
     (λ c κs. tt)
-    (λ c κs. omega arith)
-    (λ c κs. omega arith)
     (λ c κs. omega arith)
     (λ c κs. tt)
     (λ c κs. omega arith)

@@ -1,4 +1,4 @@
-use Rattle.loops.proofs.Common.{_+_, _*_, _≤_, sym, ap, _∙_, arith, length, needs, not-true, not-false}
+use Rattle.loops.proofs.Common.{_+_, _*_, _≤_, sym, ap, _∙_, arith, length, needs}
 use Rattle.box_rows.specs.Rows as box
 use Rattle.exact_pass.specs.Private as private
 use Rattle.exact_pass.proofs.Running.{Going, now, going-start, going-again, going-ended, going-over, marks-lent, pass-ran}
@@ -6,11 +6,11 @@ use Rattle.exact_pass.proofs.steps.run as this
 use this.Tie as tie
 
 abbrev Inv-loop : tie.InvT-loop
-Inv-loop w u-free lo hi scale states₀ nu₀ rows₀ work₀ acting most marks₀ m₀ states nu rows work marks m =
+Inv-loop w u-free lo hi scale states₀ nu₀ rows₀ work₀ _ most marks₀ m₀ states nu rows work marks m =
     Going (box.problem w u-free lo hi scale) most (now states₀ nu₀ rows₀ work₀ marks₀ m₀) (now states nu rows work marks m)
 
 abbrev μ-loop : tie.MeasureT-loop
-μ-loop w u-free lo hi scale states₀ nu₀ rows₀ work₀ acting most marks₀ m₀ states nu rows work marks m = m .left
+μ-loop _ _ _ _ _ _ _ _ _ _ _ _ _ _ _ _ _ _ m = m .left
 
 -- where the facts are that a place of the loop has from before it
 abbrev entry : tie.After-start Inv-loop μ-loop → tie.Start Inv-loop μ-loop
@@ -32,17 +32,17 @@ abbrev began : tie.At-loop Inv-loop μ-loop → tie.Start Inv-loop μ-loop
 began c = entry (to-start (to-copy c))
 
 most-fits : (c : tie.After-start Inv-loop μ-loop) → 8 * c .start .result + 8 ≤ 264
-most-fits c = omega (arith, c .start .ensures .within, entry c .pre .fit .values, entry c .pre .fit .sized .0)
+most-fits c = omega (arith, c .start .ensures .within, entry c .pre)
 
 copy-requires : tie.Need-copy-requires Inv-loop μ-loop
 copy-requires c κs =
     let s = c .before .before .before .before .before .before in
-    omega (arith, s .start .kept, entry s .pre .fit .values, entry s .pre .fit .sized .0, entry s .pre .workspace)
+    omega (arith, s .start .kept, entry s .pre)
 
 mark-states-requires : tie.Need-mark-states-requires Inv-loop μ-loop
 mark-states-requires c κs =
     let s = c .before .before .before .before .before .before .before .before .before .before .before in
-    omega (arith, s .start .kept, entry s .pre .fit .states, entry s .pre .fit .sized .0)
+    omega (arith, s .start .kept, entry s .pre)
 
 loop-holds : tie.Need-loop-holds Inv-loop μ-loop
 loop-holds c =
@@ -57,7 +57,7 @@ returns c =
     let at-copy = to-copy (to-loop at-step) in
     let at-start = to-start at-copy in
     pass-ran (entry at-start .pre) (at-start .start .ensures) (at-start .start .kept .1 .1 .1 .1 .0) (at-copy .copy .ensures)
-    (going-ended (to-loop at-step .loop .inv) (at-step .step .ensures) (at-step .before .before .before .before .before .if1 .taken) (sym (c .before .moved .ensures) ∙ not-true _ (c .if2 .taken)))
+    (going-ended (to-loop at-step .loop .inv) (at-step .step .ensures) (at-step .before .before .before .before .before .if1 .taken) (sym (c .before .ended .ensures) ∙ c .if2 .taken))
 
 stepped-marks : (c : tie.After-step Inv-loop μ-loop) → private.MarksLent (length (c .step .last .1 .1 .1 .1 .1 .1 .0)) (c .step .last .1 .1 .1 .1 .1 .0) (c .step .last .1 .1 .1 .1 .1 .1 .1 .1 .0) (to-loop c .loop .marks)
 stepped-marks c = let kept = c .step .kept .1 .1 .1 .1 .1 in marks-lent (to-loop c .loop .inv) (kept .0) (kept .1 .0) (kept .1 .1 .1 .0)
@@ -75,7 +75,7 @@ loop-again c =
     let after = c .before .before .before .after-step in
     let at-if2 = c .before .before .before .before .before .before .before .before in
     let at-step = at-if2 .before .before .before .before .before .before .before .before .before .before in
-    going-again (to-loop at-step .loop .inv) (at-step .step .ensures) (at-step .before .before .before .before .before .if1 .taken) (sym (at-if2 .before .moved .ensures) ∙ not-false _ (at-if2 .if2 .left))
+    going-again (to-loop at-step .loop .inv) (at-step .step .ensures) (at-step .before .before .before .before .before .if1 .taken) (sym (at-if2 .before .ended .ensures) ∙ at-if2 .if2 .left)
     (at-step .step .kept .1 .1 .1 .1 .1) (after .ensures) (after .kept .1 .1 .0) (after .kept .1 .1 .1 .0)
 
 returns-2 : tie.Need-returns-2 Inv-loop μ-loop

@@ -6,10 +6,10 @@ use Rattle.exact_pass.proofs.steps.scatter as scatter
 use scatter.Tie as tie
 
 abbrev Inv-loop : tie.InvT-loop
-Inv-loop free y d₀ k i₀ d i = (i ≤ k) × (k ≡ length free) × (length d ≡ length d₀) × (d ≡ pass.scattered free y d₀ i)
+Inv-loop free y d₀ k _ d i = (i ≤ k) × (k ≡ length free) × (length d ≡ length d₀) × (d ≡ pass.scattered free y d₀ i)
 
 abbrev μ-loop : tie.MeasureT-loop
-μ-loop free y d₀ k i₀ d i = k - i
+μ-loop _ _ _ k _ _ i = k - i
 
 loop-holds : tie.Need-loop-holds Inv-loop μ-loop
 unfolding pass.scattered
@@ -18,7 +18,7 @@ loop-holds c = search (turns-from, needs)
 loop-again : tie.Need-loop-again Inv-loop μ-loop
 unfolding pass.scattered
 loop-again c =
-    (search needs, search needs, search needs, turns-again _ _ _ _ _ (c .before .before .before .before .before .before .before .loop .inv .3) (cc))
+    (search needs, search needs, search needs, turns-again _ _ _ _ _ (c .before .before .before .before .before .before .before .loop .inv .3) (rw (c .before .before .put .ensures, c .before .before .before .at .ensures, c .before .before .before .before .row-number .ensures)))
 
 returns : tie.Need-returns Inv-loop μ-loop
 unfolding pass.scattered

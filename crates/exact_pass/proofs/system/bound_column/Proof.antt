@@ -7,10 +7,10 @@ use Rattle.exact_pass.proofs.system.bound_column as this
 use this.Tie as tie
 
 abbrev Inv-loop : tie.InvT-loop
-Inv-loop state w n free j v rhs₀ k i₀ rhs i = (i ≤ k) × (k ≡ length free) × (length rhs ≡ length rhs₀) × (rhs ≡ columnTaken w n free j v i rhs₀)
+Inv-loop _ w n free j v rhs₀ k _ rhs i = (i ≤ k) × (k ≡ length free) × (length rhs ≡ length rhs₀) × (rhs ≡ columnTaken w n free j v i rhs₀)
 
 abbrev μ-loop : tie.MeasureT-loop
-μ-loop state w n free j v rhs₀ k i₀ rhs i = k - i
+μ-loop _ _ _ _ _ _ _ k _ _ i = k - i
 
 at-requires-2 : tie.Need-at-requires-2 Inv-loop μ-loop
 at-requires-2 c κs =
@@ -21,7 +21,8 @@ at-requires-2 c κs =
 loop-again : tie.Need-loop-again Inv-loop μ-loop
 loop-again c =
     let at-put = c .before .before in
-    (search needs, search needs, search needs, rw (at-put .put .ensures) (updated-again _ _ _ _ _ _ _ _ _ (omega arith) (at-put .before .before .before .before .before .before .before .before .loop .inv .3) refl (cc)))
+    let at-row = at-put .before .before .before .before .before in
+    (search needs, search needs, search needs, rw (at-put .put .ensures) (updated-again _ _ _ _ _ _ _ _ _ (omega arith) (at-row .before .before .before .loop .inv .3) refl (rw (at-put .before .at2 .ensures, at-put .before .before .at .ensures, at-row .row .ensures, at-row .before .row-number .ensures))))
 
 pub bound-column-spec : {M : Type 1} → this.Statement.statement M
 bound-column-spec =

@@ -10,10 +10,10 @@ use Rattle.exact_pass.proofs.system.matrix as this
 use this.Tie as tie
 
 abbrev Inv-loop : tie.InvT-loop
-Inv-loop w scale free m₀ k n i₀ m i = (i ≤ k) × (k ≡ length free) × (n ≡ length scale) × (length m ≡ length m₀) × (m ≡ pass.matrix w scale free i ++ drop (i * length free) m₀)
+Inv-loop w scale free m₀ k n _ m i = (i ≤ k) × (k ≡ length free) × (n ≡ length scale) × (length m ≡ length m₀) × (m ≡ pass.matrix w scale free i ++ drop (i * length free) m₀)
 
 abbrev μ-loop : tie.MeasureT-loop
-μ-loop w scale free m₀ k n i₀ m i = k - i
+μ-loop _ _ _ _ k _ _ _ i = k - i
 
 abbrev entry : tie.At-loop Inv-loop μ-loop → tie.Start Inv-loop μ-loop
 entry c = c .before .before .before .before .before
@@ -38,7 +38,7 @@ loop-again : tie.Need-loop-again Inv-loop μ-loop
 loop-again c =
     let at-row = c .before .before in
     let at-loop = at-row .before .before .before .before .before in
-    (search needs, search needs, search needs, search needs, matrix-again _ _ _ _ (at-loop .loop .i) _ (at-row .matrix-row .last .1 .1 .1 .0) (at-loop .loop .inv .4) (cc))
+    (search needs, search needs, search needs, search needs, matrix-again _ _ _ _ (at-loop .loop .i) _ (at-row .matrix-row .last .1 .1 .1 .0) (at-loop .loop .inv .4) (rw (c .before .before .matrix-row .ensures, c .before .before .before .before .row .ensures, c .before .before .before .before .before .row-number .ensures)))
 
 pub matrix-spec : {M : Type 1} → this.Statement.statement M
 matrix-spec =

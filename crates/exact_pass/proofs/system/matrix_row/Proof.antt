@@ -7,10 +7,10 @@ use Rattle.exact_pass.proofs.system.matrix_row as this
 use this.Tie as tie
 
 abbrev Inv-loop : tie.InvT-loop
-Inv-loop row scale free out₀ k j₀ out j = (j ≤ k) × (k ≡ length free) × (length out ≡ length out₀) × (out ≡ private.matrixRow row scale free j ++ drop j out₀)
+Inv-loop row scale free out₀ k _ out j = (j ≤ k) × (k ≡ length free) × (length out ≡ length out₀) × (out ≡ private.matrixRow row scale free j ++ drop j out₀)
 
 abbrev μ-loop : tie.MeasureT-loop
-μ-loop row scale free out₀ k j₀ out j = k - j
+μ-loop _ _ _ _ k _ _ j = k - j
 
 loop-holds : tie.Need-loop-holds Inv-loop μ-loop
 unfolding private.matrixRow
@@ -20,7 +20,7 @@ loop-again : tie.Need-loop-again Inv-loop μ-loop
 unfolding private.matrixRow
 loop-again c =
     let l = c .before .before .before .before .before .before .before .before .loop in
-    (search needs, search needs, search needs, cc (tab-again _ _ _ _ (l .inv .3) (l .inv .2) (omega arith)))
+    (search needs, search needs, search needs, rw (c .before .before .put .ensures, c .before .before .before .at2 .ensures, c .before .before .before .before .at .ensures, c .before .before .before .before .before .before .row-number .ensures) (tab-again _ _ _ _ (l .inv .3) (l .inv .2) (omega arith)))
 
 returns : tie.Need-returns Inv-loop μ-loop
 unfolding private.matrixRow

@@ -1,19 +1,19 @@
-use Rattle.loops.proofs.Common.{_-_, _≤_, _≡_, ap, _∙_, _++_, arith, length, drop, needs}
+use Rattle.loops.proofs.Common.{_-_, _≤_, _≡_, _∙_, _++_, arith, length, drop, needs}
 use Rattle.loops.proofs.Fill.{tab-start}
 use Rattle.loops.proofs.Turns.{turns-from, turns-done}
 use Rattle.box_rows.proofs.Matrix.{tab-filled}
 use Rattle.exact_pass.specs.Private as private
 use Rattle.exact_pass.proofs.Lent.{part-long}
-use Rattle.exact_pass.proofs.Systems.{tab-two, or-two}
+use Rattle.loops.proofs.Pairs.{tab-two, or-two}
 use Rattle.exact_pass.proofs.system.residual as this
 use this.Tie as tie
 
 abbrev Inv-loop : tie.InvT-loop
-Inv-loop w scale free work z y₀ k rhs inconsistent₀ i₀ y inconsistent i =
+Inv-loop w scale free _ z y₀ k rhs _ _ y inconsistent i =
     (i ≤ k) × (k ≡ length free) × (length y ≡ length y₀) × (y ≡ private.downhill w scale free rhs z i ++ drop i y₀) × (inconsistent ≡ private.inconsistent w scale free rhs z i)
 
 abbrev μ-loop : tie.MeasureT-loop
-μ-loop w scale free work z y₀ k rhs inconsistent₀ i₀ y inconsistent i = k - i
+μ-loop _ _ _ _ _ _ k _ _ _ _ _ i = k - i
 
 abbrev entry : tie.At-loop Inv-loop μ-loop → tie.Start Inv-loop μ-loop
 entry c = c .before .before .before .before .before .before .before .before
@@ -43,8 +43,8 @@ loop-again c =
       omega (arith, s),
       i .1,
       omega arith,
-      t .two-rows .ensures .downhill ∙ tab-two e _ _ _ (i .3) (i .2) (omega (arith, i .1, entry l .pre .direction)),
-      or-two e _ _ _ (i .4) (t .two-rows .ensures .inconsistent),
+      t .two-rows .ensures .downhill ∙ tab-two (e .least) (e .most) _ _ _ (i .3) (i .2) (omega (arith, e, i .1, entry l .pre .direction)),
+      or-two (e .least) (e .most) _ _ _ (i .4) (t .two-rows .ensures .inconsistent),
     )
 
 returns : tie.Need-returns Inv-loop μ-loop

@@ -4,18 +4,18 @@ use Rattle.exact_pass.proofs.system.right_hand_side as this
 use this.Tie as tie
 
 abbrev Inv-loop : tie.InvT-loop
-Inv-loop w u-free states nu free rhs₀ n j₀ rhs j = (j ≤ n) × (n ≡ length nu) × (length rhs ≡ length rhs₀) × (rhs ≡ columns w u-free states nu free (length free) j)
+Inv-loop w u-free states nu free rhs₀ n _ rhs j = (j ≤ n) × (n ≡ length nu) × (length rhs ≡ length rhs₀) × (rhs ≡ columns w u-free states nu free (length free) j)
 
 abbrev μ-loop : tie.MeasureT-loop
-μ-loop w u-free states nu free rhs₀ n j₀ rhs j = n - j
+μ-loop _ _ _ _ _ _ n _ _ j = n - j
 
 loop-again : tie.Need-loop-again Inv-loop μ-loop
 loop-again c =
-    let at-held = c .before .before in
-    let at-at = at-held .before .before in
+    let at-column = c .before .before in
+    let at-at = at-column .before .before in
     let at-state = at-at .before in
     let at-loop = at-state .before .before in
-    (search needs, search needs, search needs, columns-again _ _ _ _ _ _ _ _ _ _ _ (at-loop .loop .inv .3) (at-state .state .ensures) (at-at .at .ensures) (rw (at-loop .loop .inv .1) at (at-held .bound-column .ensures)))
+    (search needs, search needs, search needs, columns-again _ _ _ _ _ _ _ _ _ _ _ (at-loop .loop .inv .3) (at-state .state .ensures) (at-at .at .ensures) (rw (at-loop .loop .inv .1) at (at-column .bound-column .ensures)))
 
 pub right-hand-side-spec : {M : Type 1} → this.Statement.statement M
 right-hand-side-spec =

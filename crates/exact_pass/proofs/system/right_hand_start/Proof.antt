@@ -9,15 +9,15 @@ use Rattle.exact_pass.proofs.system.right_hand_start as this
 use this.Tie as tie
 
 abbrev Inv-loop : tie.InvT-loop
-Inv-loop u-free free rhs₀ k i₀ rhs i = (i ≤ k) × (k ≡ length free) × (length rhs ≡ length rhs₀) × (rhs ≡ tab (λ (i : ℕ). neg (at u-free (getD free i 0))) i ++ drop i rhs₀)
+Inv-loop u-free free rhs₀ k _ rhs i = (i ≤ k) × (k ≡ length free) × (length rhs ≡ length rhs₀) × (rhs ≡ tab (λ (i : ℕ). neg (at u-free (getD free i 0))) i ++ drop i rhs₀)
 
 abbrev μ-loop : tie.MeasureT-loop
-μ-loop u-free free rhs₀ k i₀ rhs i = k - i
+μ-loop _ _ _ k _ _ i = k - i
 
 loop-again : tie.Need-loop-again Inv-loop μ-loop
 loop-again c =
     let l = c .before .before .before .before .before .before .before .loop in
-    (search needs, search needs, search needs, cc (tab-again _ _ _ _ (l .inv .3) (l .inv .2) (omega arith)))
+    (search needs, search needs, search needs, rw (c .before .before .put .ensures, c .before .before .before .at .ensures, c .before .before .before .before .row-number .ensures) (tab-again _ _ _ _ (l .inv .3) (l .inv .2) (omega arith)))
 
 returns : tie.Need-returns Inv-loop μ-loop
 returns c =

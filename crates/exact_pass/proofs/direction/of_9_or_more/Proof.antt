@@ -1,10 +1,10 @@
 use mathlib.Core.Path.{refl}
 use Rattle.exact_pass.proofs.Lent.{scratch}
-use Rattle.exact_pass.proofs.direction.of_at_most_32 as this
+use Rattle.exact_pass.proofs.direction.of_9_or_more as this
 use this.Tie as tie
 
-pub of-at-most-32-spec : {M : Type 1} → this.Statement.statement M
-of-at-most-32-spec =
+pub of-9-or-more-spec : {M : Type 1} → this.Statement.statement M
+of-9-or-more-spec =
     tie.close
     (tie.spec
     (λ c. refl)
