@@ -1,11 +1,11 @@
 -- Rows of a matrix as parts of its list, and copies.
 use Prim.Native.Nat.{ℕ, zero, suc, _+_, _*_, _-_, _≤_, _<_}
-use mathlib.Core.Path.{_≡_, refl, sym, ap, _∙_}
-use mathlib.Core.List.{List, [], _∷_, _++_, append-assoc}
+use mathlib.Core.Path.{_≡_, refl, _∙_}
+use mathlib.Core.List.{List, _++_, append-assoc}
 use native.Mathlib.Omega.{arith}
 use native.Mathlib.Numerals.{add-one}
 use lib.ListN.{length, take, drop, getD, set, length-drop}
-use lib.Seq.{take-suc, getD-drop, paste, paste-zero, paste-suc, drop-paste, take-all, drop-drop, drop-append-seam, take-append-seam, length-take-le, drop-at, take-at}
+use lib.Seq.{take-suc, getD-drop, paste, paste-zero, paste-suc, drop-paste, take-all, drop-drop, take-append-seam, length-take-le, drop-at}
 use lib.Ieee.{Float, nan}
 use Rattle.loops.specs.Loops.{tab, turns}
 use Rattle.loops.proofs.Fill.{tab-length, tab-done}

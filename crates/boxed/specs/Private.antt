@@ -6,7 +6,7 @@ use mathlib.Core.Bool.{Bool, true, false, cond, _&&_, _||_}
 use mathlib.Core.List.{List, [], _∷_}
 use lib.ListN.{length, drop, set}
 use lib.Ieee.{Float, lt}
-use Rattle.loops.specs.Loops.{turns, tab, counted, noted, fronted}
+use Rattle.loops.specs.Loops.{turns, tab, fronted}
 use Rattle.floats.specs.Ops.{_⊕_, _⊖_, _⊗_, _⊘_, at, 0ᶠ, 1e6}
 use Rattle.floats.specs.Helpers.{clamp, larger, abs, isFinite}
 use Rattle.box_rows.specs.Rows as box

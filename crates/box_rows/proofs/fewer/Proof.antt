@@ -1,7 +1,6 @@
 use mathlib.Core.Path.{refl}
 use mathlib.Core.Logic.{inl, inr}
 use borrow.Author.Needs.{needs}
-use native.Mathlib.Omega.{arith}
 use Rattle.box_rows.proofs.fewer.Statement.{statement}
 use Rattle.box_rows.proofs.fewer.Tie as tie
 

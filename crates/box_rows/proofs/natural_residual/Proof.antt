@@ -1,5 +1,4 @@
 use Rattle.box_rows.specs.Rows as box
-use native.Mathlib.Omega.{arith}
 use borrow.Author.Needs.{needs}
 use Rattle.box_rows.proofs.natural_residual.Statement.{statement}
 use Rattle.box_rows.proofs.natural_residual.Tie as tie
