@@ -39,7 +39,7 @@ __all__ = [
     "VERSION",
 ]
 
-VERSION = "3.0.3"
+VERSION = "3.0.4"
 
 MOST = 32
 SOLVE_WORKSPACE = 2304
