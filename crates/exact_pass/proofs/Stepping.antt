@@ -1,6 +1,6 @@
 -- One step of a pass, from what its calls promise: one law for each return.
-use Rattle.loops.proofs.Common.{ℕ, _<_, _≡_, refl, sym, ap, _∙_, Bool, true, false, cond, List, [], _∷_, arith, length, getD, Float, eq-eqb, ne-eqb}
-use Rattle.loops.proofs.Turns.{turns-keep}
+use Rattle.loops.proofs.Common.{ℕ, _+_, _<_, _≡_, refl, sym, ap, _∙_, Bool, true, false, cond, List, [], _∷_, arith, length, getD, Float, eq-eqb, ne-eqb}
+use Rattle.loops.proofs.Turns.{turns-keep, turns-again}
 use lib.ListN.{replicate}
 use lib.Ieee.{lt}
 use Rattle.floats.specs.Ops.{_⊖_, _⊘_, at, 0ᶠ}
@@ -41,6 +41,13 @@ row-blocks {n = n} a v y lo hi r h g = go (lt 0ᶠ y) (lt y 0ᶠ)
 pub ratio-blocks : {n : ℕ} (lo hi : List Float) (l : List ℕ) (nu y : List Float) (alpha : Float) → 0 < n → private.Below n l → Blocks n (pass.ratioTest lo hi l nu y alpha (length l))
 unfolding pass.ratioTest private.ratioRow private.nearer
 ratio-blocks {n = n} lo hi l nu y alpha some below = turns-keep _ _ (λ i r. Blocks n r) (length l) (omega arith) λ i r b g. row-blocks (getD l i 0) (at nu (getD l i 0)) (at y i) (at lo (getD l i 0)) (at hi (getD l i 0)) r (below i b) g
+
+-- ---- one more row of the ratio test
+
+pub ratio-again : (lo hi : List Float) (l : List ℕ) (nu y : List Float) (alpha : Float) (i : ℕ) {a : ℕ} {v x low high : Float} {r r′ : Blocking} → r ≡ pass.ratioTest lo hi l nu y alpha i → a ≡ getD l i 0
+    → v ≡ at nu a → x ≡ at y i → low ≡ at lo a → high ≡ at hi a → r′ ≡ private.ratioRow a v x low high r → r′ ≡ pass.ratioTest lo hi l nu y alpha (i + 1)
+unfolding pass.ratioTest private.ratioRow private.nearer
+ratio-again lo hi l nu y alpha i h a v x low high e = turns-again _ _ i _ _ h (rw (e, high, low, x, v, a))
 
 -- ---- no bound is met
 

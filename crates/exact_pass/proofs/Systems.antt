@@ -6,12 +6,13 @@ use mathlib.Core.Bool.{_||_}
 use lib.Dec.{eqb}
 use lib.Ieee.{neg}
 use Rattle.loops.proofs.Updates.{updated-here, updated-long}
-use Rattle.floats.specs.Ops.{at, _⊖_, _⊗_}
+use Rattle.floats.specs.Ops.{at, _⊕_, _⊖_, _⊗_}
 use borrow.Author.Tests.{le-leb}
 use Rattle.loops.specs.Loops.{turns, tab}
 use borrow.Rule.Slice.PartMut.{putMid}
 use Rattle.loops.proofs.Parts.{parts-start, parts-again, parts-done}
 use Rattle.loops.proofs.Fill.{tab-length, tab-at}
+use Rattle.loops.proofs.Turns.{turns-again}
 use Rattle.least_norm.specs.LeastNorm.{leastNorm}
 use Rattle.least_norm.specs.Promise as promise
 use Rattle.box_rows.specs.Rows as box
@@ -44,6 +45,10 @@ module _ (w scale : List Float) (l : List ℕ) (m₀ : List Float) where
   matrix-done i m e f g h = parts-done row (length l) rows-long m₀ i m e f g h
 
 -- ---- what the solution leaves of a row, by that row, and two rows taken in one turn
+
+pub residual-again : (r scale : List Float) (l : List ℕ) (z : List Float) (b : Float) (j : ℕ) {c : ℕ} {s x v e : Float} → s ≡ private.residualRow r scale l z b j → c ≡ getD l j 0 → x ≡ at scale c → v ≡ at z j → e ≡ at r c → s ⊕ e ⊗ x ⊗ v ≡ private.residualRow r scale l z b (j + 1)
+unfolding private.residualRow
+residual-again r scale l z b j h c x v e = turns-again _ _ j _ _ h (rw (e, v, x, c))
 
 pub residual-is : (w scale : List Float) (l : List ℕ) (rhs z : List Float) (i : ℕ) {a : ℕ} {r : List Float} {b s : Float} → a ≡ getD l i 0 → r ≡ box.row w (length scale) a → b ≡ at rhs i → s ≡ private.residualRow r scale l z b (length l) → s ≡ pass.residual w scale l rhs z i
 unfolding pass.residual private.residualRow

@@ -1,55 +1,40 @@
-use Rattle.loops.proofs.Common.{_≡_, refl, sym, _∙_, arith, add-one, eq-eqb, ne-eqb}
-use Rattle.box_rows.specs.Rows as box
-use Rattle.exact_pass.specs.Private as private
+use Rattle.loops.proofs.Common.{refl, arith}
+use Rattle.exact_pass.proofs.Rows.{idle-started, row-started}
 use Rattle.exact_pass.proofs.start.start_row as this
 use this.Tie as tie
 
-returns : tie.Need-returns
-unfolding private.startRow
-returns c = record { start = rw (eq-eqb _ _ (sym (c .before .state .ensures) ∙ c .if1 .taken)); within = omega arith }
+abbrev entry : tie.After-at-arg → tie.Start
+entry c = c .before .before .before .before .before .before .before .before .before
+
+abbrev to-at : tie.After-placed → tie.After-at-arg
+to-at c = c .before .before .before .before .before .before .before .before .before .before .before
 
 returns-2 : tie.Need-returns-2
-unfolding private.startRow
 returns-2 c =
-    let at-placed = c .before .before .before in
-    let at-put-state = at-placed .before .before .before .before in
-    let at-of = at-put-state .before .before in
-    let at-if1 = at-of .before .before .before .before .before .before in
-    let at-args = at-if1 .before .before .before .before .before .before .before .before in
-    let a = at-args .args in
-    let acts : box.state (a .states .now) (a .i) ≡ 3 → ⊥ = λ e. at-if1 .if1 .left (at-if1 .before .state .ensures ∙ e) in
-    record {
-      start = rw (
-        ne-eqb _ _ acts,
-        add-one,
-        c .before .before .put .ensures,
-        at-put-state .put-state .ensures,
-        at-placed .placed .ensures,
-        at-of .state-of .ensures,
-        at-of .before .before .before .at2 .ensures,
-        at-of .before .before .at3 .ensures,
-        at-of .before .at4 .ensures,
-        at-of .before .before .before .before .at .ensures,
-      );
-      within = omega arith;
-    }
+    let p = c .before .before .before in
+    let q = p .before .before .before .before in
+    let o = q .before .before in
+    let b = o .before .before .before .before .before .before in
+    let l = entry (to-at p) in
+    row-started _ _ _ _ _ _ _ (l .pre .count) (b .before .state .ensures) (b .if1 .left) (o .before .before .before .before .at .ensures) (o .before .before .before .at2 .ensures)
+    (o .before .before .at3 .ensures) (o .before .at4 .ensures) (o .state-of .ensures) (q .put-state .ensures) (p .placed .ensures) (c .before .before .put .ensures)
 
 pub start-row-spec : {M : Type 1} → this.Statement.statement M
 start-row-spec =
     tie.close
     (tie.spec
-    (λ c κs. omega arith)
+    (λ c κs. let p = c .before .before .before .before .before .before .pre in rw (p .lists .states) (p .row))
     (λ c. refl)
-    returns
-    (λ c κs. omega arith)
-    (λ c κs. omega arith)
-    (λ c κs. omega arith)
-    (λ c κs. omega arith)
+    (λ c. idle-started _ _ _ _ _ _ _ (c .before .before .before .before .before .before .before .before .pre .count) (c .before .state .ensures) (c .if1 .taken))
+    (λ c κs. entry c .pre .row)
+    (λ c κs. let p = entry (c .before) .pre in rw (p .lists .lower) (p .row))
+    (λ c κs. let p = entry (c .before .before) .pre in rw (p .lists .upper) (p .row))
+    (λ c κs. let p = entry (c .before .before .before) .pre in rw (p .lists .scales) (p .row))
     (λ c κs. tt)
-    (λ c κs. omega arith)
+    (λ c κs. let p = entry (c .before .before .before .before .before .before) .pre in rw (p .lists .states) (p .row))
     (λ c κs. tt)
-    (λ c κs. omega arith)
+    (λ c κs. entry (to-at c) .pre .row)
     (λ c. omega (arith, c .before .before))
-    (λ c. omega arith)
-    (λ c. omega arith)
+    (λ c. c .before .before .before .before .before .before .before .put-state .kept .0)
+    (λ c. c .before .before .put .kept .0)
     returns-2)

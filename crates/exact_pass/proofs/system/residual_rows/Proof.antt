@@ -1,7 +1,8 @@
-use Rattle.loops.proofs.Common.{_-_, _≤_, _≡_, arith, length, needs}
-use Rattle.exact_pass.proofs.Rows.{free-row}
+use Rattle.loops.proofs.Common.{ℕ, _-_, _≤_, _<_, _≡_, refl, sym, arith, length}
+use Rattle.loops.proofs.Turns.{turns-from, turns-done}
 use Rattle.exact_pass.specs.Private as private
-use Rattle.loops.proofs.Turns.{turns-from, turns-again, turns-done}
+use Rattle.exact_pass.proofs.Rows.{free-row}
+use Rattle.exact_pass.proofs.Systems.{residual-again}
 use Rattle.exact_pass.proofs.system.residual_rows as this
 use this.Tie as tie
 
@@ -12,35 +13,42 @@ Inv-loop first second scale free z a b k _ _ _ s t j =
 abbrev μ-loop : tie.MeasureT-loop
 μ-loop _ _ _ _ _ _ _ k _ _ _ _ _ j = k - j
 
-loop-holds : tie.Need-loop-holds Inv-loop μ-loop
-unfolding private.residualRow
-loop-holds c = search (turns-from, needs)
+abbrev entry : tie.At-loop Inv-loop μ-loop → tie.Start Inv-loop μ-loop
+entry c = c .before .before .before .before .before .before
+
+-- the free row is a place of a list of n values
+in-list : (c : tie.After-row-number Inv-loop μ-loop) {m : ℕ} → length (entry (c .before .before) .args .scale .now) ≡ m → c .row-number .result < m
+in-list c e =
+    let l = c .before .before in
+    free-row (entry l .args .free .now) _ _ _ _ _ (entry l .pre .listed .below) e (l .loop .inv .1) (c .before .loop-test .taken) (c .row-number .ensures)
 
 loop-again : tie.Need-loop-again Inv-loop μ-loop
-unfolding private.residualRow
 loop-again c =
     let z = c .before .before in
     let i = z .before .before .before .before .loop .inv in
     let x = z .before .at .ensures in
     let a = z .before .before .row-number .ensures in
-    (search needs, search needs, turns-again _ _ _ _ _ (i .2) (rw (c .before .at3 .ensures, z .at2 .ensures, x, a)), turns-again _ _ _ _ _ (i .3) (rw (c .at4 .ensures, z .at2 .ensures, x, a)))
+    (omega arith, i .1, residual-again _ _ _ _ _ _ (i .2) a x (z .at2 .ensures) (c .before .at3 .ensures), residual-again _ _ _ _ _ _ (i .3) a x (z .at2 .ensures) (c .at4 .ensures))
 
 returns : tie.Need-returns Inv-loop μ-loop
 unfolding private.residualRow
-returns c = search (turns-done, needs)
+returns c =
+    let i = c .before .loop .inv in
+    record { first = turns-done _ _ _ _ _ (omega arith) (omega arith) (i .2); second = turns-done _ _ _ _ _ (omega arith) (omega arith) (i .3) }
 
 pub residual-rows-spec : {M : Type 1} → this.Statement.statement M
+unfolding private.residualRow
 residual-rows-spec =
     tie.close
     (tie.spec
     Inv-loop
     μ-loop
-    loop-holds
+    (λ c. (omega arith, refl, turns-from _ _, turns-from _ _))
     (λ c κs. omega arith)
-    (λ c κs. search (free-row, needs))
+    (λ c κs. in-list c refl)
     (λ c κs. omega arith)
-    (λ c κs. search (free-row, needs))
-    (λ c κs. search (free-row, needs))
+    (λ c κs. in-list (c .before .before) (sym (entry (c .before .before .before .before) .pre .first)))
+    (λ c κs. in-list (c .before .before .before) (sym (entry (c .before .before .before .before .before) .pre .second)))
     (λ c. omega arith)
     (λ c. omega arith)
     loop-again
