@@ -16,7 +16,7 @@ use Rattle.exact_pass.specs.Private as private
 use Rattle.exact_pass.specs.Walk as walks
 use Rattle.exact_pass.specs.Walk.{Walked, none, these, walkedAfter}
 use Rattle.exact_pass.specs.Promise.{Front}
-use Rattle.exact_pass.specs.Private.{Collecting, verdict, rowsOf, farthestOf}
+use Rattle.exact_pass.specs.Private.{Collecting, verdict, walkedRows, walkedFarthest}
 use Rattle.exact_pass.proofs.OneWalk.{one-walk}
 
 -- k rows so far, each below n, none of which ends it, and their farthest
@@ -49,7 +49,7 @@ module _ (lo hi scale : List Float) (st : List ℕ) (y : List Float) (least : Fl
   to a = walks.walked lo hi scale st y least a
 
   abbrev at-row : ℕ → ℕ
-  at-row a = verdict (walks.dropped (box.acts st a) (walks.sizeAt scale y a) least) (walks.grows (at y a) (at lo a) (at hi a))
+  at-row a = verdict (walks.dropped (box.acts st a) (walks.sizeAt scale y a) least) (box.grows (at y a) (at lo a) (at hi a))
 
   pub collect-start : (l : List ℕ) → Going (to 0) 0 0 0ᶠ l
   unfolding walks.walked turns
@@ -57,7 +57,7 @@ module _ (lo hi scale : List Float) (st : List ℕ) (y : List Float) (least : Fl
 
   module _ {a k : ℕ} {far : Float} {l : List ℕ} (h : Going (to a) a k far l) where
     -- v is the verdict on what the loop reads
-    module _ {v state : ℕ} {size x s lo₁ hi₁ : Float} (e : v ≡ verdict (walks.dropped (not (eqb state box.idle)) size least) (walks.grows x lo₁ hi₁)) (q₁ : state ≡ box.state st a) (q₂ : size ≡ rays.sizeOf x s) (q₃ : x ≡ at y a) (q₄ : s ≡ at scale a) (q₅ : lo₁ ≡ at lo a) (q₆ : hi₁ ≡ at hi a) where
+    module _ {v state : ℕ} {size x s lo₁ hi₁ : Float} (e : v ≡ verdict (walks.dropped (not (eqb state box.idle)) size least) (box.grows x lo₁ hi₁)) (q₁ : state ≡ box.state st a) (q₂ : size ≡ box.sizeOf x s) (q₃ : x ≡ at y a) (q₄ : s ≡ at scale a) (q₅ : lo₁ ≡ at lo a) (q₆ : hi₁ ≡ at hi a) where
       told : v ≡ at-row a
       told = rw (e, q₁, q₂, q₃, q₄, q₅, q₆)
 
@@ -81,7 +81,7 @@ abbrev pub fallsBy : ℕ → List Float → List Float → List Float → List �
 fallsBy n w uFree y l far = private.falls (private.linear uFree y l (length l)) (private.quadratic w n y l (length l)) far
 
 -- the rows along which the problem falls, by what one walk has; no row makes it fall
-falling : (p : box.Problem) (y : List Float) (c : rays.Collected) → let w = walkedAfter (p .scale) y c in rays.fallingRows p y c ≡ cond (fallsBy (box.size p) (p .w) (p .uFree) y (rowsOf w) (farthestOf w)) (rowsOf w) []
+falling : (p : box.Problem) (y : List Float) (c : rays.Collected) → let w = walkedAfter (p .scale) y c in rays.fallingRows p y c ≡ cond (fallsBy (box.size p) (p .w) (p .uFree) y (walkedRows w) (walkedFarthest w)) (walkedRows w) []
 unfolding rays.fallingRows private.falls private.linear private.quadratic private.quadraticRow walks.farthest walkedAfter turns le ofBits
 falling p y rays.none = refl
 falling p y (rays.these l) = refl

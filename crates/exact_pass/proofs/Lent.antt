@@ -6,7 +6,7 @@ use native.Mathlib.Nat.{mul-le-mul}
 use lib.Seq.{length-take-le}
 use Rattle.exact_pass.specs.Private.{Below, part, Free, Fit, Listing, Listed, RatioLent, DirectionLent, SystemLent, TargetLent, Scratch, ScratchLent, Blocked, RayLent, StepLent, RunLent}
 use Rattle.exact_pass.specs.Pass as pass
-use Rattle.exact_pass.specs.declared.Blocking.{Blocking}
+use Rattle.box_rows.specs.declared.Blocking.{Blocking}
 use Rattle.exact_pass.proofs.Stepping.{ratio-blocks}
 
 module _ {n : ℕ} {w lo hi scale : List Float} {st : List ℕ} {nu : List Float} (f : Fit n w lo hi scale st nu) where
@@ -93,7 +93,7 @@ module _ {n : ℕ} {w lo hi scale : List Float} {st : List ℕ} {nu : List Float
       system-lent e =
           rw (r .fit .values) (record {
             square = (r .fit .sized .0, r .fit .sized .1);
-            motions = e;
+            free-motion = e;
             scales = r .fit .sized .4;
             states = r .fit .states;
             below = below;

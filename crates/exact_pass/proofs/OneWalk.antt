@@ -7,7 +7,7 @@ use Rattle.floats.specs.Ops.{at}
 use Rattle.floats.specs.Helpers.{larger}
 use Rattle.box_rows.specs.Rows as box
 use Rattle.exact_pass.specs.Ray as rays
-use Rattle.exact_pass.specs.Walk.{sizeAt, dropped, grows, collected, farthest, walk, walkRow, walked, walkedAfter, OneWalk}
+use Rattle.exact_pass.specs.Walk.{sizeAt, dropped, collected, farthest, walk, walkRow, walked, walkedAfter, OneWalk}
 
 module _ (scale y : List Float) where
   -- the farthest over the first places of a list, whatever follows them
@@ -31,10 +31,10 @@ module _ (scale y : List Float) where
   walk-after false false a l = refl
 
 pub one-walk : OneWalk
-unfolding walked walkRow walk walkedAfter dropped grows collected rays.collect farthest turns
+unfolding walked walkRow walk walkedAfter dropped box.grows collected rays.collect farthest turns
 one-walk lo hi scale st y least zero = refl
 one-walk lo hi scale st y least (suc k) = rw (one-walk lo hi scale st y least k) (more (collected lo hi scale st y least k))
   where
     more : (c : rays.Collected) → walkRow lo hi scale st y least k (walkedAfter scale y c) ≡ walkedAfter scale y (rays.collect lo hi scale st y least k c)
     more rays.none = refl
-    more (rays.these l) = walk-after scale y (dropped (box.acts st k) (sizeAt scale y k) least) (grows (at y k) (at lo k) (at hi k)) k l
+    more (rays.these l) = walk-after scale y (dropped (box.acts st k) (sizeAt scale y k) least) (box.grows (at y k) (at lo k) (at hi k)) k l

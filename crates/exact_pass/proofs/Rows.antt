@@ -22,7 +22,7 @@ module _ (lo hi scale nu : List Float) (st : List ℕ) (i k : ℕ) (h : k ≤ i)
   idle-started f = record { start = rw (eq-eqb (box.state st i) 3 (rw e at f)); within = omega arith }
 
   pub row-started : {nu′ : List Float} {st′ : List ℕ} {v low high size x : Float} {t : ℕ} → (s ≡ 3 → ⊥) → v ≡ at nu i → low ≡ at lo i → high ≡ at hi i → size ≡ at scale i → t ≡ box.stateOf low high size v
-      → st′ ≡ set st i t → x ≡ pass.placed low high t v → nu′ ≡ set nu i x → Row nu′ st′ (k + 1)
+      → st′ ≡ set st i t → x ≡ box.placed low high t v → nu′ ≡ set nu i x → Row nu′ st′ (k + 1)
   unfolding private.startRow
   row-started f a b c d g q x r = record { start = rw (r, x, q, g, d, c, b, a, ne-eqb (box.state st i) 3 (rw e at f), add-one k); within = omega arith }
 

@@ -10,7 +10,7 @@ use Rattle.exact_pass.specs.Pass.{Trial, trial, Pass, moved, found, fail
 use Rattle.exact_pass.specs.Promise.{Passed}
 use Rattle.exact_pass.specs.Private as private
 use Rattle.exact_pass.specs.Private.{isEnd, Copied, RunLent, MarksLent, Stepped}
-use Rattle.exact_pass.specs.declared.Mark.{Mark}
+use Rattle.exact_pass.specs.declared.Cycle.{Cycle}
 use Rattle.exact_pass.specs.declared.Exact.{Exact}
 use Rattle.exact_pass.specs.declared.Exact.the-variants.{Failed}
 use Rattle.exact_pass.proofs.Lent.{Kept, refit, relent}
@@ -55,9 +55,9 @@ pub record Now : Type 0 where
   pub q : List ℕ
   pub work : List Float
   pub marks : List ℕ
-  pub mark : Mark
+  pub mark : Cycle
 
-abbrev pub now : List ℕ → List Float → List ℕ → List Float → List ℕ → Mark → Now
+abbrev pub now : List ℕ → List Float → List ℕ → List Float → List ℕ → Cycle → Now
 now st nu q work marks mark = record { st = st; nu = nu; q = q; work = work; marks = marks; mark = mark }
 
 abbrev at : Now → Trial
@@ -68,12 +68,12 @@ marked n = private.marked (length (n .nu)) (n .work) (n .marks)
 
 pub record Going (p : box.Problem) (most : ℕ) (b n : Now) : Type 0 where
   pub bounded : most ≤ 264
-  pub since : n .mark .since + n .mark .left ≤ most
+  pub since : n .mark .since + n .mark .remaining ≤ most
   pub span : n .mark .span ≤ 528
   pub lent : RunLent (box.size p) (p .w) (p .lo) (p .hi) (p .scale) (n .st) (n .nu) (n .q) (n .work)
   pub workspace : length (n .work) ≡ length (b .work)
   pub marks-long : length (n .marks) ≡ 32
-  pub steps : pass.steps p (at b) most ≡ pass.steps p (at n) (n .mark .left)
+  pub steps : pass.steps p (at b) most ≡ pass.steps p (at n) (n .mark .remaining)
   pub round : pass.steps p (marked n) (n .mark .since) ≡ moved (at n)
   pub listed : n .q ≡ b .q
   pub beyond : drop 1120 (n .work) ≡ drop 1120 (b .work)
@@ -82,7 +82,7 @@ pub record Going (p : box.Problem) (most : ℕ) (b n : Now) : Type 0 where
 module _ {p : box.Problem} {st₀ : List ℕ} {nu₀ : List Float} {q : List ℕ} {work₀ : List Float} (r : RunLent (box.size p) (p .w) (p .lo) (p .hi) (p .scale) st₀ nu₀ q work₀)
     {st : List ℕ} {nu work : List Float} where
   pub going-start : {marks : List ℕ} {most : ℕ} → length st ≡ length st₀ → length nu ≡ length nu₀ → length work ≡ length work₀ → Copied nu 1088 work₀ work → take (length st) marks ≡ st → length marks ≡ 32 → most ≤ 264
-      → let n = now st nu q work marks (record { since = 0; span = 2; left = most }) in Going p most n n
+      → let n = now st nu q work marks (record { since = 0; span = 2; remaining = most }) in Going p most n n
   going-start kept-st kept-nu kept-work copied noted long bounded =
       record {
         bounded = bounded;
@@ -110,7 +110,7 @@ module _ {p : box.Problem} {st₀ : List ℕ} {nu₀ : List Float} {q : List ℕ
 -- ---- one turn, from what its calls promise
 
 module _ {p : box.Problem} {most : ℕ} {b n : Now} (g : Going p most b n) where
-  module _ {e : Exact} {nu : List Float} {st q : List ℕ} {work : List Float} (s : Stepped (next p (at n)) (n .q) (n .work) e nu st q work) (more-left : 0 < n .mark .left) where
+  module _ {e : Exact} {nu : List Float} {st q : List ℕ} {work : List Float} (s : Stepped (next p (at n)) (n .q) (n .work) e nu st q work) (more-left : 0 < n .mark .remaining) where
     beyond-step : drop 1120 work ≡ drop 1120 (b .work)
     beyond-step = later 1088 1120 work (n .work) (omega arith) (s .workspace) ∙ g .beyond
 
@@ -119,27 +119,27 @@ module _ {p : box.Problem} {most : ℕ} {b n : Now} (g : Going p most b n) where
     unfolding pass.steps
     going-ended f =
         let o = ended-stays p (next p (at n)) (s .passed) f in
-        let x = g .steps ∙ stays (pass.step p) (moved (at n)) (next p (at n)) 1 (steps-one p (at n)) (λ i h. o .0 i) (n .mark .left) more-left in
+        let x = g .steps ∙ stays (pass.step p) (moved (at n)) (next p (at n)) 1 (steps-one p (at n)) (λ i h. o .0 i) (n .mark .remaining) more-left in
         (rw (← g .listed, x, o .1) (s .passed), beyond-step)
 
     -- the pass goes on with fewer steps, and may be marked anew
-    pub going-again : {work′ : List Float} {marks : List ℕ} {mark : Mark} → isEnd e ≡ false → Kept (n .st) (n .nu) (n .q) (n .work) st nu q work → private.MarkedOn (trial nu st) (n .mark) work (n .marks) mark work′ marks
+    pub going-again : {work′ : List Float} {marks : List ℕ} {mark : Cycle} → isEnd e ≡ false → Kept (n .st) (n .nu) (n .q) (n .work) st nu q work → private.MarkedOn (trial nu st) (n .mark) work (n .marks) mark work′ marks
         → length work′ ≡ length work → length marks ≡ length (n .marks) → Going p most b (now st nu q work′ marks mark)
     going-again f h a kept-work kept-marks =
         let o = going-on (next p (at n)) (n .q) e nu st q (s .passed) f in
         let one : pass.steps p (at n) 1 ≡ moved (trial nu st) = steps-one p (at n) ∙ o .0 in
-        let less : 1 + (n .mark .left - 1) ≡ n .mark .left = omega arith in
-        let more : pass.steps p (at n) (n .mark .left) ≡ pass.steps p (trial nu st) (n .mark .left - 1) = ap (pass.steps p (at n)) (sym less) ∙ steps-more p (at n) (trial nu st) 1 (n .mark .left - 1) one in
+        let less : 1 + (n .mark .remaining - 1) ≡ n .mark .remaining = omega arith in
+        let more : pass.steps p (at n) (n .mark .remaining) ≡ pass.steps p (trial nu st) (n .mark .remaining - 1) = ap (pass.steps p (at n)) (sym less) ∙ steps-more p (at n) (trial nu st) 1 (n .mark .remaining - 1) one in
         let since : pass.steps p (marked n) (n .mark .since + 1) ≡ moved (trial nu st) = steps-more p (marked n) (at n) (n .mark .since) 1 (g .round) ∙ one in
         let round : pass.steps p (private.marked (length nu) work (n .marks)) (n .mark .since + 1) ≡ moved (trial nu st) = rw (h .1 .0, s .workspace) since in
         record {
           bounded = g .bounded;
-          since = omega (arith, a .since, a .left .fewer, g .since, more-left);
+          since = omega (arith, a .since, a .remaining .fewer, g .since, more-left);
           span = a .span;
           lent = relent (g .lent) work h kept-work;
           workspace = kept-work ∙ h .1 .1 .1 .0 ∙ g .workspace;
           marks-long = kept-marks ∙ g .marks-long;
-          steps = g .steps ∙ more ∙ a .left .steps p round;
+          steps = g .steps ∙ more ∙ a .remaining .steps p round;
           round = a .round p round;
           listed = o .1 ∙ g .listed;
           beyond = a .beyond ∙ beyond-step;
@@ -152,9 +152,9 @@ module _ {p : box.Problem} {most : ℕ} {b n : Now} (g : Going p most b n) where
       rw (kept-nu, f .values) (record { states = kept-st ∙ f .states; few = f .sized .0; workspace = rw kept-work (g .lent .workspace); long = rw (g .marks-long) (f .sized .0) })
 
   -- no step is left
-  pub going-over : n .mark .left ≤ 0 → Passed (pass.closed (pass.steps p (at b) most)) (b .q) Failed (n .nu) (n .st) (n .q) × (drop 1120 (n .work) ≡ drop 1120 (b .work))
+  pub going-over : n .mark .remaining ≤ 0 → Passed (pass.closed (pass.steps p (at b) most)) (b .q) Failed (n .nu) (n .st) (n .q) × (drop 1120 (n .work) ≡ drop 1120 (b .work))
   unfolding pass.closed
   going-over z =
-      let e : n .mark .left ≡ 0 = omega arith in
+      let e : n .mark .remaining ≡ 0 = omega arith in
       let x : pass.steps p (at b) most ≡ moved (at n) = g .steps ∙ ap (pass.steps p (at n)) e ∙ steps-start p (at n) in
       (rw x (record { answer = refl; tried = refl; listed = g .listed }), g .beyond)

@@ -6,12 +6,13 @@ use lib.Ieee.{lt}
 use Rattle.floats.specs.Ops.{_⊖_, _⊘_, at, 0ᶠ}
 use Rattle.floats.specs.Helpers.{isFinite}
 use Rattle.box_rows.specs.Rows as box
+use Rattle.box_rows.specs.Private.{nearer}
 use Rattle.exact_pass.specs.Ray.{ray}
 use Rattle.exact_pass.specs.Pass as pass
 use Rattle.exact_pass.specs.Private as private
 use Rattle.exact_pass.specs.Pass.{Trial, trial}
 use Rattle.exact_pass.specs.Promise.{Passed, Front}
-use Rattle.exact_pass.specs.declared.Blocking.{Blocking}
+use Rattle.box_rows.specs.declared.Blocking.{Blocking}
 use Rattle.exact_pass.specs.declared.Exact.{Exact}
 use Rattle.exact_pass.specs.declared.Exact.the-variants.{Moved, Failed, Infeasible}
 
@@ -21,32 +22,32 @@ pub record Blocks (n : ℕ) (r : Blocking) : Type 0 where
   pub row : r .row < n
   pub byte : r .state < 256
 
-nearer-blocks : {n a s : ℕ} (ratio : Float) (r : Blocking) → a < n → s < 256 → Blocks n r → Blocks n (private.nearer a s ratio r)
-unfolding private.nearer
+nearer-blocks : {n a s : ℕ} (ratio : Float) (r : Blocking) → a < n → s < 256 → Blocks n r → Blocks n (nearer a s ratio r)
+unfolding nearer
 nearer-blocks {n = n} {a = a} {s = s} ratio r h b g = go (lt ratio (r .alpha)) refl
   where
-    go : (c : Bool) → lt ratio (r .alpha) ≡ c → Blocks n (private.nearer a s ratio r)
+    go : (c : Bool) → lt ratio (r .alpha) ≡ c → Blocks n (nearer a s ratio r)
     go true e = rw e (record { row = h; byte = b })
     go false e = rw e g
 
-row-blocks : {n : ℕ} (a : ℕ) (v y lo hi : Float) (r : Blocking) → a < n → Blocks n r → Blocks n (private.ratioRow a v y lo hi r)
-unfolding private.ratioRow
+row-blocks : {n : ℕ} (a : ℕ) (v y lo hi : Float) (r : Blocking) → a < n → Blocks n r → Blocks n (box.ratioRow a v y lo hi r)
+unfolding box.ratioRow nearer
 row-blocks {n = n} a v y lo hi r h g = go (lt 0ᶠ y) (lt y 0ᶠ)
   where
-    go : (b c : Bool) → Blocks n (cond b (private.nearer a 2 ((hi ⊖ v) ⊘ y) r) (cond c (private.nearer a 1 ((lo ⊖ v) ⊘ y) r) r))
+    go : (b c : Bool) → Blocks n (cond b (nearer a 2 ((hi ⊖ v) ⊘ y) r) (cond c (nearer a 1 ((lo ⊖ v) ⊘ y) r) r))
     go true c = nearer-blocks ((hi ⊖ v) ⊘ y) r h (omega arith) g
     go false true = nearer-blocks ((lo ⊖ v) ⊘ y) r h (omega arith) g
     go false false = g
 
 pub ratio-blocks : {n : ℕ} (lo hi : List Float) (l : List ℕ) (nu y : List Float) (alpha : Float) → 0 < n → private.Below n l → Blocks n (pass.ratioTest lo hi l nu y alpha (length l))
-unfolding pass.ratioTest private.ratioRow private.nearer
+unfolding pass.ratioTest box.ratioRow nearer
 ratio-blocks {n = n} lo hi l nu y alpha some below = turns-keep _ _ (λ i r. Blocks n r) (length l) (omega arith) λ i r b g. row-blocks (getD l i 0) (at nu (getD l i 0)) (at y i) (at lo (getD l i 0)) (at hi (getD l i 0)) r (below i b) g
 
 -- ---- one more row of the ratio test
 
 pub ratio-again : (lo hi : List Float) (l : List ℕ) (nu y : List Float) (alpha : Float) (i : ℕ) {a : ℕ} {v x low high : Float} {r r′ : Blocking} → r ≡ pass.ratioTest lo hi l nu y alpha i → a ≡ getD l i 0
-    → v ≡ at nu a → x ≡ at y i → low ≡ at lo a → high ≡ at hi a → r′ ≡ private.ratioRow a v x low high r → r′ ≡ pass.ratioTest lo hi l nu y alpha (i + 1)
-unfolding pass.ratioTest private.ratioRow private.nearer
+    → v ≡ at nu a → x ≡ at y i → low ≡ at lo a → high ≡ at hi a → r′ ≡ box.ratioRow a v x low high r → r′ ≡ pass.ratioTest lo hi l nu y alpha (i + 1)
+unfolding pass.ratioTest box.ratioRow nearer
 ratio-again lo hi l nu y alpha i h a v x low high e = turns-again _ _ i _ _ h (rw (e, high, low, x, v, a))
 
 -- ---- no bound is met

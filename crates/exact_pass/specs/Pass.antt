@@ -7,11 +7,11 @@ use lib.ListN.{getD, set, length, replicate}
 use lib.Ieee.{Float, lt, neg}
 use Rattle.loops.specs.Loops.{turns, tab, those}
 use Rattle.floats.specs.Ops.{_⊕_, _⊖_, _⊗_, _⊘_, at, 0ᶠ, 1ᶠ, 1e-9, ∞}
-use Rattle.floats.specs.Helpers.{larger, abs, isFinite}
+use Rattle.floats.specs.Helpers.{abs, isFinite}
 use Rattle.least_norm.specs.LeastNorm.{leastNorm}
 use Rattle.box_rows.specs.Rows as box
 use Rattle.exact_pass.specs.Ray.{ray}
-use Rattle.exact_pass.specs.declared.Blocking.{Blocking}
+use Rattle.box_rows.specs.declared.Blocking.{Blocking}
 use Rattle.exact_pass.specs.declared.Worst.{Worst}
 
 -- the multipliers tried and the states
@@ -29,9 +29,6 @@ pub data Pass : Type 0 where
 
 -- ---- the start: each row in the state that its multiplier shows, a row on a bound exactly there
 
-abbrev pub placed : Float → Float → ℕ → Float → Float
-placed lo hi s v = cond (eqb s box.atLo) lo (cond (eqb s box.atHi) hi v)
-
 pub record Start : Type 0 where
   pub trial : Trial
   pub acting : ℕ
@@ -43,7 +40,7 @@ start lo hi scale nu st n =
     let st = s .trial .states in
     let state = box.stateOf (at lo i) (at hi i) (at scale i) (at nu i) in
     cond (box.acts st i)
-    (record { trial = trial (set nu i (placed (at lo i) (at hi i) state (at nu i))) (set st i state); acting = suc (s .acting) })
+    (record { trial = trial (set nu i (box.placed (at lo i) (at hi i) state (at nu i))) (set st i state); acting = suc (s .acting) })
     s
 
 -- ---- the free rows, strictly inside their boxes
@@ -109,10 +106,7 @@ unfoldable pub ratioTest : List Float → List Float → List ℕ → List Float
 ratioTest lo hi l nu y alpha k =
     turns k (record { alpha = alpha; row = 0; state = box.inside }) λ i r.
     let a = getD l i 0 in
-    let nearer : ℕ → Float → Blocking =
-    λ (s : ℕ) (ratio : Float). cond (lt ratio (r .alpha)) (record { alpha = larger ratio 0ᶠ; row = a; state = s }) r in
-    cond (lt 0ᶠ (at y i)) (nearer box.atHi ((at hi a ⊖ at nu a) ⊘ at y i))
-    (cond (lt (at y i) 0ᶠ) (nearer box.atLo ((at lo a ⊖ at nu a) ⊘ at y i)) r)
+    box.ratioRow a (at nu a) (at y i) (at lo a) (at hi a) r
 
 -- the free rows moved by alpha times y
 unfoldable pub advance : List ℕ → List Float → Float → List Float → ℕ → List Float
@@ -122,7 +116,7 @@ advance l y alpha nu k = turns k nu λ i nu. set nu (getD l i 0) (at nu (getD l 
 unfoldable pub hold : List Float → List Float → Trial → Blocking → Trial
 hold lo hi t r =
     let a = r .row in
-    trial (set (t .nu) a (placed (at lo a) (at hi a) (r .state) (at (t .nu) a))) (set (t .states) a (r .state))
+    trial (set (t .nu) a (box.placed (at lo a) (at hi a) (r .state) (at (t .nu) a))) (set (t .states) a (r .state))
 
 -- ---- the release of the row on a bound pushed inside the hardest, the first of equals; n is none
 
@@ -131,13 +125,12 @@ unfoldable pub release : box.Problem → Trial → Pass
 release p t =
     let n = box.size p in
     let worst : Worst =
-    turns n (record { residual = 1e-9; row = n }) λ i best.
-    let s = box.state (t .states) i in
+    turns n (record { residual = 1e-9; row = n }) λ i worst.
     let u = box.rowSum (box.row (p .w) n i) (at (p .uFree) i) (t .nu) in
     let r = box.residualAt p (t .nu) i in
-    cond (cond (eqb s box.atLo) (lt u 0ᶠ) (cond (eqb s box.atHi) (lt 0ᶠ u) false))
-    (cond (lt (best .residual) r) (record { residual = r; row = i }) best)
-    best in
+    cond (box.pushed (box.state (t .states) i) u)
+    (cond (lt (worst .residual) r) (record { residual = r; row = i }) worst)
+    worst in
     cond (eqb (worst .row) n) (found t) (moved (trial (t .nu) (set (t .states) (worst .row) box.inside)))
 
 -- ---- no bound is met: the rows of a ray, or the pass has failed

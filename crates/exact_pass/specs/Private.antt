@@ -16,17 +16,28 @@ use Rattle.box_rows.specs.Private.{Sized, Square}
 use Rattle.exact_pass.specs.Ray.{ray}
 use Rattle.exact_pass.specs.Pass as pass
 use Rattle.exact_pass.specs.Walk as walks
-use Rattle.exact_pass.specs.Promise.{Passed}
+use Rattle.exact_pass.specs.Promise.{Passed, WORKSPACE}
 use Rattle.exact_pass.specs.declared.Residuals.{Residuals}
-use Rattle.exact_pass.specs.declared.Blocking.{Blocking}
+use Rattle.box_rows.specs.declared.Blocking.{Blocking}
 use Rattle.exact_pass.specs.declared.Worst.{Worst}
-use Rattle.exact_pass.specs.declared.Mark.{Mark}
+use Rattle.exact_pass.specs.declared.Cycle.{Cycle}
 use Rattle.exact_pass.specs.declared.Exact.{Exact}
 use Rattle.exact_pass.specs.declared.Exact.the-variants.{Moved, Found, Failed, Infeasible}
 
 -- every number of l is below n
 abbrev pub Below : ℕ → List ℕ → Type 0
 Below n l = (i : ℕ) → i < length l → getD l i 0 < n
+
+-- places of the workspace: the right-hand side of the free rows and then, in the same place, their direction; the
+-- multipliers marked
+abbrev pub RIGHT_HAND_SIDE : ℕ
+RIGHT_HAND_SIDE = 1056
+
+abbrev pub DIRECTION : ℕ
+DIRECTION = 1056
+
+abbrev pub MARKED : ℕ
+MARKED = 1088
 
 -- whether the pass ends with this step
 abbrev pub isEnd : Exact → Bool
@@ -85,7 +96,7 @@ pub record SizesLent (n : ℕ) (scale : List Float) (st : List ℕ) : Type 0 whe
 -- what shows whether a problem of n rows falls along the rows of l
 pub record FallsLent (n : ℕ) (w uFree : List Float) (l : List ℕ) : Type 0 where
   pub square : Square w n
-  pub motions : length uFree ≡ n
+  pub free-motion : length uFree ≡ n
   pub below : Below n l
 
 -- what the ratio test is lent, for the free rows l and their direction y
@@ -103,12 +114,12 @@ pub record DirectionLent (n : ℕ) (scale : List Float) (l : List ℕ) (z y : Li
 -- what the system of the free rows l is made from
 pub record SystemLent (n : ℕ) (w uFree scale : List Float) (st l : List ℕ) (work : List Float) : Type 0 where
   pub square : Square w n
-  pub motions : length uFree ≡ n
+  pub free-motion : length uFree ≡ n
   pub scales : length scale ≡ n
   pub states : length st ≡ n
   pub below : Below n l
-  pub few : length l ≤ 32
-  pub workspace : 1120 ≤ length work
+  pub few : length l ≤ box.MAX_ROWS
+  pub workspace : WORKSPACE ≤ length work
 
 -- the same, with scratch for as many rows as l lists
 pub record TargetLent (n : ℕ) (w uFree scale : List Float) (st l : List ℕ) (m y z work : List Float) : Type 0 where
@@ -137,7 +148,7 @@ pub record ColumnLent (n : ℕ) (w : List Float) (l : List ℕ) (rhs : List Floa
 -- what the right-hand side of the rows l is made from
 pub record RightHandLent (n : ℕ) (w uFree : List Float) (st l : List ℕ) (rhs : List Float) : Type 0 where
   pub square : Square w n
-  pub motions : length uFree ≡ n
+  pub free-motion : length uFree ≡ n
   pub states : length st ≡ n
   pub listed : Listed n l rhs
 
@@ -150,15 +161,15 @@ pub record MatrixRowLent (n : ℕ) (r : List Float) (l : List ℕ) (out : List F
 pub record MatrixLent (n : ℕ) (w : List Float) (l : List ℕ) (m : List Float) : Type 0 where
   pub square : Square w n
   pub below : Below n l
-  pub few : length l ≤ 32
+  pub few : length l ≤ box.MAX_ROWS
   pub matrix : length m ≡ length l * length l
 
 -- a system of k rows, at most 32, a place for each value of its solution, and the workspace of a least-norm call
 pub record SolveLent (k : ℕ) (m z work : List Float) : Type 0 where
-  pub few : k ≤ 32
+  pub few : k ≤ box.MAX_ROWS
   pub matrix : length m ≡ k * k
   pub solution : length z ≡ k
-  pub workspace : 1056 ≤ length work
+  pub workspace : RIGHT_HAND_SIDE ≤ length work
 
 -- two rows of a system of the free rows l, and its solution z
 pub record RowsLent (n : ℕ) (a b : List Float) (l : List ℕ) (z : List Float) : Type 0 where
@@ -185,8 +196,8 @@ pub record ResidualLent (n : ℕ) (w : List Float) (l : List ℕ) (work z y : Li
   pub square : Square w n
   pub listed : Listed n l z
   pub direction : length y ≡ length l
-  pub few : length l ≤ 32
-  pub workspace : 1120 ≤ length work
+  pub few : length l ≤ box.MAX_ROWS
+  pub workspace : WORKSPACE ≤ length work
 
 -- r blocks a step by one of n rows, on a bound
 pub record Blocked (n : ℕ) (lo hi : List Float) (st : List ℕ) (r : Blocking) : Type 0 where
@@ -214,13 +225,13 @@ pub record StepLent (n : ℕ) (w lo hi scale : List Float) (st : List ℕ) (nu :
 pub record RunLent (n : ℕ) (w lo hi scale : List Float) (st : List ℕ) (nu : List Float) (rows : List ℕ) (work : List Float) : Type 0 where
   pub fit : Fit n w lo hi scale st nu
   pub list : n ≤ length rows
-  pub workspace : 1120 ≤ length work
+  pub workspace : WORKSPACE ≤ length work
 
 -- what marks are made in: multipliers of n rows in the workspace, their states in `marks`
 pub record MarksLent (n : ℕ) (st : List ℕ) (work : List Float) (marks : List ℕ) : Type 0 where
   pub states : length st ≡ n
-  pub few : n ≤ 32
-  pub workspace : 1120 ≤ length work
+  pub few : n ≤ box.MAX_ROWS
+  pub workspace : WORKSPACE ≤ length work
   pub long : n ≤ length marks
 
 -- the same, k steps after the mark was made, at least one
@@ -228,11 +239,11 @@ pub record SinceLent (n : ℕ) (st : List ℕ) (work : List Float) (marks : List
   pub lent : MarksLent n st work marks
   pub some : 0 < k
 
--- the same after a step, by the mark m before it, when some step was left
-pub record AfterLent (n : ℕ) (st : List ℕ) (work : List Float) (marks : List ℕ) (m : Mark) : Type 0 where
+-- the same after a step, by the counters m before it, when some step remained
+pub record AfterLent (n : ℕ) (st : List ℕ) (work : List Float) (marks : List ℕ) (m : Cycle) : Type 0 where
   pub lent : MarksLent n st work marks
-  pub some : 0 < m .left
-  pub since : m .since + m .left ≤ 264
+  pub some : 0 < m .remaining
+  pub since : m .since + m .remaining ≤ 264
   pub span : m .span ≤ 528
 
 -- ---- what they leave
@@ -248,12 +259,12 @@ targeted z y b = record { z = z; y = y; inconsistent = b }
 -- after a step: what is marked in the workspace stays
 pub record Stepped (p : pass.Pass) (rows : List ℕ) (work : List Float) (e : Exact) (nu : List Float) (st rows′ : List ℕ) (work′ : List Float) : Type 0 where
   pub passed : Passed p rows e nu st rows′
-  pub workspace : drop 1088 work′ ≡ drop 1088 work
+  pub workspace : drop MARKED work′ ≡ drop MARKED work
 
 -- after a pass
 pub record Ran (p : box.Problem) (st : List ℕ) (nu : List Float) (rows : List ℕ) (work : List Float) (e : Exact) (nu′ : List Float) (st′ rows′ : List ℕ) (work′ : List Float) : Type 0 where
   pub passed : Passed (pass.exactPass p st nu) rows e nu′ st′ rows′
-  pub workspace : drop 1120 work′ ≡ drop 1120 work
+  pub workspace : drop WORKSPACE work′ ≡ drop WORKSPACE work
 
 -- after a system of the matrix m and the right-hand side b is solved
 pub record Solved (m b work z work′ : List Float) : Type 0 where
@@ -277,9 +288,9 @@ part a k work = take k (drop a work)
 
 -- after the direction of the free rows l is found, for the target t of their system: it is in the workspace
 pub record Directed (t : pass.Target) (scale : List Float) (l : List ℕ) (nu work : List Float) (b : Bool) (work′ : List Float) : Type 0 where
-  pub direction : part 1056 (length l) work′ ≡ pass.direction (t .inconsistent) scale l (t .z) nu (t .y)
+  pub direction : part DIRECTION (length l) work′ ≡ pass.direction (t .inconsistent) scale l (t .z) nu (t .y)
   pub inconsistent : b ≡ t .inconsistent
-  pub workspace : drop 1088 work′ ≡ drop 1088 work
+  pub workspace : drop MARKED work′ ≡ drop MARKED work
 
 -- the same for the target of the system that these lists make
 abbrev pub DirectedTo : List Float → List Float → List Float → List ℕ → List Float → List ℕ → List Float → Bool
@@ -291,41 +302,41 @@ unfoldable pub verdict : Bool → Bool → ℕ
 verdict drop grow = cond drop 0 (cond grow 1 2)
 
 -- the rows that a walk has, and their farthest; where it was stopped, none and 0
-abbrev pub rowsOf : walks.Walked → List ℕ
-rowsOf walks.none = []
-rowsOf (walks.these l far) = l
+abbrev pub walkedRows : walks.Walked → List ℕ
+walkedRows walks.none = []
+walkedRows (walks.these l far) = l
 
-abbrev pub farthestOf : walks.Walked → Float
-farthestOf walks.none = 0ᶠ
-farthestOf (walks.these l far) = far
+abbrev pub walkedFarthest : walks.Walked → Float
+walkedFarthest walks.none = 0ᶠ
+walkedFarthest (walks.these l far) = far
 
 -- a walk over the first n rows has left k rows at the front of l, and their farthest
 pub record Collecting (c : walks.Walked) (n k : ℕ) (far : Float) (l : List ℕ) : Type 0 where
-  pub rows : rowsOf c ≡ take k l
-  pub farthest : farthestOf c ≡ far
+  pub rows : walkedRows c ≡ take k l
+  pub farthest : walkedFarthest c ≡ far
   pub few : k ≤ n
   pub within : k ≤ length l
   pub below : Below n (take k l)
 
 -- the multipliers and states marked, of n rows
 abbrev pub marked : ℕ → List Float → List ℕ → pass.Trial
-marked n work marks = pass.trial (part 1088 n work) (take n marks)
+marked n work marks = pass.trial (part MARKED n work) (take n marks)
 
 -- if a pass comes to the trial t in k steps from the trial s, then i steps from t lead to the same as j of them
 pub record Shortened (s t : pass.Trial) (k i j : ℕ) : Type 0 where
   pub steps : (p : box.Problem) → pass.steps p s k ≡ pass.moved t → pass.steps p t i ≡ pass.steps p t j
   pub fewer : j ≤ i
 
--- After a step to the trial t, by the mark m before it: if the pass came to t from what was marked, it came to t from
--- what is marked now, and so many steps left lead to the same.
-pub record MarkedOn (t : pass.Trial) (m : Mark) (work : List Float) (marks : List ℕ) (m′ : Mark)
+-- After a step to the trial t, by the counters m before it: if the pass came to t from what was marked, it came to t from
+-- what is marked now, and the steps that remain by m′ lead to where those by m do.
+pub record MarkedOn (t : pass.Trial) (m : Cycle) (work : List Float) (marks : List ℕ) (m′ : Cycle)
     (work′ : List Float) (marks′ : List ℕ) : Type 0 where
   pub round : (p : box.Problem) → pass.steps p (marked (length (t .nu)) work marks) (m .since + 1) ≡ pass.moved t
       → pass.steps p (marked (length (t .nu)) work′ marks′) (m′ .since) ≡ pass.moved t
-  pub left : Shortened (marked (length (t .nu)) work marks) t (m .since + 1) (m .left - 1) (m′ .left)
+  pub remaining : Shortened (marked (length (t .nu)) work marks) t (m .since + 1) (m .remaining - 1) (m′ .remaining)
   pub since : m′ .since ≤ m .since + 1
   pub span : m′ .span ≤ 528
-  pub beyond : drop 1120 work′ ≡ drop 1120 work
+  pub beyond : drop WORKSPACE work′ ≡ drop WORKSPACE work
 
 -- ---- single rows and short words of Pass.antt, as the functions have them
 
@@ -337,7 +348,7 @@ startRow lo hi scale i s =
     let nu = s .trial .nu in
     let st = s .trial .states in
     let state = box.stateOf (at lo i) (at hi i) (at scale i) (at nu i) in
-    cond (box.acts st i) (started (set nu i (pass.placed (at lo i) (at hi i) state (at nu i))) (set st i state) (suc (s .acting))) s
+    cond (box.acts st i) (started (set nu i (box.placed (at lo i) (at hi i) state (at nu i))) (set st i state) (suc (s .acting))) s
 
 abbrev pub isFree : List ℕ → ℕ → Bool
 isFree st i = eqb (box.state st i) box.inside
@@ -359,7 +370,7 @@ unfoldable pub residualRow : List Float → List Float → List ℕ → List Flo
 residualRow r scale l z b k = turns k (neg b) λ j s. s ⊕ scaled r scale l j ⊗ at z j
 
 -- q is what z leaves of two rows r and s, whose right-hand sides are a and b
-pub record RowsLeft (r s scale : List Float) (l : List ℕ) (z : List Float) (a b : Float) (q : Residuals) : Type 0 where
+pub record TwoResiduals (r s scale : List Float) (l : List ℕ) (z : List Float) (a b : Float) (q : Residuals) : Type 0 where
   pub first : q .first ≡ residualRow r scale l z a (length l)
   pub second : q .second ≡ residualRow s scale l z b (length l)
 
@@ -395,23 +406,12 @@ pub record Tested (w scale : List Float) (l : List ℕ) (rhs z : List Float) (b 
 abbrev pub toTarget : List Float → List ℕ → List Float → List Float → ℕ → List Float
 toTarget scale l z nu k = tab (λ (i : ℕ). at scale (getD l i 0) ⊗ at z i ⊖ at nu (getD l i 0)) k
 
-unfoldable pub nearer : ℕ → ℕ → Float → Blocking → Blocking
-nearer a s ratio r = cond (lt ratio (r .alpha)) (record { alpha = larger ratio 0ᶠ; row = a; state = s }) r
-
--- row a at v
-unfoldable pub ratioRow : ℕ → Float → Float → Float → Float → Blocking → Blocking
-ratioRow a v y lo hi r =
-    cond (lt 0ᶠ y) (nearer a box.atHi ((hi ⊖ v) ⊘ y) r) (cond (lt y 0ᶠ) (nearer a box.atLo ((lo ⊖ v) ⊘ y) r) r)
-
-unfoldable pub pushed : ℕ → Float → Bool
-pushed s u = cond (eqb s box.atLo) (lt u 0ᶠ) (cond (eqb s box.atHi) (lt 0ᶠ u) false)
-
 unfoldable pub worse : ℕ → Float → Worst → Worst
-worse i r best = cond (lt (best .residual) r) (record { residual = r; row = i }) best
+worse i r worst = cond (lt (worst .residual) r) (record { residual = r; row = i }) worst
 
 unfoldable pub releaseRow : box.Problem → List ℕ → List Float → ℕ → Worst → Worst
-releaseRow p st nu i best =
-    cond (pushed (box.state st i) (box.rowSum (box.row (p .w) (box.size p) i) (at (p .uFree) i) nu)) (worse i (box.residualAt p nu i) best) best
+releaseRow p st nu i worst =
+    cond (box.pushed (box.state st i) (box.rowSum (box.row (p .w) (box.size p) i) (at (p .uFree) i) nu)) (worse i (box.residualAt p nu i) worst) worst
 
 abbrev pub worstRow : box.Problem → List ℕ → List Float → ℕ → Worst
 worstRow p st nu n = turns n (record { residual = 1e-9; row = box.size p }) (releaseRow p st nu)

@@ -16,7 +16,7 @@ use Rattle.exact_pass.specs.declared.Exact.the-variants.{Moved, Found, F
 -- the lists of a problem of at most 32 rows, with a state and a value for each row, and a row list long enough
 abbrev pub fits : box.Problem → ℕ → ℕ → ℕ → Bool
 fits p states values rows =
-    leb (box.size p) 32 && eqb (length (p .w)) (box.size p * box.size p) && eqb (length (p .lo)) (box.size p)
+    leb (box.size p) box.MAX_ROWS && eqb (length (p .w)) (box.size p * box.size p) && eqb (length (p .lo)) (box.size p)
     && eqb (length (p .hi)) (box.size p) && eqb (length (p .scale)) (box.size p) && eqb states (box.size p)
     && eqb values (box.size p) && leb (box.size p) rows
 
@@ -24,13 +24,16 @@ fits p states values rows =
 abbrev pub WORKSPACE : ℕ
 WORKSPACE = 1120
 
--- A call whose lists do not fit, or whose workspace is too short, fails and changes nothing. `room` is the workspace's length.
+-- A call whose lists do not fit, or whose workspace is too short, fails and changes nothing. `workspace` is the
+-- workspace's length.
 unfoldable pub reply : box.Problem → List ℕ → List Float → List ℕ → ℕ → Pass
-reply p st nu rows room = cond (leb WORKSPACE room && fits p (length st) (length nu) (length rows)) (exactPass p st nu) (failed (trial nu st))
+reply p st nu rows workspace =
+    cond (leb WORKSPACE workspace && fits p (length st) (length nu) (length rows)) (exactPass p st nu) (failed (trial nu st))
 
 -- how many values at the workspace's front are free afterwards
 abbrev pub used : box.Problem → List ℕ → List Float → List ℕ → ℕ → ℕ
-used p st nu rows room = cond (leb WORKSPACE room && fits p (length st) (length nu) (length rows)) WORKSPACE 0
+used p st nu rows workspace =
+    cond (leb WORKSPACE workspace && fits p (length st) (length nu) (length rows)) WORKSPACE 0
 
 abbrev pub exactOf : Pass → Exact
 exactOf (moved t) = Moved

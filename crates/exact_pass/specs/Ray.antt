@@ -5,13 +5,9 @@ use mathlib.Core.List.{List, [], _∷_, _++_}
 use lib.ListN.{getD, length}
 use lib.Ieee.{Float, lt, le, eq, neg}
 use Rattle.loops.specs.Loops.{turns}
-use Rattle.floats.specs.Ops.{_⊕_, _⊗_, _⊘_, at, 0ᶠ, 1e6, 1e-9, ∞, −∞}
-use Rattle.floats.specs.Helpers.{larger, abs}
+use Rattle.floats.specs.Ops.{_⊕_, _⊗_, _⊘_, at, 0ᶠ, 1e6, 1e-9}
+use Rattle.floats.specs.Helpers.{larger}
 use Rattle.box_rows.specs.Rows as box
-
--- how far a row of scale s moves along its y, over that scale
-unfoldable pub sizeOf : Float → Float → Float
-sizeOf y s = abs y ⊘ s
 
 -- ---- the rows that count, as long as each may grow
 
@@ -23,8 +19,8 @@ pub data Collected : Type 0 where
 unfoldable pub collect : List Float → List Float → List Float → List ℕ → List Float → Float → ℕ → Collected → Collected
 collect lo hi scale st y least a none = none
 collect lo hi scale st y least a (these l) =
-    cond (not (box.acts st a) || le (sizeOf (at y a) (at scale a)) least) (these l)
-    (cond ((lt 0ᶠ (at y a) && eq (at hi a) ∞) || (lt (at y a) 0ᶠ && eq (at lo a) −∞)) (these (l ++ (a ∷ []))) none)
+    cond (not (box.acts st a) || le (box.sizeOf (at y a) (at scale a)) least) (these l)
+    (cond (box.grows (at y a) (at lo a) (at hi a)) (these (l ++ (a ∷ []))) none)
 
 -- ---- along nu + t·y the problem falls as t·lin + t²·quad / 2
 
@@ -38,12 +34,12 @@ fallingRows p y (these l) =
     turns k 0ᶠ λ i q.
     let r = box.row (p .w) (box.size p) (getD l i 0) in
     turns k q λ j q. q ⊕ at y (getD l i 0) ⊗ at r (getD l j 0) ⊗ at y (getD l j 0) in
-    let far = turns k 0ᶠ λ i worst. larger worst (sizeOf (at y (getD l i 0)) (at (p .scale) (getD l i 0))) in
+    let far = turns k 0ᶠ λ i worst. larger worst (box.sizeOf (at y (getD l i 0)) (at (p .scale) (getD l i 0))) in
     cond (not (le 0ᶠ lin) && (le quad 0ᶠ || lt 1e6 (neg lin ⊘ quad ⊗ far))) l []
 
 -- s is the largest size of a row that acts
 unfoldable pub ray : box.Problem → List ℕ → List Float → List ℕ
 ray p st y =
     let n = box.size p in
-    let s = turns n 0ᶠ λ a worst. cond (box.acts st a) (larger worst (sizeOf (at y a) (at (p .scale) a))) worst in
+    let s = turns n 0ᶠ λ a worst. cond (box.acts st a) (larger worst (box.sizeOf (at y a) (at (p .scale) a))) worst in
     cond (eq s 0ᶠ) [] (fallingRows p y (turns n (these []) (collect (p .lo) (p .hi) (p .scale) st y (1e-9 ⊗ s))))

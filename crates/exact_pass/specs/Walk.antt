@@ -1,12 +1,12 @@
 -- The ray's rows and their farthest in one walk, and the claim that it is the two walks of Ray.antt. Definitions only.
 use Prim.Native.Nat.{ℕ}
 use mathlib.Core.Path.{_≡_}
-use mathlib.Core.Bool.{Bool, not, cond, _&&_, _||_}
+use mathlib.Core.Bool.{Bool, not, cond, _||_}
 use mathlib.Core.List.{List, [], _∷_, _++_}
 use lib.ListN.{getD, length}
-use lib.Ieee.{Float, lt, le, eq}
+use lib.Ieee.{Float, le}
 use Rattle.loops.specs.Loops.{turns}
-use Rattle.floats.specs.Ops.{at, 0ᶠ, ∞, −∞}
+use Rattle.floats.specs.Ops.{at, 0ᶠ}
 use Rattle.floats.specs.Helpers.{larger}
 use Rattle.box_rows.specs.Rows as box
 use Rattle.exact_pass.specs.Ray as rays
@@ -18,15 +18,11 @@ pub data Walked : Type 0 where
 
 -- how far row a moves along y, over its scale
 abbrev pub sizeAt : List Float → List Float → ℕ → Float
-sizeAt scale y a = rays.sizeOf (at y a) (at scale a)
+sizeAt scale y a = box.sizeOf (at y a) (at scale a)
 
 -- a row does not count where it is Idle or moves next to nothing
 unfoldable pub dropped : Bool → Float → Float → Bool
 dropped acting size least = not acting || le size least
-
--- whether a multiplier may grow without end along y
-unfoldable pub grows : Float → Float → Float → Bool
-grows y lo hi = (lt 0ᶠ y && eq hi ∞) || (lt y 0ᶠ && eq lo −∞)
 
 -- one row more, which moves by size: a row that is dropped changes neither the rows nor their farthest
 unfoldable pub walk : Bool → Bool → ℕ → Float → Walked → Walked
@@ -35,7 +31,7 @@ walk drop grow a size (these l far) = cond drop (these l far) (cond grow (these 
 
 unfoldable pub walkRow : List Float → List Float → List Float → List ℕ → List Float → Float → ℕ → Walked → Walked
 walkRow lo hi scale st y least a c =
-    walk (dropped (box.acts st a) (sizeAt scale y a) least) (grows (at y a) (at lo a) (at hi a)) a
+    walk (dropped (box.acts st a) (sizeAt scale y a) least) (box.grows (at y a) (at lo a) (at hi a)) a
     (sizeAt scale y a) c
 
 -- of the first n rows

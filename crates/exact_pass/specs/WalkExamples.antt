@@ -12,7 +12,7 @@ use Rattle.floats.specs.Helpers as helpers
 use Rattle.box_rows.specs.Rows as box
 use Rattle.exact_pass.specs.Ray as rays
 use Rattle.exact_pass.specs.Private.{largestRow, largest}
-use Rattle.exact_pass.specs.Walk.{Walked, none, these, dropped, grows, walk, walkRow, walked}
+use Rattle.exact_pass.specs.Walk.{Walked, none, these, dropped, walk, walkRow, walked}
 
 abbrev one : ℕ
 one = 0x3FF0000000000000
@@ -68,7 +68,7 @@ abbrev walkOf : box.Problem → List ℕ → List Float → ℕ → Walked
 walkOf p st y k = walked (p .lo) (p .hi) (p .scale) st y (1e-9 ⊗ largest (p .scale) st y (box.size p)) k
 
 unfoldable passes : Case → Bool
-unfolding loops.turns loops.tab helpers.larger helpers.abs box.row rays.sizeOf largestRow largest dropped grows rays.collect rays.fallingRows rays.ray walk walkRow walked ofBits toBits add mul div lt le eq ne neg
+unfolding loops.turns loops.tab helpers.larger helpers.abs box.row box.sizeOf largestRow largest dropped box.grows rays.collect rays.fallingRows rays.ray walk walkRow walked ofBits toBits add mul div lt le eq ne neg
 passes (walks p st y l rows) = each (walkOf p st (floats y)) 0 l && same (rays.ray p st (floats y)) rows
 
 abbrev all : List Case → Bool

@@ -1,5 +1,5 @@
 // Cycles of steps: a step depends on multipliers and states alone, so a pass that comes back to those of an earlier
-// step goes round for ever, and whole rounds of the steps that are left are left out. Multipliers are marked in the
+// step goes round for ever, and whole cycles of the steps that remain are left out. Multipliers are marked in the
 // workspace, past least norm's part.
 ghost use mathlib.Core.Path.{_≡_};
 ghost use mathlib.Core.Bool.{true};
@@ -7,7 +7,7 @@ ghost use Prim.Native.Nat.{_≤_};
 ghost use lib.ListN.{length, take};
 ghost use Rattle.exact_pass.specs.Pass as pass;
 ghost use Rattle.exact_pass.specs.Private as private;
-use crate::Mark;
+use crate::Cycle;
 use crate::read;
 
 // Whether two multipliers are one value, every NaN as one.
@@ -43,24 +43,24 @@ fn same_trial(nu: &[f64], states: &[u8], work: &[f64], marks: &[u8]) -> bool
     true
 }
 
-// How many of the steps left are still to be made, `since` steps after the mark.
-fn left_after(
+// How many of the steps that remain are still to be made, `since` steps after the mark.
+fn remaining_after(
     nu: &[f64],
     states: &[u8],
     work: &[f64],
     marks: &[u8],
     since: usize,
-    left: usize,
+    remaining: usize,
 ) -> usize
     requires { ⌜ private.SinceLent (length (now nu)) (now states) (now work) (now marks) since ⌝ }
     ensures { λ q. ⌜ private.Shortened
         (private.marked (length (now (nu .entry))) (now (work .entry)) (now (marks .entry)))
-        (pass.trial (now (nu .entry)) (now (states .entry))) since left q ⌝ }
+        (pass.trial (now (nu .entry)) (now (states .entry))) since remaining q ⌝ }
 {
     if same_trial(nu, states, work, marks) {
-        return left % since;
+        return remaining % since;
     }
-    left
+    remaining
 }
 
 // The states marked.
@@ -76,26 +76,26 @@ pub fn mark_states(states: &[u8], marks: &mut [u8])
     }
 }
 
-// After a step: a cycle cuts the steps that are left, and the mark is set anew after 2, 4, 8 .. steps (Brent).
-pub fn after_step(nu: &[f64], states: &[u8], work: &mut [f64], marks: &mut [u8], m: Mark) -> Mark
+// After a step: a cycle cuts the steps that remain, and the mark is set anew after 2, 4, 8 .. steps (Brent).
+pub fn after_step(nu: &[f64], states: &[u8], work: &mut [f64], marks: &mut [u8], m: Cycle) -> Cycle
     requires { ⌜ private.AfterLent (length (now nu)) (now states) (now work) (now marks) m ⌝ }
     ensures { λ q. ⌜ private.MarkedOn (pass.trial (now (nu .entry)) (now (states .entry))) m
         (now (work .entry)) (now (marks .entry)) q (now (work .exit)) (now (marks .exit)) ⌝ }
 {
     let since = m.since + 1;
-    let left = left_after(nu, states, work, marks, since, m.left - 1);
+    let remaining = remaining_after(nu, states, work, marks, since, m.remaining - 1);
     if since < m.span {
-        return Mark {
+        return Cycle {
             since,
             span: m.span,
-            left,
+            remaining,
         };
     }
     read::copy(nu, work, crate::MARKED);
     mark_states(states, marks);
-    Mark {
+    Cycle {
         since: 0,
         span: 2 * m.span,
-        left,
+        remaining,
     }
 }

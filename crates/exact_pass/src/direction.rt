@@ -6,6 +6,12 @@ ghost use Rattle.exact_pass.specs.Private as private;
 use crate::read;
 use crate::system;
 
+// The scratch of a step has one of three sizes, by the number of free rows, so that few free rows do not clear nine
+// kilobytes: for this many, for that many, or for MAX_ROWS.
+const SMALL: usize = 2;
+
+const MEDIUM: usize = 8;
+
 // y is what the solution z leaves; where there is a target, it becomes the direction to it.
 fn direction(inconsistent: bool, scale: &[f64], free: &[u8], z: &[f64], nu: &[f64], y: &mut [f64])
     requires { ⌜ private.DirectionLent (length (now nu)) (now scale) (now free) (now z) (now y) ⌝ }
@@ -88,8 +94,8 @@ fn in_scratch(
     )
 }
 
-// The scratch has one of three sizes, so that few free rows do not clear nine kilobytes: here for all 32.
-fn of_9_or_more(
+// In the largest scratch.
+fn in_large(
     w: &[f64],
     u_free: &[f64],
     scale: &[f64],
@@ -103,9 +109,9 @@ fn of_9_or_more(
     ensures { λ q. ⌜ private.DirectedTo (now (w .entry)) (now («u_free» .entry)) (now (scale .entry))
         (now (states .entry)) (now (nu .entry)) (now (free .entry)) (now (work .entry)) q (now (work .exit)) ⌝ }
 {
-    let mut m = [0.0f64; 1024];
-    let mut y = [0.0f64; 32];
-    let mut z = [0.0f64; 32];
+    let mut m = [0.0f64; box_rows::MAX_ROWS * box_rows::MAX_ROWS];
+    let mut y = [0.0f64; box_rows::MAX_ROWS];
+    let mut z = [0.0f64; box_rows::MAX_ROWS];
     in_scratch(
         w,
         u_free,
@@ -120,7 +126,8 @@ fn of_9_or_more(
     )
 }
 
-fn of_3_or_more(
+// In scratch for eight rows, or in the largest where more are free.
+fn in_medium(
     w: &[f64],
     u_free: &[f64],
     scale: &[f64],
@@ -134,12 +141,12 @@ fn of_3_or_more(
     ensures { λ q. ⌜ private.DirectedTo (now (w .entry)) (now («u_free» .entry)) (now (scale .entry))
         (now (states .entry)) (now (nu .entry)) (now (free .entry)) (now (work .entry)) q (now (work .exit)) ⌝ }
 {
-    if free.len() > 8 {
-        return of_9_or_more(w, u_free, scale, states, nu, free, work);
+    if free.len() > MEDIUM {
+        return in_large(w, u_free, scale, states, nu, free, work);
     }
-    let mut m = [0.0f64; 64];
-    let mut y = [0.0f64; 8];
-    let mut z = [0.0f64; 8];
+    let mut m = [0.0f64; MEDIUM * MEDIUM];
+    let mut y = [0.0f64; MEDIUM];
+    let mut z = [0.0f64; MEDIUM];
     in_scratch(
         w,
         u_free,
@@ -154,6 +161,8 @@ fn of_3_or_more(
     )
 }
 
+// The direction of the free rows, left in the workspace, and whether their system is inconsistent: in scratch of the
+// smallest size that holds them.
 pub fn of_free_rows(
     w: &[f64],
     u_free: &[f64],
@@ -168,12 +177,12 @@ pub fn of_free_rows(
     ensures { λ q. ⌜ private.DirectedTo (now (w .entry)) (now («u_free» .entry)) (now (scale .entry))
         (now (states .entry)) (now (nu .entry)) (now (free .entry)) (now (work .entry)) q (now (work .exit)) ⌝ }
 {
-    if free.len() > 2 {
-        return of_3_or_more(w, u_free, scale, states, nu, free, work);
+    if free.len() > SMALL {
+        return in_medium(w, u_free, scale, states, nu, free, work);
     }
-    let mut m = [0.0f64; 4];
-    let mut y = [0.0f64; 2];
-    let mut z = [0.0f64; 2];
+    let mut m = [0.0f64; SMALL * SMALL];
+    let mut y = [0.0f64; SMALL];
+    let mut z = [0.0f64; SMALL];
     in_scratch(
         w,
         u_free,

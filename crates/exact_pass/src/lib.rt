@@ -4,7 +4,8 @@ ghost use mathlib.Core.Path.{_≡_};
 ghost use Rattle.box_rows.specs.Rows as box;
 ghost use Rattle.exact_pass.specs.Promise as promise;
 
-// The steps of a pass, in their order.
+// The steps of a pass: start, free_rows, system, direction, ratio, release, rays where no bound is met, and cycles;
+// steps is one step and the run of them, read the reads and stores of all.
 mod cycles;
 mod direction;
 mod free_rows;
@@ -47,14 +48,6 @@ pub struct Residuals {
     pub second: f64,
 }
 
-// How far the boxes let a step go, and the row that blocks it with its state there: INSIDE is no row. The state is a
-// whole word: a byte would have the compiler copy what fills up the struct, row by row.
-pub struct Blocking {
-    pub alpha: f64,
-    pub row: usize,
-    pub state: usize,
-}
-
 // The row on a bound pushed inside the hardest, and its natural residual: row n is none.
 pub struct Worst {
     pub residual: f64,
@@ -62,20 +55,21 @@ pub struct Worst {
 }
 
 // How many rows a ray has, and the farthest of them over its scale.
-pub struct Collected {
+pub struct RayRows {
     pub count: usize,
     pub farthest: f64,
 }
 
-// How many steps were made since multipliers and states were marked, how many are made before they are marked anew, and
-// how many are left.
-pub struct Mark {
+// The counters of Brent's method: how many steps were made since multipliers and states were marked, how many are made
+// before they are marked anew, and how many remain of the pass.
+pub struct Cycle {
     pub since: usize,
     pub span: usize,
-    pub left: usize,
+    pub remaining: usize,
 }
 
-// Whether the lists are those of a problem of at most 32 rows, with so many states, values and places for rows.
+// Whether the lists are those of a problem of at most 32 rows, which has `states` states, `values` values and a row list
+// of `rows` places.
 fn fits(
     w: &[f64],
     u_free: &[f64],
@@ -92,7 +86,7 @@ fn fits(
         states values rows ⌝ }
 {
     let n = u_free.len();
-    if n > 32 {
+    if n > box_rows::MAX_ROWS {
         return false;
     }
     (w.len() == n * n)

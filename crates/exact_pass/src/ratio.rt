@@ -3,34 +3,8 @@ ghost use mathlib.Core.Path.{_≡_};
 ghost use lib.ListN.{length};
 ghost use Rattle.exact_pass.specs.Pass as pass;
 ghost use Rattle.exact_pass.specs.Private as private;
-use crate::Blocking;
 use crate::read;
-
-fn nearer(a: usize, state: usize, ratio: f64, r: Blocking) -> Blocking
-    ensures { λ q. ⌜ q ≡ private.nearer a state ratio r ⌝ }
-{
-    if ratio < r.alpha {
-        return Blocking {
-            alpha: floats::larger(ratio, 0.0),
-            row: a,
-            state,
-        };
-    }
-    r
-}
-
-// Row a at v, which moves by y.
-fn ratio_row(a: usize, v: f64, y: f64, lo: f64, hi: f64, r: Blocking) -> Blocking
-    ensures { λ q. ⌜ q ≡ private.ratioRow a v y lo hi r ⌝ }
-{
-    if y > 0.0 {
-        return nearer(a, box_rows::AT_HI as usize, (hi - v) / y, r);
-    }
-    if y < 0.0 {
-        return nearer(a, box_rows::AT_LO as usize, (lo - v) / y, r);
-    }
-    r
-}
+use box_rows::Blocking;
 
 // How far the boxes let the free rows go in the direction y, and no farther than alpha.
 pub fn ratio_test(
@@ -54,7 +28,7 @@ pub fn ratio_test(
     let mut i = 0;
     while i < k {
         let a = read::row_number(free, i);
-        r = ratio_row(
+        r = box_rows::ratio_row(
             a,
             read::at(nu, a),
             read::at(y, i),

@@ -12,15 +12,10 @@ ghost use Rattle.exact_pass.specs.Ray as rays;
 ghost use Rattle.exact_pass.specs.Walk as walks;
 ghost use Rattle.exact_pass.specs.Promise as promise;
 ghost use Rattle.exact_pass.specs.Private as private;
-use crate::Collected;
+use crate::RayRows;
 use crate::read;
 
-fn size(y: f64, s: f64) -> f64
-    ensures { λ q. ⌜ q ≡ rays.sizeOf y s ⌝ }
-{
-    floats::abs(y) / s
-}
-
+// The largest size so far, row a with it.
 fn larger_row(scale: &[f64], states: &[u8], y: &[f64], a: usize, worst: f64) -> f64
     requires { ⌜ AtRow (private.SizesLent (length (now y)) (now scale) (now states)) (length (now y)) a ⌝ }
     ensures { λ q. ⌜ q ≡ private.largestRow (now (scale .entry)) (now (states .entry)) (now (y .entry)) a worst ⌝ }
@@ -28,9 +23,10 @@ fn larger_row(scale: &[f64], states: &[u8], y: &[f64], a: usize, worst: f64) -> 
     if read::state(states, a) == box_rows::IDLE {
         return worst;
     }
-    floats::larger(worst, size(read::at(y, a), read::at(scale, a)))
+    floats::larger(worst, box_rows::size_of(read::at(y, a), read::at(scale, a)))
 }
 
+// The largest size of a row that acts.
 fn largest(scale: &[f64], states: &[u8], y: &[f64]) -> f64
     requires { ⌜ private.SizesLent (length (now y)) (now scale) (now states) ⌝ }
     ensures { λ q. ⌜ q ≡ private.largest (now (scale .entry)) (now (states .entry)) (now (y .entry))
@@ -46,37 +42,36 @@ fn largest(scale: &[f64], states: &[u8], y: &[f64]) -> f64
     worst
 }
 
-// Whether a multiplier may grow without end along y.
-fn grows(y: f64, lo: f64, hi: f64) -> bool
-    ensures { λ q. ⌜ q ≡ walks.grows y lo hi ⌝ }
-{
-    let up = (y > 0.0) & (hi == 1.0 / 0.0);
-    let down = (y < 0.0) & (lo == -1.0 / 0.0);
-    up | down
-}
+// What a walk does with a row.
+const DROPPED: u8 = 0;
 
-// A row is dropped (0) where it is Idle or moves next to nothing; else it is taken (1) if it may grow, and there is no
-// ray (2) if it may not.
+const TAKEN: u8 = 1;
+
+const NO_RAY: u8 = 2;
+
+// A row is dropped where it is Idle or moves next to nothing; else it is taken if it may grow, and there is no ray if it
+// may not.
 fn verdict(lo: f64, hi: f64, state: u8, size: f64, y: f64, least: f64) -> u8
-    ensures { λ q. ⌜ q ≡ private.verdict (walks.dropped (not (eqb state box.idle)) size least) (walks.grows y lo hi) ⌝ }
+    ensures { λ q. ⌜ q ≡ private.verdict (walks.dropped (not (eqb state box.idle)) size least) (box.grows y lo hi) ⌝ }
 {
     if state == box_rows::IDLE {
-        return 0;
+        return DROPPED;
     }
     if size <= least {
-        return 0;
+        return DROPPED;
     }
-    if grows(y, lo, hi) {
-        return 1;
+    if box_rows::grows(y, lo, hi) {
+        return TAKEN;
     }
-    2
+    NO_RAY
 }
 
+// Row a joins the k rows at the front of the list where it is taken; how many there are then.
 fn taken(verdict: u8, a: usize, k: usize, list: &mut [usize]) -> usize
     requires { ⌜ k < length (now list) ⌝ }
     ensures { λ q. ⌜ Noted (eqb verdict 1) a k (now (list .entry)) q (now (list .exit)) ⌝ }
 {
-    if verdict == 1 {
+    if verdict == TAKEN {
         read::put_number(list, k, a);
         return k + 1;
     }
@@ -87,7 +82,7 @@ fn taken(verdict: u8, a: usize, k: usize, list: &mut [usize]) -> usize
 fn farther(verdict: u8, size: f64, far: f64) -> f64
     ensures { λ q. ⌜ q ≡ cond (eqb verdict 1) (larger far size) far ⌝ }
 {
-    if verdict == 1 {
+    if verdict == TAKEN {
         return floats::larger(far, size);
     }
     far
@@ -102,7 +97,7 @@ fn collect(
     y: &[f64],
     least: f64,
     list: &mut [usize],
-) -> Collected
+) -> RayRows
     requires { ⌜ private.Listing
         (private.Scaled (length (now y)) (now lo) (now hi) (now scale) (now states))
         (length (now y)) (now list) ⌝ }
@@ -117,7 +112,7 @@ fn collect(
     let mut a = 0;
     while a < n {
         let x = read::at(y, a);
-        let row_size = size(x, read::at(scale, a));
+        let row_size = box_rows::size_of(x, read::at(scale, a));
         let v = verdict(
             read::at(lo, a),
             read::at(hi, a),
@@ -126,8 +121,8 @@ fn collect(
             x,
             least,
         );
-        if v == 2 {
-            return Collected {
+        if v == NO_RAY {
+            return RayRows {
                 count: 0,
                 farthest: 0.0,
             };
@@ -136,12 +131,13 @@ fn collect(
         k = taken(v, a, k, list);
         a += 1;
     }
-    Collected {
+    RayRows {
         count: k,
         farthest: far,
     }
 }
 
+// lin: u_free times y, summed over the rows of l.
 fn linear(u_free: &[f64], y: &[f64], l: &[usize]) -> f64
     requires { ⌜ private.Rows (length (now «u_free») ≡ length (now y)) (length (now y)) (now l) ⌝ }
     ensures { λ q. ⌜ q ≡ private.linear (now («u_free» .entry)) (now (y .entry)) (now (l .entry))
@@ -158,6 +154,7 @@ fn linear(u_free: &[f64], y: &[f64], l: &[usize]) -> f64
     s
 }
 
+// quad with one row of the matrix more, whose own place in y holds v.
 fn quadratic_row(row: &[f64], v: f64, y: &[f64], l: &[usize], quad: f64) -> f64
     requires { ⌜ private.Rows (length (now row) ≡ length (now y)) (length (now y)) (now l) ⌝ }
     ensures { λ q. ⌜ q ≡ private.quadraticRow (now (row .entry)) v (now (y .entry)) (now (l .entry)) quad
@@ -174,6 +171,7 @@ fn quadratic_row(row: &[f64], v: f64, y: &[f64], l: &[usize], quad: f64) -> f64
     q
 }
 
+// quad: y times W times y, summed over the rows of l and its columns.
 fn quadratic(w: &[f64], y: &[f64], l: &[usize]) -> f64
     requires { ⌜ private.Rows (Square (now w) (length (now y))) (length (now y)) (now l) ⌝ }
     ensures { λ q. ⌜ q ≡ private.quadratic (now (w .entry)) (length (now (y .entry))) (now (y .entry)) (now (l .entry))
@@ -212,6 +210,7 @@ fn falls(w: &[f64], u_free: &[f64], y: &[f64], l: &[usize], far: f64) -> bool
     -lin / quad * far > crate::DIVERGENCE
 }
 
+// The rows of l at the front of `rows`.
 fn front(l: &[usize], rows: &mut [usize])
     requires { ⌜ length (now l) ≤ length (now rows) ⌝ }
     ensures { λ q. ⌜ now (rows .exit) ≡ fronted (now (l .entry)) (now (rows .entry)) ⌝ }
@@ -224,6 +223,7 @@ fn front(l: &[usize], rows: &mut [usize])
     }
 }
 
+// The ray test: the rows of the ray at the front of `rows`, and how many. Where there is none, 0 and nothing is changed.
 pub fn ray(
     w: &[f64],
     u_free: &[f64],
@@ -247,7 +247,7 @@ pub fn ray(
     if s == 0.0 {
         return 0;
     }
-    let mut list = [0usize; 32];
+    let mut list = [0usize; box_rows::MAX_ROWS];
     let c = collect(
         lo,
         hi,

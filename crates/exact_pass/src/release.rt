@@ -15,19 +15,7 @@ use crate::Exact;
 use crate::Worst;
 use crate::read;
 
-// Whether a row on a bound is pushed inside: u is its row sum.
-fn pushed(state: u8, u: f64) -> bool
-    ensures { λ q. ⌜ q ≡ private.pushed state u ⌝ }
-{
-    if state == box_rows::AT_LO {
-        return u < 0.0;
-    }
-    if state == box_rows::AT_HI {
-        return u > 0.0;
-    }
-    false
-}
-
+// Row i with the natural residual r, if that is larger.
 fn worse(i: usize, r: f64, worst: Worst) -> Worst
     ensures { λ q. ⌜ q ≡ private.worse i r worst ⌝ }
 {
@@ -40,6 +28,7 @@ fn worse(i: usize, r: f64, worst: Worst) -> Worst
     worst
 }
 
+// Row i on a bound, by its numbers: the worst row where it is pushed inside harder than those before it.
 fn bound_row(
     row: &[f64],
     u_free: f64,
@@ -52,7 +41,7 @@ fn bound_row(
     worst: Worst,
 ) -> Worst
     requires { ⌜ AtRow (length (now row) ≡ length (now nu)) (length (now nu)) i ⌝ }
-    ensures { λ q. ⌜ q ≡ cond (private.pushed state (box.rowSum (now (row .entry)) «u_free» (now (nu .entry))))
+    ensures { λ q. ⌜ q ≡ cond (box.pushed state (box.rowSum (now (row .entry)) «u_free» (now (nu .entry))))
         (private.worse i
         (box.naturalResidual (at (now (nu .entry)) i) (box.rowSum (now (row .entry)) «u_free» (now (nu .entry)))
         (at (now (row .entry)) i) lo hi s)
@@ -60,7 +49,7 @@ fn bound_row(
         worst ⌝ }
 {
     let u = box_rows::row_sum(row, u_free, nu);
-    if pushed(state, u) {
+    if box_rows::pushed(state, u) {
         let numbers = box_rows::Row {
             nu: read::at(nu, i),
             u,
@@ -73,6 +62,7 @@ fn bound_row(
     worst
 }
 
+// The worst row, row i considered: only a row on a bound can be released.
 fn release_row(
     w: &[f64],
     u_free: &[f64],

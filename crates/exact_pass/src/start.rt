@@ -7,19 +7,7 @@ ghost use Rattle.exact_pass.specs.Pass as pass;
 ghost use Rattle.exact_pass.specs.Private as private;
 use crate::read;
 
-// The multiplier of a row in a state: a row on a bound has that bound.
-pub fn placed(lo: f64, hi: f64, state: u8, v: f64) -> f64
-    ensures { λ q. ⌜ q ≡ pass.placed lo hi state v ⌝ }
-{
-    if state == box_rows::AT_LO {
-        return lo;
-    }
-    if state == box_rows::AT_HI {
-        return hi;
-    }
-    v
-}
-
+// Row i in the state that its multiplier shows, with the multiplier of that state; how many rows act up to it.
 fn start_row(
     lo: &[f64],
     hi: &[f64],
@@ -45,11 +33,11 @@ fn start_row(
     let high = read::at(hi, i);
     let s = box_rows::state_of(low, high, read::at(scale, i), v);
     read::put_state(states, i, s);
-    read::put(nu, i, placed(low, high, s, v));
+    read::put(nu, i, box_rows::placed(low, high, s, v));
     acting + 1
 }
 
-// How many rows act.
+// States and multipliers of all rows at the start of a pass; how many rows act.
 pub fn start(lo: &[f64], hi: &[f64], scale: &[f64], states: &mut [u8], nu: &mut [f64]) -> usize
     requires { ⌜ private.Scaled (length (now nu)) (now lo) (now hi) (now scale) (now states) ⌝ }
     ensures { λ q. ⌜ private.Started

@@ -8,9 +8,8 @@ ghost use Rattle.box_rows.specs.Rows as box;
 ghost use Rattle.exact_pass.specs.Pass as pass;
 ghost use Rattle.exact_pass.specs.Promise as promise;
 ghost use Rattle.exact_pass.specs.Private as private;
-use crate::Blocking;
+use crate::Cycle;
 use crate::Exact;
-use crate::Mark;
 use crate::cycles;
 use crate::direction;
 use crate::free_rows;
@@ -19,6 +18,7 @@ use crate::rays;
 use crate::read;
 use crate::release;
 use crate::start;
+use box_rows::Blocking;
 
 // The direction of all rows, in place of zeros, from that of the free rows.
 fn scatter(free: &[u8], y: &[f64], d: &mut [f64])
@@ -58,7 +58,7 @@ fn unbounded(
         ⌝ }
 {
     let n = u_free.len();
-    let mut zeros = [0.0f64; 32];
+    let mut zeros = [0.0f64; box_rows::MAX_ROWS];
     let d = &mut zeros[..n];
     scatter(free, y, d);
     let c = rays::ray(w, u_free, lo, hi, scale, states, d, rows);
@@ -79,12 +79,13 @@ fn hold(lo: &[f64], hi: &[f64], states: &mut [u8], nu: &mut [f64], r: Blocking)
     read::put(
         nu,
         a,
-        start::placed(read::at(lo, a), read::at(hi, a), state, read::at(nu, a)),
+        box_rows::placed(read::at(lo, a), read::at(hi, a), state, read::at(nu, a)),
     );
     read::put_state(states, a, state);
 }
 
-// The step of the free rows in the direction y, as long as the boxes let it be. At its end a row is freed.
+// The step of the free rows in the direction y, as long as the boxes let it be. The row that blocks it is put on its
+// bound; where none does, a row on a bound is released.
 fn take_step(
     w: &[f64],
     u_free: &[f64],
@@ -143,7 +144,7 @@ fn step(
         (now (rows .entry)) (now (work .entry)) q (now (nu .exit)) (now (states .exit)) (now (rows .exit))
         (now (work .exit)) ⌝ }
 {
-    let mut list = [0u8; 32];
+    let mut list = [0u8; box_rows::MAX_ROWS];
     let k = free_rows::free_rows(states, &mut list);
     if k == 0 {
         return release::release(w, u_free, lo, hi, scale, states, nu);
@@ -166,6 +167,7 @@ fn step(
     )
 }
 
+// Whether the pass ends with this step.
 fn ended(e: Exact) -> bool
     ensures { λ q. ⌜ q ≡ private.isEnd e ⌝ }
 {
@@ -200,15 +202,15 @@ pub fn run(
 {
     let acting = start::start(lo, hi, scale, states, nu);
     let most = 8 * acting + 8;
-    let mut marks = [0u8; 32];
+    let mut marks = [0u8; box_rows::MAX_ROWS];
     read::copy(nu, work, crate::MARKED);
     cycles::mark_states(states, &mut marks);
-    let mut m = Mark {
+    let mut m = Cycle {
         since: 0,
         span: 2,
-        left: most,
+        remaining: most,
     };
-    while m.left > 0 {
+    while m.remaining > 0 {
         let e = step(w, u_free, lo, hi, scale, states, nu, rows, work);
         if ended(e) {
             return e;

@@ -75,6 +75,7 @@ pub fn right_hand_side(
     }
 }
 
+// One row of the matrix: the entries in the columns of free rows, each times its scale.
 fn matrix_row(row: &[f64], scale: &[f64], free: &[u8], out: &mut [f64])
     requires { ⌜ private.MatrixRowLent (length (now scale)) (now row) (now free) (now out) ⌝ }
     ensures { λ q. ⌜ now (out .exit)
@@ -89,6 +90,7 @@ fn matrix_row(row: &[f64], scale: &[f64], free: &[u8], out: &mut [f64])
     }
 }
 
+// The matrix of the system in m, row by row.
 pub fn matrix(w: &[f64], scale: &[f64], free: &[u8], m: &mut [f64])
     requires { ⌜ private.MatrixLent (length (now scale)) (now w) (now free) (now m) ⌝ }
     ensures { λ q. ⌜ now (m .exit)
@@ -121,7 +123,7 @@ fn residual_rows(
     b: f64,
 ) -> Residuals
     requires { ⌜ private.RowsLent (length (now scale)) (now first) (now second) (now free) (now z) ⌝ }
-    ensures { λ q. ⌜ private.RowsLeft (now (first .entry)) (now (second .entry)) (now (scale .entry))
+    ensures { λ q. ⌜ private.TwoResiduals (now (first .entry)) (now (second .entry)) (now (scale .entry))
         (now (free .entry)) (now (z .entry)) a b q ⌝ }
 {
     let k = free.len();
@@ -208,7 +210,7 @@ pub fn residual(
 ) -> bool
     requires { ⌜ private.ResidualLent (length (now scale)) (now w) (now free) (now work) (now z) (now y) ⌝ }
     ensures { λ q. ⌜ private.Tested (now (w .entry)) (now (scale .entry)) (now (free .entry))
-        (private.part 1056 (length (now (free .entry))) (now (work .entry))) (now (z .entry)) q (now (y .exit)) ⌝ }
+        (private.part private.RIGHT_HAND_SIDE (length (now (free .entry))) (now (work .entry))) (now (z .entry)) q (now (y .exit)) ⌝ }
 {
     let k = free.len();
     let rhs = read::part(work, crate::RIGHT_HAND_SIDE, k);

@@ -7,7 +7,7 @@ use this.Tie as tie
 returns : tie.Need-returns
 returns c =
     let p = c .before .before .before .before .before .before .before .before .before .before .before .pre in
-    record { round = λ s h. h; left = c .before .before .left-after .ensures; since = omega arith; span = p .span; beyond = refl }
+    record { round = λ s h. h; remaining = c .before .before .remaining-after .ensures; since = omega arith; span = p .span; beyond = refl }
 
 returns-2 : tie.Need-returns-2
 returns-2 c =
@@ -16,7 +16,7 @@ returns-2 c =
     let p = at-entry .pre in
     record {
       round = λ s h. marked-new s _ _ _ _ (at-copy .copy .ensures .part) (rw (p .lent .states) at (c .before .before .before .mark-states .ensures));
-      left = at-copy .before .before .before .before .left-after .ensures;
+      remaining = at-copy .before .before .before .before .remaining-after .ensures;
       since = omega arith;
       span = omega (arith, p, at-copy .before .before .if1 .left);
       beyond = later (1088 + length (at-entry .args .nu .now)) 1120 _ _ (omega (arith, p)) (at-copy .copy .ensures .after);

@@ -8,8 +8,8 @@ of-free-rows-spec =
     tie.close
     (tie.spec
     (λ c κs. c .before .before .before .before .before .before .before .before .before .pre)
-    (λ c. c .before .before .of-3-or-more .kept .1 .1 .1 .1 .1 .1 .0)
-    (λ c. c .before .before .of-3-or-more .ensures)
+    (λ c. c .before .before .in-medium .kept .1 .1 .1 .1 .1 .1 .0)
+    (λ c. c .before .before .in-medium .ensures)
     (λ c. refl)
     (λ c. refl)
     (λ c. refl)

@@ -16,7 +16,7 @@ stop c =
     let v = c .before in
     let s = v .before .before .before .before in
     let l = s .before .before .before .before in
-    collect-stop _ _ _ _ _ _ (l .loop .inv .4) (v .verdict .ensures) (v .before .state .ensures) (s .size .ensures) (s .before .before .at .ensures) (s .before .at2 .ensures)
+    collect-stop _ _ _ _ _ _ (l .loop .inv .4) (v .verdict .ensures) (v .before .state .ensures) (s .size-of .ensures) (s .before .before .at .ensures) (s .before .at2 .ensures)
     (v .before .before .before .at3 .ensures) (v .before .before .at4 .ensures) (c .if1 .taken) (omega arith)
 
 loop-again : tie.Need-loop-again Inv-loop μ-loop
@@ -27,9 +27,14 @@ loop-again c =
     let v = b .before in
     let s = v .before .before .before .before in
     let l = s .before .before .before .before in
-    let i = l .loop .inv in
-    (omega arith, i .1, omega arith, k .taken .kept .1 .1 .1 .0 ∙ i .3, collect-again _ _ _ _ _ _ (i .4) (v .verdict .ensures) (v .before .state .ensures) (s .size .ensures) (s .before .before .at .ensures) (s .before .at2 .ensures)
-    (v .before .before .before .at3 .ensures) (v .before .before .at4 .ensures) (s .before .before .before .loop-test .taken) (i .2) (b .if1 .left) (k .taken .ensures .count) (f .farther .ensures) (k .taken .ensures .listed))
+    let i = l .loop .inv in (
+      omega arith,
+      i .1,
+      omega arith,
+      k .taken .kept .1 .1 .1 .0 ∙ i .3,
+      collect-again _ _ _ _ _ _ (i .4) (v .verdict .ensures) (v .before .state .ensures) (s .size-of .ensures) (s .before .before .at .ensures) (s .before .at2 .ensures)
+          (v .before .before .before .at3 .ensures) (v .before .before .at4 .ensures) (s .before .before .before .loop-test .taken) (i .2) (b .if1 .left) (k .taken .ensures .count) (f .farther .ensures) (k .taken .ensures .listed),
+    )
 
 pub collect-spec : {M : Type 1} → this.Statement.statement M
 collect-spec =

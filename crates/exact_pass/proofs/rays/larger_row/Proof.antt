@@ -14,4 +14,4 @@ larger-row-spec =
     (λ c κs. omega arith)
     (λ c κs. tt)
     (λ c κs. tt)
-    (λ c. rw (← c .before .before .before .before .before .state .ensures, ne-eqb _ _ (c .before .before .before .before .if1 .left)) (rw (c .larger .ensures, c .before .size .ensures, c .before .before .at2 .ensures, c .before .before .before .at .ensures))))
+    (λ c. rw (← c .before .before .before .before .before .state .ensures, ne-eqb _ _ (c .before .before .before .before .if1 .left)) (rw (c .larger .ensures, c .before .size-of .ensures, c .before .before .at2 .ensures, c .before .before .before .at .ensures))))

@@ -7,7 +7,7 @@ use this.Tie as tie
 falls-requires : tie.Need-falls-requires
 falls-requires c κs =
     let fit = c .before .before .before .before .before .before .before .before .before .before .before .before .before .before .pre .rows in
-    record { square = rw (fit .values) (fit .sized .0, fit .sized .1); motions = omega arith; below = search needs }
+    record { square = rw (fit .values) (fit .sized .0, fit .sized .1); free-motion = omega arith; below = search needs }
 
 pub ray-spec : {M : Type 1} → this.Statement.statement M
 ray-spec =

@@ -10,7 +10,7 @@ Inv-loop w u-free lo hi scale states₀ nu₀ rows₀ work₀ _ most marks₀ m�
     Going (box.problem w u-free lo hi scale) most (now states₀ nu₀ rows₀ work₀ marks₀ m₀) (now states nu rows work marks m)
 
 abbrev μ-loop : tie.MeasureT-loop
-μ-loop _ _ _ _ _ _ _ _ _ _ _ _ _ _ _ _ _ _ m = m .left
+μ-loop _ _ _ _ _ _ _ _ _ _ _ _ _ _ _ _ _ _ m = m .remaining
 
 -- where the facts are that a place of the loop has from before it
 abbrev entry : tie.After-start Inv-loop μ-loop → tie.Start Inv-loop μ-loop
@@ -68,7 +68,7 @@ after-step-requires c κs =
     omega (arith, stepped-marks at-step, at-step .before .before .before .before .before .if1 .taken, to-loop at-step .loop .inv)
 
 loop-less : tie.Need-loop-less Inv-loop μ-loop
-loop-less c = omega (arith, c .before .before .before .after-step .ensures .left .fewer, c .before .before .before .before .before .before .before .before .before .before .before .before .before .before .before .before .before .before .before .before .before .before .before .if1 .taken)
+loop-less c = omega (arith, c .before .before .before .after-step .ensures .remaining .fewer, c .before .before .before .before .before .before .before .before .before .before .before .before .before .before .before .before .before .before .before .before .before .before .before .if1 .taken)
 
 loop-again : tie.Need-loop-again Inv-loop μ-loop
 loop-again c =

@@ -23,7 +23,7 @@ right-hand-side-spec =
     (tie.spec
     Inv-loop
     μ-loop
-    (λ c κs. let p = c .before .before .before .before .before .before .before .pre in rw (p .motions) (p .listed))
+    (λ c κs. let p = c .before .before .before .before .before .before .before .pre in rw (p .free-motion) (p .listed))
     (λ c. (search needs, search needs, search needs, columns-start _ _ _ _ _ _ _ (c .before .before .right-hand-start .ensures)))
     (λ c κs. search needs)
     (λ c κs. search needs)

@@ -1,5 +1,5 @@
-use Rattle.exact_pass.specs.Private as private
-use Rattle.exact_pass.proofs.ratio.nearer as this
+use Rattle.box_rows.specs.Private as private
+use Rattle.box_rows.proofs.nearer as this
 use this.Tie as tie
 
 returns : tie.Need-returns

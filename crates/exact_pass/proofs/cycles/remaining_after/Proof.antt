@@ -1,11 +1,11 @@
 use Rattle.loops.proofs.Common.{refl, arith, needs}
 use native.Mathlib.Nat.{mod-le}
 use Rattle.exact_pass.proofs.Periods.{left-is}
-use Rattle.exact_pass.proofs.cycles.left_after as this
+use Rattle.exact_pass.proofs.cycles.remaining_after as this
 use this.Tie as tie
 
-pub left-after-spec : {M : Type 1} → this.Statement.statement M
-left-after-spec =
+pub remaining-after-spec : {M : Type 1} → this.Statement.statement M
+remaining-after-spec =
     tie.close
     (tie.spec
     (λ c κs. search needs)

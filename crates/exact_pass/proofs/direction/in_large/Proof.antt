@@ -1,10 +1,10 @@
 use mathlib.Core.Path.{refl}
 use Rattle.exact_pass.proofs.Lent.{scratch}
-use Rattle.exact_pass.proofs.direction.of_9_or_more as this
+use Rattle.exact_pass.proofs.direction.in_large as this
 use this.Tie as tie
 
-pub of-9-or-more-spec : {M : Type 1} → this.Statement.statement M
-of-9-or-more-spec =
+pub in-large-spec : {M : Type 1} → this.Statement.statement M
+in-large-spec =
     tie.close
     (tie.spec
     (λ c. refl)

@@ -1,15 +1,15 @@
 use mathlib.Core.Path.{refl}
 use Rattle.exact_pass.proofs.Lent.{scratch}
-use Rattle.exact_pass.proofs.direction.of_3_or_more as this
+use Rattle.exact_pass.proofs.direction.in_medium as this
 use this.Tie as tie
 
-pub of-3-or-more-spec : {M : Type 1} → this.Statement.statement M
-of-3-or-more-spec =
+pub in-medium-spec : {M : Type 1} → this.Statement.statement M
+in-medium-spec =
     tie.close
     (tie.spec
     (λ c κs. c .before .before .before .before .before .before .before .before .before .pre)
-    (λ c. c .before .before .of-9-or-more .kept .1 .1 .1 .1 .1 .1 .0)
-    (λ c. c .before .before .of-9-or-more .ensures)
+    (λ c. c .before .before .in-large .kept .1 .1 .1 .1 .1 .1 .0)
+    (λ c. c .before .before .in-large .ensures)
     (λ c. refl)
     (λ c. refl)
     (λ c. refl)

@@ -1,5 +1,5 @@
 use borrow.Author.Tests.{eq-eqb, ne-eqb}
-use Rattle.exact_pass.proofs.start.placed as this
+use Rattle.box_rows.proofs.placed as this
 use this.Tie as tie
 
 pub placed-spec : {M : Type 1} → this.Statement.statement M

@@ -1,6 +1,6 @@
 use Rattle.floats.proofs.Infinity.{infinity-is, neg-infinity-is}
-use Rattle.exact_pass.specs.Walk.{grows}
-use Rattle.exact_pass.proofs.rays.grows as this
+use Rattle.box_rows.specs.Rows.{grows}
+use Rattle.box_rows.proofs.grows as this
 use this.Tie as tie
 
 pub grows-spec : {M : Type 1} → this.Statement.statement M
