@@ -6,11 +6,6 @@ use this.Tie as tie
 abbrev to-run : tie.After-slice-known8 → tie.After-run
 to-run c = c .before .before .before .before .before .before .before .before
 
-returns : tie.Need-returns
-returns c =
-    let at-if1 = to-run c .before .before .before .before .before in
-    left-passed _ _ _ _ _ _ (at-if1 .before .fits2 .ensures) _ _ _ _ _ (at-if1 .if1 .taken) (to-run c .run .ensures)
-
 pub exact-pass-spec : {M : Type 1} → this.Statement.statement M
 exact-pass-spec =
     tie.close
@@ -21,5 +16,7 @@ exact-pass-spec =
     (λ c. to-run c .run .kept .1 .1 .1 .1 .1 .1 .0)
     (λ c. to-run c .run .kept .1 .1 .1 .1 .1 .1 .1 .0)
     (λ c. to-run c .run .kept .1 .1 .1 .1 .1 .1 .1 .1 .0)
-    returns
+    (λ c.
+    let at-if1 = to-run c .before .before .before .before .before in
+    left-passed _ _ _ _ _ _ (at-if1 .before .fits2 .ensures) _ _ _ _ _ (at-if1 .if1 .taken) (to-run c .run .ensures))
     (λ c. left-unfit _ _ _ _ _ _ (c .before .fits2 .ensures) (c .if1 .left)))

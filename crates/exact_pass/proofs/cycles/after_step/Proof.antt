@@ -4,11 +4,6 @@ use Rattle.exact_pass.proofs.Running.{marked-new}
 use Rattle.exact_pass.proofs.cycles.after_step as this
 use this.Tie as tie
 
-returns : tie.Need-returns
-returns c =
-    let p = c .before .before .before .before .before .before .before .before .before .before .before .pre in
-    record { round = λ s h. h; remaining = c .before .before .remaining-after .ensures; since = omega arith; span = p .span; beyond = refl }
-
 returns-2 : tie.Need-returns-2
 returns-2 c =
     let at-copy = c .before .before .before .before .before .before .before in
@@ -31,7 +26,9 @@ after-step-spec =
     (λ c κs. omega arith)
     (λ c. omega arith)
     (λ c. omega arith)
-    returns
+    (λ c.
+    let p = c .before .before .before .before .before .before .before .before .before .before .before .pre in
+    record { round = λ s h. h; remaining = c .before .before .remaining-after .ensures; since = omega arith; span = p .span; beyond = refl })
     (λ c κs. omega arith)
     (λ c κs. omega arith)
     (λ c. omega arith)

@@ -10,17 +10,6 @@ Inv-loop states marks₀ n _ marks i = (i ≤ n) × (n ≡ length states) × (le
 abbrev μ-loop : tie.MeasureT-loop
 μ-loop _ _ n _ _ i = n - i
 
-loop-again : tie.Need-loop-again Inv-loop μ-loop
-loop-again c =
-    let l = c .before .before .before .before .before .before .loop in
-    (search needs, search needs, search needs, front-again _ _ (l .i) 0 (l .marks) _ (l .inv .3) (omega arith) (rw (c .before .before .put-state .ensures, c .before .before .before .state .ensures)))
-
-returns : tie.Need-returns Inv-loop μ-loop
-returns c =
-    let at-loop = c .before in
-    let l = at-loop .loop in
-    rw (front-done _ _ (l .i) (l .marks) (l .inv .3) (omega arith)) (front-read _ _ _ refl (at-loop .before .before .before .pre))
-
 pub mark-states-spec : {M : Type 1} → this.Statement.statement M
 mark-states-spec =
     tie.close
@@ -32,6 +21,11 @@ mark-states-spec =
     (λ c κs. omega arith)
     (λ c. omega arith)
     (λ c. omega arith)
-    loop-again
+    (λ c.
+    let l = c .before .before .before .before .before .before .loop in
+    (search needs, search needs, search needs, front-again _ _ (l .i) 0 (l .marks) _ (l .inv .3) (omega arith) (rw (c .before .before .put-state .ensures, c .before .before .before .state .ensures))))
     (λ c. omega arith)
-    returns)
+    (λ c.
+    let at-loop = c .before in
+    let l = at-loop .loop in
+    rw (front-done _ _ (l .i) (l .marks) (l .inv .3) (omega arith)) (front-read _ _ _ refl (at-loop .before .before .before .pre))))

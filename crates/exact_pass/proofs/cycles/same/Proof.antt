@@ -5,12 +5,6 @@ use mathlib.Core.Path.{sym, _∙_}
 use Rattle.exact_pass.proofs.cycles.same as this
 use this.Tie as tie
 
-returns-3 : tie.Need-returns-3
-returns-3 c =
-    let at-args = c .before .before in
-    let at-good = at-args in
-    λ h. same-bits (at-args .args .x) (at-args .args .y) (at-good .good .0 .1) (at-good .good .1 .0 .1) (eqb-true _ _ h)
-
 pub same-spec : {M : Type 1} → this.Statement.statement M
 same-spec =
     tie.close (tie.spec
@@ -18,4 +12,7 @@ same-spec =
     (λ c. λ h. absurd (true≢false (sym h)))
     (λ c. has-bits _ (c .before .if1 .left))
     (λ c. has-bits _ (c .if2 .left))
-    returns-3)
+    (λ c.
+    let at-args = c .before .before in
+    let at-good = at-args in
+    λ h. same-bits (at-args .args .x) (at-args .args .y) (at-good .good .0 .1) (at-good .good .1 .0 .1) (eqb-true _ _ h)))

@@ -30,16 +30,6 @@ loop-again c =
       same-more 0 (a .states .now) (take n (a .marks .now)) i (at-loop .loop .inv .3) (sym (at-if1 .before .state2 .ensures) ∙ sym (at-if1 .if1 .left) ∙ at-if1 .before .before .state .ensures ∙ sym (getD-take n (a .marks .now) i 0 (omega arith))),
     )
 
-returns-3 : tie.Need-returns-3 Inv-loop μ-loop
-returns-3 c =
-    let l = c .before .loop in
-    let at-entry = c .before .before .before .before .before .before in
-    let p = at-entry .pre in
-    let work = at-entry .args .work .now in
-    λ h. same-trials
-    (same-lists nan _ _ (l .i) (omega (arith, l .inv .0, l .inv .1, c .loop-test .left)) (sym (length-take-le _ _ (omega (arith, length-drop 1088 work, p)))) (l .inv .2))
-    (same-lists 0 _ _ (l .i) (omega (arith, l .inv .0, l .inv .1, c .loop-test .left, p .states)) (p .states ∙ sym (length-take-le _ _ (p .long))) (l .inv .3))
-
 pub same-trial-spec : {M : Type 1} → this.Statement.statement M
 same-trial-spec =
     tie.close
@@ -58,4 +48,11 @@ same-trial-spec =
     (λ c. omega arith)
     (λ c. omega arith)
     loop-again
-    returns-3)
+    (λ c.
+    let l = c .before .loop in
+    let at-entry = c .before .before .before .before .before .before in
+    let p = at-entry .pre in
+    let work = at-entry .args .work .now in
+    λ h. same-trials
+    (same-lists nan _ _ (l .i) (omega (arith, l .inv .0, l .inv .1, c .loop-test .left)) (sym (length-take-le _ _ (omega (arith, length-drop 1088 work, p)))) (l .inv .2))
+    (same-lists 0 _ _ (l .i) (omega (arith, l .inv .0, l .inv .1, c .loop-test .left, p .states)) (p .states ∙ sym (length-take-le _ _ (p .long))) (l .inv .3))))

@@ -13,30 +13,14 @@ Inv-loop _ scale free z nu y₀ k _ y i = (i ≤ k) × (k ≡ length free) × (l
 abbrev μ-loop : tie.MeasureT-loop
 μ-loop _ _ _ _ _ _ k _ _ i = k - i
 
-returns : tie.Need-returns Inv-loop μ-loop
-unfolding pass.direction
-returns c = rw (c .if1 .taken)
-
-loop-again : tie.Need-loop-again Inv-loop μ-loop
-loop-again c =
-    let l = c .before .before .before .before .before .before .before .before .before .loop in
-    (search needs, search needs, search needs, rw (c .before .before .put .ensures, c .before .before .before .at3 .ensures, c .before .before .before .before .at2 .ensures, c .before .before .before .before .before .at .ensures, c .before .before .before .before .before .before .before .row-number .ensures) (tab-again _ _ _ _ (l .inv .3) (l .inv .2) (omega arith)))
-
-returns-2 : tie.Need-returns-2 Inv-loop μ-loop
-unfolding pass.direction
-returns-2 c =
-    let at-loop = c .before in
-    let at-if1 = at-loop .before in
-    let at-pre = at-if1 .before .before .before .before .before .before in
-    rw (at-if1 .if1 .left) (tab-filled _ _ _ _ _ (at-loop .loop .inv .3) (at-loop .loop .inv .2) (at-pre .pre .listed .long) (omega arith) (omega arith))
-
 pub direction-spec : {M : Type 1} → this.Statement.statement M
+unfolding pass.direction
 direction-spec =
     tie.close
     (tie.spec
     Inv-loop
     μ-loop
-    returns
+    (λ c. rw (c .if1 .taken))
     (λ c. (search needs, search needs, search needs, tab-start _ _))
     (λ c κs. omega arith)
     (λ c κs. search (free-row, needs))
@@ -45,6 +29,12 @@ direction-spec =
     (λ c κs. omega arith)
     (λ c. omega arith)
     (λ c. omega arith)
-    loop-again
+    (λ c.
+    let l = c .before .before .before .before .before .before .before .before .before .loop in
+    (search needs, search needs, search needs, rw (c .before .before .put .ensures, c .before .before .before .at3 .ensures, c .before .before .before .before .at2 .ensures, c .before .before .before .before .before .at .ensures, c .before .before .before .before .before .before .before .row-number .ensures) (tab-again _ _ _ _ (l .inv .3) (l .inv .2) (omega arith))))
     (λ c. omega arith)
-    returns-2)
+    (λ c.
+    let at-loop = c .before in
+    let at-if1 = at-loop .before in
+    let at-pre = at-if1 .before .before .before .before .before .before in
+    rw (at-if1 .if1 .left) (tab-filled _ _ _ _ _ (at-loop .loop .inv .3) (at-loop .loop .inv .2) (at-pre .pre .listed .long) (omega arith) (omega arith))))

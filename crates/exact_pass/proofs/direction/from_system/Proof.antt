@@ -41,15 +41,19 @@ solved-long c = c .solve .kept .1 .0 ∙ side-long (to-side (to-copy (to-matrix 
 long : (c : tie.After-direction) → length (c .direction .last .1 .1 .1 .1 .1 .0) ≡ length (start (to-solve (to-residual c)) .args .free .now)
 long c = let r = to-residual c in c .direction .kept .1 .1 .1 .1 .1 .0 ∙ r .residual .kept .1 .1 .1 .1 .1 .0 ∙ solved-long (to-solve r)
 
-solve-requires : tie.Need-solve-requires
-solve-requires c κs =
+pub from-system-spec : {M : Type 1} → this.Statement.statement M
+from-system-spec =
+    tie.close
+    (tie.spec
+    (λ c κs. search needs)
+    (λ c κs. let s = c .before .before .before .before in let p = entry s .pre .system in omega (arith, side-long s, p .few, p .workspace))
+    (λ c κs. let p = entry (to-side (c .before .before .before)) .pre in rw (p .system .scales) (record { square = p .system .square; below = p .system .below; few = p .system .few; matrix = p .matrix }))
+    (λ c κs.
     let m = c .before .before .before .before .before .before in
     let side = to-side (to-copy m) in
     let p = entry side .pre in
-    rw (side-long side) (record { few = p .system .few; matrix = m .matrix .kept .1 .1 .1 .0 ∙ p .matrix; solution = p .solution; workspace = omega (arith, to-copy m .copy .kept .1 .0, p .system .workspace) })
-
-residual-requires : tie.Need-residual-requires
-residual-requires c κs =
+    rw (side-long side) (record { few = p .system .few; matrix = m .matrix .kept .1 .1 .1 .0 ∙ p .matrix; solution = p .solution; workspace = omega (arith, to-copy m .copy .kept .1 .0, p .system .workspace) }))
+    (λ c κs.
     let s = c .before .before .before .before .before .before .before .before .before .before .before in
     let p = start s .pre in
     rw (p .system .scales) (record {
@@ -58,36 +62,20 @@ residual-requires c κs =
       few = p .system .few;
       direction = solved-long s;
       workspace = omega (arith, work-long s, p .system .workspace);
-    })
-
-direction-requires : tie.Need-direction-requires
-direction-requires c κs =
+    }))
+    (λ c κs.
     let r = c .before .before .before .before in
     let s = to-solve r in
-    direction-lent (start s .pre) (r .residual .kept .1 .1 .1 .1 .1 .0 ∙ solved-long s) (s .solve .kept .1 .1 .0)
-
-returns : tie.Need-returns
-returns c =
-    let d = to-direction c in
-    let r = to-residual d in
-    let s = to-solve r in
-    let m = to-matrix s in
-    directed-run _ _ _ _ _ _ _ _ _ _
-    (to-side (to-copy m) .right-hand-side .ensures) (to-copy m .copy .ensures) (start s .pre .system .few) _ _ (s .solve .ensures) _ _ (m .matrix .ensures) (r .residual .ensures) _ _ (d .direction .ensures) (c .before .before .copy2 .ensures) (long d)
-
-pub from-system-spec : {M : Type 1} → this.Statement.statement M
-from-system-spec =
-    tie.close
-    (tie.spec
-    (λ c κs. search needs)
-    (λ c κs. let s = c .before .before .before .before in let p = entry s .pre .system in omega (arith, side-long s, p .few, p .workspace))
-    (λ c κs. let p = entry (to-side (c .before .before .before)) .pre in rw (p .system .scales) (record { square = p .system .square; below = p .system .below; few = p .system .few; matrix = p .matrix }))
-    solve-requires
-    residual-requires
-    direction-requires
+    direction-lent (start s .pre) (r .residual .kept .1 .1 .1 .1 .1 .0 ∙ solved-long s) (s .solve .kept .1 .1 .0))
     (λ c κs. let d = c .before .before .before .before in let s = to-solve (to-residual d) in let p = start s .pre .system in omega (arith, long d, work-long s, p .few, p .workspace))
     (λ c. let s = to-solve (to-residual (to-direction c)) in s .solve .kept .0 ∙ to-matrix s .matrix .kept .1 .1 .1 .0)
     (λ c. let d = to-direction c in omega (arith, long d, start (to-solve (to-residual d)) .pre .direction))
     (λ c. to-solve (to-residual (to-direction c)) .solve .kept .1 .1 .0)
     (λ c. c .before .before .copy2 .kept .1 .0 ∙ work-long (to-solve (to-residual (to-direction c))))
-    returns)
+    (λ c.
+    let d = to-direction c in
+    let r = to-residual d in
+    let s = to-solve r in
+    let m = to-matrix s in
+    directed-run _ _ _ _ _ _ _ _ _ _
+    (to-side (to-copy m) .right-hand-side .ensures) (to-copy m .copy .ensures) (start s .pre .system .few) _ _ (s .solve .ensures) _ _ (m .matrix .ensures) (r .residual .ensures) _ _ (d .direction .ensures) (c .before .before .copy2 .ensures) (long d)))

@@ -12,13 +12,6 @@ Inv-loop states free₀ n _ _ free k i = (i ≤ n) × (n ≡ length states) × (
 abbrev μ-loop : tie.MeasureT-loop
 μ-loop _ _ n _ _ _ _ i = n - i
 
-loop-again : tie.Need-loop-again Inv-loop μ-loop
-loop-again c =
-    let at-free-row = c .before .before in
-    let at-state = at-free-row .before .before in
-    let noted = rw (at-state .state .ensures) at (at-free-row .free-row .ensures) in
-    (search needs, search needs, search needs, gather-again _ _ _ _ _ _ _ (at-state .before .before .loop .inv .3) (noted .count) (noted .listed))
-
 pub free-rows-spec : {M : Type 1} → this.Statement.statement M
 free-rows-spec =
     tie.close
@@ -30,6 +23,10 @@ free-rows-spec =
     (λ c κs. omega (arith, gather-le _ _ _ _ _ (c .before .before .before .loop .inv .3)))
     (λ c. omega arith)
     (λ c. omega arith)
-    loop-again
+    (λ c.
+    let at-free-row = c .before .before in
+    let at-state = at-free-row .before .before in
+    let noted = rw (at-state .state .ensures) at (at-free-row .free-row .ensures) in
+    (search needs, search needs, search needs, gather-again _ _ _ _ _ _ _ (at-state .before .before .loop .inv .3) (noted .count) (noted .listed)))
     (λ c. omega arith)
     (λ c. free-done _ _ (c .before .loop .i) _ _ _ (omega arith) (omega arith) (omega arith) (c .before .loop .inv .3)))

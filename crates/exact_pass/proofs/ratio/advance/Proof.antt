@@ -11,32 +11,21 @@ Inv-loop free y alpha nu₀ k _ nu i = (i ≤ k) × (k ≡ length free) × (leng
 abbrev μ-loop : tie.MeasureT-loop
 μ-loop _ _ _ _ k _ _ i = k - i
 
-loop-holds : tie.Need-loop-holds Inv-loop μ-loop
-unfolding pass.advance
-loop-holds c = search (turns-from, needs)
-
-loop-again : tie.Need-loop-again Inv-loop μ-loop
-unfolding pass.advance
-loop-again c =
-    (search needs, search needs, search needs, turns-again _ _ _ _ _ (c .before .before .before .before .before .before .before .before .before .loop .inv .3) (rw (c .before .before .put .ensures, c .before .before .before .at2 .ensures, c .before .before .before .before .at .ensures, c .before .before .before .before .before .before .before .row-number .ensures)))
-
-returns : tie.Need-returns Inv-loop μ-loop
-unfolding pass.advance
-returns c = search (turns-done, needs)
-
 pub advance-spec : {M : Type 1} → this.Statement.statement M
+unfolding pass.advance
 advance-spec =
     tie.close
     (tie.spec
     Inv-loop
     μ-loop
-    loop-holds
+    (λ c. search (turns-from, needs))
     (λ c κs. omega arith)
     (λ c κs. search (free-row, needs))
     (λ c κs. omega arith)
     (λ c κs. search (free-row, needs))
     (λ c. omega arith)
     (λ c. omega arith)
-    loop-again
+    (λ c.
+    (search needs, search needs, search needs, turns-again _ _ _ _ _ (c .before .before .before .before .before .before .before .before .before .loop .inv .3) (rw (c .before .before .put .ensures, c .before .before .before .at2 .ensures, c .before .before .before .before .at .ensures, c .before .before .before .before .before .before .before .row-number .ensures))))
     (λ c. search needs)
-    returns)
+    (λ c. search (turns-done, needs)))

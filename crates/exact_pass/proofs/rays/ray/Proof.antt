@@ -4,11 +4,6 @@ use Rattle.exact_pass.proofs.Collecting.{ray-zero, ray-found, ray-not}
 use Rattle.exact_pass.proofs.rays.ray as this
 use this.Tie as tie
 
-falls-requires : tie.Need-falls-requires
-falls-requires c κs =
-    let fit = c .before .before .before .before .before .before .before .before .before .before .before .before .before .before .pre .rows in
-    record { square = rw (fit .values) (fit .sized .0, fit .sized .1); free-motion = omega arith; below = search needs }
-
 pub ray-spec : {M : Type 1} → this.Statement.statement M
 ray-spec =
     tie.close
@@ -19,7 +14,9 @@ ray-spec =
     (λ c κs. omega arith)
     (λ c. omega arith)
     (λ c. simp length-take (omega arith))
-    falls-requires
+    (λ c κs.
+    let fit = c .before .before .before .before .before .before .before .before .before .before .before .before .before .before .pre .rows in
+    record { square = rw (fit .values) (fit .sized .0, fit .sized .1); free-motion = omega arith; below = search needs })
     (λ c κs. simp length-take (omega arith))
     (λ c. omega arith)
     (λ c. search (ray-found, needs))

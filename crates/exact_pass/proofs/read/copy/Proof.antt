@@ -10,24 +10,6 @@ Inv-loop from to₀ a n _ to i = (i ≤ n) × (n ≡ length from) × (length to 
 abbrev μ-loop : tie.MeasureT-loop
 μ-loop _ _ _ n _ _ i = n - i
 
-loop-again : tie.Need-loop-again Inv-loop μ-loop
-loop-again c =
-    let at-loop = c .before .before .before .before .before .before in
-    let l = at-loop .loop in
-    let a = at-loop .before .before .before .args in
-    (search needs, search needs, search needs, copy-again (a .from .now) (a .a) (a .to .now) nan (l .i) (l .to) _ (l .inv .3) (omega arith) (omega arith) (rw (c .before .before .put .ensures, c .before .before .before .at .ensures)))
-
-returns : tie.Need-returns Inv-loop μ-loop
-returns c =
-    let at-loop = c .before in
-    let l = at-loop .loop in
-    let a = at-loop .before .before .before .args in
-    record {
-      part = copy-part (a .from .now) (a .a) (a .to .now) (l .to) (l .i) (l .inv .3) (omega arith) (omega arith) (omega arith);
-      after = copy-after (a .from .now) (a .a) (a .to .now) (l .to) (l .i)
-          (l .inv .3) (omega arith) (omega arith) (omega arith);
-    }
-
 pub copy-spec : {M : Type 1} → this.Statement.statement M
 copy-spec =
     tie.close
@@ -40,6 +22,18 @@ copy-spec =
     (λ c κs. omega arith)
     (λ c. omega arith)
     (λ c. omega arith)
-    loop-again
+    (λ c.
+    let at-loop = c .before .before .before .before .before .before in
+    let l = at-loop .loop in
+    let a = at-loop .before .before .before .args in
+    (search needs, search needs, search needs, copy-again (a .from .now) (a .a) (a .to .now) nan (l .i) (l .to) _ (l .inv .3) (omega arith) (omega arith) (rw (c .before .before .put .ensures, c .before .before .before .at .ensures))))
     (λ c. omega arith)
-    returns)
+    (λ c.
+    let at-loop = c .before in
+    let l = at-loop .loop in
+    let a = at-loop .before .before .before .args in
+    record {
+      part = copy-part (a .from .now) (a .a) (a .to .now) (l .to) (l .i) (l .inv .3) (omega arith) (omega arith) (omega arith);
+      after = copy-after (a .from .now) (a .a) (a .to .now) (l .to) (l .i)
+          (l .inv .3) (omega arith) (omega arith) (omega arith);
+    }))

@@ -4,12 +4,6 @@ use Rattle.loops.proofs.Common.{refl, arith, needs}
 use Rattle.exact_pass.proofs.release.release as this
 use this.Tie as tie
 
-put-state-requires : tie.Need-put-state-requires
-put-state-requires c κs =
-    let s = c .before .before .before .before .before .before .before .before .before .before .before in
-    let a = s .args in
-    release-fits (box.problem (a .w .now) (a .u-free .now) (a .lo .now) (a .hi .now) (a .scale .now)) (a .nu .now) (a .states .now) (c .before .before .worst-row .ensures) (s .pre .values) (c .before .if1 .left) (s .pre .states)
-
 pub release-spec : {M : Type 1} → this.Statement.statement M
 release-spec =
     tie.close
@@ -17,6 +11,9 @@ release-spec =
     (λ c κs. omega arith)
     (λ c. refl)
     (λ c. search (release-found, needs))
-    put-state-requires
+    (λ c κs.
+    let s = c .before .before .before .before .before .before .before .before .before .before .before in
+    let a = s .args in
+    release-fits (box.problem (a .w .now) (a .u-free .now) (a .lo .now) (a .hi .now) (a .scale .now)) (a .nu .now) (a .states .now) (c .before .before .worst-row .ensures) (s .pre .values) (c .before .if1 .left) (s .pre .states))
     (λ c. omega arith)
     (λ c. search (release-moved, needs)))

@@ -9,13 +9,6 @@ Inv-loop lo hi scale states₀ nu₀ n _ _ states nu acting i = (i ≤ n) × (le
 abbrev μ-loop : tie.MeasureT-loop
 μ-loop _ _ _ _ _ n _ _ _ _ _ i = n - i
 
-loop-again : tie.Need-loop-again Inv-loop μ-loop
-loop-again c =
-    let s = c .before .before .before .before in
-    let i = s .before .before .before .before .loop .inv in
-    let kept = s .start-row .kept .1 .1 .1 in
-    (omega arith, kept .1 .0 ∙ i .1, kept .0 ∙ i .2, i .3, start-again _ _ _ _ _ (i .4) (s .start-row .ensures))
-
 pub start-spec : {M : Type 1} → this.Statement.statement M
 start-spec =
     tie.close
@@ -26,7 +19,11 @@ start-spec =
     (λ c κs. omega arith)
     (λ c. omega arith)
     (λ c. omega arith)
-    loop-again
+    (λ c.
+    let s = c .before .before .before .before in
+    let i = s .before .before .before .before .loop .inv in
+    let kept = s .start-row .kept .1 .1 .1 in
+    (omega arith, kept .1 .0 ∙ i .1, kept .0 ∙ i .2, i .3, start-again _ _ _ _ _ (i .4) (s .start-row .ensures)))
     (λ c. c .before .loop .inv .2)
     (λ c. c .before .loop .inv .1)
     (λ c. let i = c .before .loop .inv in start-done _ _ _ _ _ (i .4) (i .0) (c .loop-test .left) (i .3)))

@@ -9,16 +9,6 @@ entry c = c .before .before .before .before .before .before .before .before .bef
 abbrev to-at : tie.After-placed → tie.After-at-arg
 to-at c = c .before .before .before .before .before .before .before .before .before .before .before
 
-returns-2 : tie.Need-returns-2
-returns-2 c =
-    let p = c .before .before .before in
-    let q = p .before .before .before .before in
-    let o = q .before .before in
-    let b = o .before .before .before .before .before .before in
-    let l = entry (to-at p) in
-    row-started _ _ _ _ _ _ _ (l .pre .count) (b .before .state .ensures) (b .if1 .left) (o .before .before .before .before .at .ensures) (o .before .before .before .at2 .ensures)
-    (o .before .before .at3 .ensures) (o .before .at4 .ensures) (o .state-of .ensures) (q .put-state .ensures) (p .placed .ensures) (c .before .before .put .ensures)
-
 pub start-row-spec : {M : Type 1} → this.Statement.statement M
 start-row-spec =
     tie.close
@@ -37,4 +27,11 @@ start-row-spec =
     (λ c. omega (arith, c .before .before))
     (λ c. c .before .before .before .before .before .before .before .put-state .kept .0)
     (λ c. c .before .before .put .kept .0)
-    returns-2)
+    (λ c.
+    let p = c .before .before .before in
+    let q = p .before .before .before .before in
+    let o = q .before .before in
+    let b = o .before .before .before .before .before .before in
+    let l = entry (to-at p) in
+    row-started _ _ _ _ _ _ _ (l .pre .count) (b .before .state .ensures) (b .if1 .left) (o .before .before .before .before .at .ensures) (o .before .before .before .at2 .ensures)
+    (o .before .before .at3 .ensures) (o .before .at4 .ensures) (o .state-of .ensures) (q .put-state .ensures) (p .placed .ensures) (c .before .before .put .ensures)))

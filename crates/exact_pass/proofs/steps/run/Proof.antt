@@ -34,55 +34,8 @@ began c = entry (to-start (to-copy c))
 most-fits : (c : tie.After-start Inv-loop μ-loop) → 8 * c .start .result + 8 ≤ 264
 most-fits c = omega (arith, c .start .ensures .within, entry c .pre)
 
-copy-requires : tie.Need-copy-requires Inv-loop μ-loop
-copy-requires c κs =
-    let s = c .before .before .before .before .before .before in
-    omega (arith, s .start .kept, entry s .pre)
-
-mark-states-requires : tie.Need-mark-states-requires Inv-loop μ-loop
-mark-states-requires c κs =
-    let s = c .before .before .before .before .before .before .before .before .before .before .before in
-    omega (arith, s .start .kept, entry s .pre)
-
-loop-holds : tie.Need-loop-holds Inv-loop μ-loop
-loop-holds c =
-    let at-copy = c .before .before .before .before .before .before in
-    let at-start = to-start at-copy in
-    let kept = at-start .start .kept in
-    going-start (entry at-start .pre) (kept .1 .1 .1 .0) (kept .1 .1 .1 .1 .0) (at-copy .copy .kept .1 .0) (at-copy .copy .ensures) (c .before .mark-states .ensures) (omega (arith, c .before .mark-states .kept)) (most-fits at-start)
-
-returns : tie.Need-returns Inv-loop μ-loop
-returns c =
-    let at-step = to-step c in
-    let at-copy = to-copy (to-loop at-step) in
-    let at-start = to-start at-copy in
-    pass-ran (entry at-start .pre) (at-start .start .ensures) (at-start .start .kept .1 .1 .1 .1 .0) (at-copy .copy .ensures)
-    (going-ended (to-loop at-step .loop .inv) (at-step .step .ensures) (at-step .before .before .before .before .before .if1 .taken) (sym (c .before .ended .ensures) ∙ c .if2 .taken))
-
 stepped-marks : (c : tie.After-step Inv-loop μ-loop) → private.MarksLent (length (c .step .last .1 .1 .1 .1 .1 .1 .0)) (c .step .last .1 .1 .1 .1 .1 .0) (c .step .last .1 .1 .1 .1 .1 .1 .1 .1 .0) (to-loop c .loop .marks)
 stepped-marks c = let kept = c .step .kept .1 .1 .1 .1 .1 in marks-lent (to-loop c .loop .inv) (kept .0) (kept .1 .0) (kept .1 .1 .1 .0)
-
-after-step-requires : tie.Need-after-step-requires Inv-loop μ-loop
-after-step-requires c κs =
-    let at-step = c .before .before .before .before .before .before .before .before .before .before .before .before .before .before in
-    omega (arith, stepped-marks at-step, at-step .before .before .before .before .before .if1 .taken, to-loop at-step .loop .inv)
-
-loop-less : tie.Need-loop-less Inv-loop μ-loop
-loop-less c = omega (arith, c .before .before .before .after-step .ensures .remaining .fewer, c .before .before .before .before .before .before .before .before .before .before .before .before .before .before .before .before .before .before .before .before .before .before .before .if1 .taken)
-
-loop-again : tie.Need-loop-again Inv-loop μ-loop
-loop-again c =
-    let after = c .before .before .before .after-step in
-    let at-if2 = c .before .before .before .before .before .before .before .before in
-    let at-step = at-if2 .before .before .before .before .before .before .before .before .before .before in
-    going-again (to-loop at-step .loop .inv) (at-step .step .ensures) (at-step .before .before .before .before .before .if1 .taken) (sym (at-if2 .before .ended .ensures) ∙ at-if2 .if2 .left)
-    (at-step .step .kept .1 .1 .1 .1 .1) (after .ensures) (after .kept .1 .1 .0) (after .kept .1 .1 .1 .0)
-
-returns-2 : tie.Need-returns-2 Inv-loop μ-loop
-returns-2 c =
-    let at-copy = to-copy (c .before .before) in
-    let at-start = to-start at-copy in
-    pass-ran (entry at-start .pre) (at-start .start .ensures) (at-start .start .kept .1 .1 .1 .1 .0) (at-copy .copy .ensures) (going-over (c .before .before .loop .inv) (c .if1 .left))
 
 pub run-spec : {M : Type 1} → this.Statement.statement M
 run-spec =
@@ -93,23 +46,46 @@ run-spec =
     (λ c κs. omega arith)
     (λ c. omega arith)
     (λ c. omega arith)
-    copy-requires
+    (λ c κs.
+    let s = c .before .before .before .before .before .before in
+    omega (arith, s .start .kept, entry s .pre))
     (λ c. search needs)
-    mark-states-requires
-    loop-holds
+    (λ c κs.
+    let s = c .before .before .before .before .before .before .before .before .before .before .before in
+    omega (arith, s .start .kept, entry s .pre))
+    (λ c.
+    let at-copy = c .before .before .before .before .before .before in
+    let at-start = to-start at-copy in
+    let kept = at-start .start .kept in
+    going-start (entry at-start .pre) (kept .1 .1 .1 .0) (kept .1 .1 .1 .1 .0) (at-copy .copy .kept .1 .0) (at-copy .copy .ensures) (c .before .mark-states .ensures) (omega (arith, c .before .mark-states .kept)) (most-fits at-start))
     (λ c κs. c .before .before .before .before .before .before .loop .inv .lent)
     (λ c κs. tt)
     (λ c. to-step c .step .kept .1 .1 .1 .1 .1 .0 ∙ to-loop (to-step c) .loop .inv .lent .fit .states ∙ sym (began (to-loop (to-step c)) .pre .fit .states))
     (λ c. to-step c .step .kept .1 .1 .1 .1 .1 .1 .0 ∙ to-loop (to-step c) .loop .inv .lent .fit .values ∙ sym (began (to-loop (to-step c)) .pre .fit .values))
     (λ c. to-step c .step .kept .1 .1 .1 .1 .1 .1 .1 .0 ∙ ap length (to-loop (to-step c) .loop .inv .listed))
     (λ c. to-step c .step .kept .1 .1 .1 .1 .1 .1 .1 .1 .0 ∙ to-loop (to-step c) .loop .inv .workspace ∙ to-copy (to-loop (to-step c)) .copy .kept .1 .0)
-    returns
+    (λ c.
+    let at-step = to-step c in
+    let at-copy = to-copy (to-loop at-step) in
+    let at-start = to-start at-copy in
+    pass-ran (entry at-start .pre) (at-start .start .ensures) (at-start .start .kept .1 .1 .1 .1 .0) (at-copy .copy .ensures)
+    (going-ended (to-loop at-step .loop .inv) (at-step .step .ensures) (at-step .before .before .before .before .before .if1 .taken) (sym (c .before .ended .ensures) ∙ c .if2 .taken)))
     (λ c. omega (arith, to-loop (c .before .before .before .before .before .before .before .before .before .before .before .before .before .before) .loop .inv .marks-long))
-    after-step-requires
-    loop-less
-    loop-again
+    (λ c κs.
+    let at-step = c .before .before .before .before .before .before .before .before .before .before .before .before .before .before in
+    omega (arith, stepped-marks at-step, at-step .before .before .before .before .before .if1 .taken, to-loop at-step .loop .inv))
+    (λ c. omega (arith, c .before .before .before .after-step .ensures .remaining .fewer, c .before .before .before .before .before .before .before .before .before .before .before .before .before .before .before .before .before .before .before .before .before .before .before .if1 .taken))
+    (λ c.
+    let after = c .before .before .before .after-step in
+    let at-if2 = c .before .before .before .before .before .before .before .before in
+    let at-step = at-if2 .before .before .before .before .before .before .before .before .before .before in
+    going-again (to-loop at-step .loop .inv) (at-step .step .ensures) (at-step .before .before .before .before .before .if1 .taken) (sym (at-if2 .before .ended .ensures) ∙ at-if2 .if2 .left)
+    (at-step .step .kept .1 .1 .1 .1 .1) (after .ensures) (after .kept .1 .1 .0) (after .kept .1 .1 .1 .0))
     (λ c. c .before .before .loop .inv .lent .fit .states ∙ sym (began (c .before .before) .pre .fit .states))
     (λ c. c .before .before .loop .inv .lent .fit .values ∙ sym (began (c .before .before) .pre .fit .values))
     (λ c. ap length (c .before .before .loop .inv .listed))
     (λ c. c .before .before .loop .inv .workspace ∙ to-copy (c .before .before) .copy .kept .1 .0)
-    returns-2)
+    (λ c.
+    let at-copy = to-copy (c .before .before) in
+    let at-start = to-start at-copy in
+    pass-ran (entry at-start .pre) (at-start .start .ensures) (at-start .start .kept .1 .1 .1 .1 .0) (at-copy .copy .ensures) (going-over (c .before .before .loop .inv) (c .if1 .left))))

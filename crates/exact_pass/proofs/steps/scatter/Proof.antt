@@ -11,31 +11,20 @@ Inv-loop free y d₀ k _ d i = (i ≤ k) × (k ≡ length free) × (length d ≡
 abbrev μ-loop : tie.MeasureT-loop
 μ-loop _ _ _ k _ _ i = k - i
 
-loop-holds : tie.Need-loop-holds Inv-loop μ-loop
-unfolding pass.scattered
-loop-holds c = search (turns-from, needs)
-
-loop-again : tie.Need-loop-again Inv-loop μ-loop
-unfolding pass.scattered
-loop-again c =
-    (search needs, search needs, search needs, turns-again _ _ _ _ _ (c .before .before .before .before .before .before .before .loop .inv .3) (rw (c .before .before .put .ensures, c .before .before .before .at .ensures, c .before .before .before .before .row-number .ensures)))
-
-returns : tie.Need-returns Inv-loop μ-loop
-unfolding pass.scattered
-returns c = search (turns-done, needs)
-
 pub scatter-spec : {M : Type 1} → scatter.Statement.statement M
+unfolding pass.scattered
 scatter-spec =
     tie.close
     (tie.spec
     Inv-loop
     μ-loop
-    loop-holds
+    (λ c. search (turns-from, needs))
     (λ c κs. omega arith)
     (λ c κs. omega arith)
     (λ c κs. search (free-row, needs))
     (λ c. omega arith)
     (λ c. omega arith)
-    loop-again
+    (λ c.
+    (search needs, search needs, search needs, turns-again _ _ _ _ _ (c .before .before .before .before .before .before .before .loop .inv .3) (rw (c .before .before .put .ensures, c .before .before .before .at .ensures, c .before .before .before .before .row-number .ensures))))
     (λ c. omega arith)
-    returns)
+    (λ c. search (turns-done, needs)))

@@ -7,17 +7,6 @@ use this.Tie as tie
 abbrev entry : tie.After-ratio-test → tie.Start
 entry c = c .before .before .before .before .before .before .before .before .before .before .before .before .before
 
-release-requires : tie.Need-release-requires
-release-requires c κs =
-    let at-advance = c .before .before .before .before .before .before in
-    release-lent (entry (at-advance .before .before .before .before) .pre) (at-advance .advance .kept .1 .1 .1 .0)
-
-hold-requires : tie.Need-hold-requires
-hold-requires c κs =
-    let at-advance = c .before .before .before .before .before .before in
-    let at-test = at-advance .before .before .before .before in
-    hold-lent (entry at-test .pre) _ (at-advance .advance .kept .1 .1 .1 .0) (at-test .ratio-test .ensures)
-
 pub take-step-spec : {M : Type 1} → this.Statement.statement M
 take-step-spec =
     tie.close
@@ -32,11 +21,16 @@ take-step-spec =
     (λ c. search (taken-unbounded, not-true, needs))
     (λ c κs. advance-lent (entry (c .before .before .before) .pre))
     (λ c. search needs)
-    release-requires
+    (λ c κs.
+    let at-advance = c .before .before .before .before .before .before in
+    release-lent (entry (at-advance .before .before .before .before) .pre) (at-advance .advance .kept .1 .1 .1 .0))
     (λ c. omega arith)
     (λ c. omega arith)
     (λ c. search (taken-released, not-false, needs))
-    hold-requires
+    (λ c κs.
+    let at-advance = c .before .before .before .before .before .before in
+    let at-test = at-advance .before .before .before .before in
+    hold-lent (entry at-test .pre) _ (at-advance .advance .kept .1 .1 .1 .0) (at-test .ratio-test .ensures))
     (λ c. omega arith)
     (λ c. omega arith)
     (λ c. search (taken-to-bound, not-false, needs)))

@@ -12,18 +12,6 @@ Inv-loop _ w n free j v rhs₀ k _ rhs i = (i ≤ k) × (k ≡ length free) × (
 abbrev μ-loop : tie.MeasureT-loop
 μ-loop _ _ _ _ _ _ _ k _ _ i = k - i
 
-at-requires-2 : tie.Need-at-requires-2 Inv-loop μ-loop
-at-requires-2 c κs =
-    let at-row = c .before .before .before in
-    let at-pre = at-row .before .before .before .before .before .before .before .before in
-    omega (arith, ap length (at-row .row .ensures) ∙ row-length _ _ _, at-pre .pre .column)
-
-loop-again : tie.Need-loop-again Inv-loop μ-loop
-loop-again c =
-    let at-put = c .before .before in
-    let at-row = at-put .before .before .before .before .before in
-    (search needs, search needs, search needs, rw (at-put .put .ensures) (updated-again _ _ _ _ _ _ _ _ _ (omega arith) (at-row .before .before .before .loop .inv .3) refl (rw (at-put .before .at2 .ensures, at-put .before .before .at .ensures, at-row .row .ensures, at-row .before .row-number .ensures))))
-
 pub bound-column-spec : {M : Type 1} → this.Statement.statement M
 bound-column-spec =
     tie.close
@@ -35,10 +23,16 @@ bound-column-spec =
     (λ c κs. search needs)
     (λ c κs. search (free-row, needs))
     (λ c κs. search needs)
-    at-requires-2
+    (λ c κs.
+    let at-row = c .before .before .before in
+    let at-pre = at-row .before .before .before .before .before .before .before .before in
+    omega (arith, ap length (at-row .row .ensures) ∙ row-length _ _ _, at-pre .pre .column))
     (λ c κs. search needs)
     (λ c. search needs)
     (λ c. search needs)
-    loop-again
+    (λ c.
+    let at-put = c .before .before in
+    let at-row = at-put .before .before .before .before .before in
+    (search needs, search needs, search needs, rw (at-put .put .ensures) (updated-again _ _ _ _ _ _ _ _ _ (omega arith) (at-row .before .before .before .loop .inv .3) refl (rw (at-put .before .at2 .ensures, at-put .before .before .at .ensures, at-row .row .ensures, at-row .before .row-number .ensures)))))
     (λ c. search needs)
     (λ c. let at-loop = c .before in rw (ne-eqb _ _ (at-loop .before .if1 .left)) (updated-done _ _ _ _ _ _ _ _ (omega arith) (omega arith) (at-loop .loop .inv .3))))

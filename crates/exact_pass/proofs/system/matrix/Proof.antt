@@ -22,24 +22,6 @@ entry c = c .before .before .before .before .before
 small : (c : tie.At-loop Inv-loop μ-loop) → c .loop .i ≤ 32 → c .loop .i * length (entry c .args .free .now) ≤ 1024
 small c h = product (c .loop .i) (length (entry c .args .free .now)) h (entry c .pre .few)
 
-part-end : tie.Need-part-matrix-row-end Inv-loop μ-loop
-part-end c =
-    let at-test = c .before .before in
-    let k = length (entry (at-test .before) .args .free .now) in
-    omega (arith, mul-le-mul-right k (at-test .loop-test .taken), suc-mul (at-test .before .loop .i) k)
-
-matrix-row-requires : tie.Need-matrix-row-requires Inv-loop μ-loop
-matrix-row-requires c κs =
-    let at-test = c .before .before .before in
-    let p = entry (at-test .before) .pre in
-    record { row = ap length (c .before .row .ensures) ∙ row-length _ _ _; listed = record { below = p .below; long = part-length _ _ _ (at-test .before .loop .inv .3 ∙ p .matrix) (at-test .loop-test .taken) } }
-
-loop-again : tie.Need-loop-again Inv-loop μ-loop
-loop-again c =
-    let at-row = c .before .before in
-    let at-loop = at-row .before .before .before .before .before in
-    (search needs, search needs, search needs, search needs, matrix-again _ _ _ _ (at-loop .loop .i) _ (at-row .matrix-row .last .1 .1 .1 .0) (at-loop .loop .inv .4) (rw (c .before .before .matrix-row .ensures, c .before .before .before .before .row .ensures, c .before .before .before .before .before .row-number .ensures)))
-
 pub matrix-spec : {M : Type 1} → this.Statement.statement M
 matrix-spec =
     tie.close
@@ -54,10 +36,19 @@ matrix-spec =
     (λ c. omega (arith, small (c .before .before .before) (omega arith)))
     (λ c. omega arith)
     (λ c. omega arith)
-    part-end
-    matrix-row-requires
+    (λ c.
+    let at-test = c .before .before in
+    let k = length (entry (at-test .before) .args .free .now) in
+    omega (arith, mul-le-mul-right k (at-test .loop-test .taken), suc-mul (at-test .before .loop .i) k))
+    (λ c κs.
+    let at-test = c .before .before .before in
+    let p = entry (at-test .before) .pre in
+    record { row = ap length (c .before .row .ensures) ∙ row-length _ _ _; listed = record { below = p .below; long = part-length _ _ _ (at-test .before .loop .inv .3 ∙ p .matrix) (at-test .loop-test .taken) } })
     (λ c. omega arith)
     (λ c. omega arith)
-    loop-again
+    (λ c.
+    let at-row = c .before .before in
+    let at-loop = at-row .before .before .before .before .before in
+    (search needs, search needs, search needs, search needs, matrix-again _ _ _ _ (at-loop .loop .i) _ (at-row .matrix-row .last .1 .1 .1 .0) (at-loop .loop .inv .4) (rw (c .before .before .matrix-row .ensures, c .before .before .before .before .row .ensures, c .before .before .before .before .before .row-number .ensures))))
     (λ c. omega arith)
     (λ c. matrix-done _ _ _ _ (c .before .loop .i) _ (entry (c .before) .pre .matrix) (omega arith) (omega arith) (c .before .loop .inv .4)))

@@ -12,36 +12,25 @@ Inv-loop row scale free out₀ k _ out j = (j ≤ k) × (k ≡ length free) × (
 abbrev μ-loop : tie.MeasureT-loop
 μ-loop _ _ _ _ k _ _ j = k - j
 
-loop-holds : tie.Need-loop-holds Inv-loop μ-loop
-unfolding private.matrixRow
-loop-holds c = (search needs, search needs, search needs, tab-start _ _)
-
-loop-again : tie.Need-loop-again Inv-loop μ-loop
-unfolding private.matrixRow
-loop-again c =
-    let l = c .before .before .before .before .before .before .before .before .loop in
-    (search needs, search needs, search needs, rw (c .before .before .put .ensures, c .before .before .before .at2 .ensures, c .before .before .before .before .at .ensures, c .before .before .before .before .before .before .row-number .ensures) (tab-again _ _ _ _ (l .inv .3) (l .inv .2) (omega arith)))
-
-returns : tie.Need-returns Inv-loop μ-loop
-unfolding private.matrixRow
-returns c =
-    let at-loop = c .before in
-    let at-pre = at-loop .before .before .before .before .before in
-    tab-filled _ _ _ _ _ (at-loop .loop .inv .3) (at-loop .loop .inv .2) (at-pre .pre .listed .long) (omega arith) (omega arith)
-
 pub matrix-row-spec : {M : Type 1} → this.Statement.statement M
+unfolding private.matrixRow
 matrix-row-spec =
     tie.close
     (tie.spec
     Inv-loop
     μ-loop
-    loop-holds
+    (λ c. (search needs, search needs, search needs, tab-start _ _))
     (λ c κs. omega arith)
     (λ c κs. search (free-row, needs))
     (λ c κs. search (free-row, needs))
     (λ c κs. omega arith)
     (λ c. omega arith)
     (λ c. omega arith)
-    loop-again
+    (λ c.
+    let l = c .before .before .before .before .before .before .before .before .loop in
+    (search needs, search needs, search needs, rw (c .before .before .put .ensures, c .before .before .before .at2 .ensures, c .before .before .before .before .at .ensures, c .before .before .before .before .before .before .row-number .ensures) (tab-again _ _ _ _ (l .inv .3) (l .inv .2) (omega arith))))
     (λ c. omega arith)
-    returns)
+    (λ c.
+    let at-loop = c .before in
+    let at-pre = at-loop .before .before .before .before .before in
+    tab-filled _ _ _ _ _ (at-loop .loop .inv .3) (at-loop .loop .inv .2) (at-pre .pre .listed .long) (omega arith) (omega arith)))

@@ -21,8 +21,16 @@ entry c = c .before .before .before .before .before .before .before .before
 abbrev to-second : tie.After-two-rows Inv-loop μ-loop → tie.After-second-row Inv-loop μ-loop
 to-second c = c .before .before
 
-two-rows-requires : tie.Need-two-rows-requires Inv-loop μ-loop
-two-rows-requires c κs =
+pub residual-spec : {M : Type 1} → this.Statement.statement M
+residual-spec =
+    tie.close
+    (tie.spec
+    Inv-loop
+    μ-loop
+    (λ c κs. omega arith)
+    (λ c. (search needs, search needs, search needs, tab-start _ _, turns-from _ _))
+    (λ c κs. omega arith)
+    (λ c κs.
     let l = c .before .before .before in
     let p = entry l .pre in
     record {
@@ -31,10 +39,10 @@ two-rows-requires c κs =
       side = part-long 1056 _ (entry l .args .work .now) (l .before .part .ensures) (omega arith);
       solution = p .listed .long;
       direction = omega arith;
-    }
-
-loop-again : tie.Need-loop-again Inv-loop μ-loop
-loop-again c =
+    })
+    (λ c. omega (arith, to-second (c .before .before)))
+    (λ c. omega (arith, to-second (c .before .before)))
+    (λ c.
     let t = c .before .before in
     let s = to-second t in
     let l = s .before .before in
@@ -45,27 +53,10 @@ loop-again c =
       omega arith,
       t .two-rows .ensures .downhill ∙ tab-two (e .least) (e .most) _ _ _ (i .3) (i .2) (omega (arith, e, i .1, entry l .pre .direction)),
       or-two (e .least) (e .most) _ _ _ (i .4) (t .two-rows .ensures .inconsistent),
-    )
-
-returns : tie.Need-returns Inv-loop μ-loop
-returns c =
+    ))
+    (λ c. omega arith)
+    (λ c.
     let l = c .before in
     let i = l .loop .inv in
     let k = l .before .part .ensures in
-    record { downhill = rw (← k) (tab-filled _ _ _ _ _ (i .3) (i .2) (entry l .pre .direction) (omega arith) (omega arith)); inconsistent = rw (← k) (turns-done _ _ _ _ _ (omega arith) (omega arith) (i .4)) }
-
-pub residual-spec : {M : Type 1} → this.Statement.statement M
-residual-spec =
-    tie.close
-    (tie.spec
-    Inv-loop
-    μ-loop
-    (λ c κs. omega arith)
-    (λ c. (search needs, search needs, search needs, tab-start _ _, turns-from _ _))
-    (λ c κs. omega arith)
-    two-rows-requires
-    (λ c. omega (arith, to-second (c .before .before)))
-    (λ c. omega (arith, to-second (c .before .before)))
-    loop-again
-    (λ c. omega arith)
-    returns)
+    record { downhill = rw (← k) (tab-filled _ _ _ _ _ (i .3) (i .2) (entry l .pre .direction) (omega arith) (omega arith)); inconsistent = rw (← k) (turns-done _ _ _ _ _ (omega arith) (omega arith) (i .4)) }))

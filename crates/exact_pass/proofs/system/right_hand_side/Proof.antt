@@ -9,14 +9,6 @@ Inv-loop w u-free states nu free rhs₀ n _ rhs j = (j ≤ n) × (n ≡ length n
 abbrev μ-loop : tie.MeasureT-loop
 μ-loop _ _ _ _ _ _ n _ _ j = n - j
 
-loop-again : tie.Need-loop-again Inv-loop μ-loop
-loop-again c =
-    let at-column = c .before .before in
-    let at-at = at-column .before .before in
-    let at-state = at-at .before in
-    let at-loop = at-state .before .before in
-    (search needs, search needs, search needs, columns-again _ _ _ _ _ _ _ _ _ _ _ (at-loop .loop .inv .3) (at-state .state .ensures) (at-at .at .ensures) (rw (at-loop .loop .inv .1) at (at-column .bound-column .ensures)))
-
 pub right-hand-side-spec : {M : Type 1} → this.Statement.statement M
 right-hand-side-spec =
     tie.close
@@ -30,6 +22,11 @@ right-hand-side-spec =
     (λ c κs. record { square = search needs; listed = record { below = search needs; long = search needs }; column = search needs })
     (λ c. search needs)
     (λ c. search needs)
-    loop-again
+    (λ c.
+    let at-column = c .before .before in
+    let at-at = at-column .before .before in
+    let at-state = at-at .before in
+    let at-loop = at-state .before .before in
+    (search needs, search needs, search needs, columns-again _ _ _ _ _ _ _ _ _ _ _ (at-loop .loop .inv .3) (at-state .state .ensures) (at-at .at .ensures) (rw (at-loop .loop .inv .1) at (at-column .bound-column .ensures))))
     (λ c. search needs)
     (λ c. let at-loop = c .before in columns-done _ _ _ _ _ _ _ _ (omega arith) (omega arith) (at-loop .loop .inv .3)))

@@ -14,17 +14,6 @@ Inv-loop u-free free rhs₀ k _ rhs i = (i ≤ k) × (k ≡ length free) × (len
 abbrev μ-loop : tie.MeasureT-loop
 μ-loop _ _ _ k _ _ i = k - i
 
-loop-again : tie.Need-loop-again Inv-loop μ-loop
-loop-again c =
-    let l = c .before .before .before .before .before .before .before .loop in
-    (search needs, search needs, search needs, rw (c .before .before .put .ensures, c .before .before .before .at .ensures, c .before .before .before .before .row-number .ensures) (tab-again _ _ _ _ (l .inv .3) (l .inv .2) (omega arith)))
-
-returns : tie.Need-returns Inv-loop μ-loop
-returns c =
-    let at-loop = c .before in
-    let at-pre = at-loop .before .before .before .before in
-    tab-filled _ _ _ _ _ (at-loop .loop .inv .3) (at-loop .loop .inv .2) (at-pre .pre .long) (omega arith) (omega arith)
-
 pub right-hand-start-spec : {M : Type 1} → this.Statement.statement M
 right-hand-start-spec =
     tie.close
@@ -37,6 +26,11 @@ right-hand-start-spec =
     (λ c κs. search needs)
     (λ c. search needs)
     (λ c. search needs)
-    loop-again
+    (λ c.
+    let l = c .before .before .before .before .before .before .before .loop in
+    (search needs, search needs, search needs, rw (c .before .before .put .ensures, c .before .before .before .at .ensures, c .before .before .before .before .row-number .ensures) (tab-again _ _ _ _ (l .inv .3) (l .inv .2) (omega arith))))
     (λ c. search needs)
-    returns)
+    (λ c.
+    let at-loop = c .before in
+    let at-pre = at-loop .before .before .before .before in
+    tab-filled _ _ _ _ _ (at-loop .loop .inv .3) (at-loop .loop .inv .2) (at-pre .pre .long) (omega arith) (omega arith)))

@@ -5,13 +5,6 @@ use this.Tie as tie
 abbrev to-solve : tie.After-slice-known8 → tie.After-solve
 to-solve c = c .before .before .before .before .before .before .before .before
 
-returns : tie.Need-returns
-returns c =
-    let at-solve = to-solve c in
-    let at-args = at-solve .before .before .before .before .before .before .before .before .before in
-    let p = at-args .pre in
-    solved (at-args .args .b .now) p _ _ (at-solve .solve .ensures .x-left) (at-solve .solve .ensures .workspace-left)
-
 pub solve-spec : {M : Type 1} → this.Statement.statement M
 solve-spec =
     tie.close
@@ -21,4 +14,8 @@ solve-spec =
     (λ c. to-solve c .solve .kept .1 .1 .1 .0)
     (λ c. to-solve c .solve .kept .1 .1 .1 .1 .0)
     (λ c. to-solve c .solve .kept .1 .1 .1 .1 .1 .0)
-    returns)
+    (λ c.
+    let at-solve = to-solve c in
+    let at-args = at-solve .before .before .before .before .before .before .before .before .before in
+    let p = at-args .pre in
+    solved (at-args .args .b .now) p _ _ (at-solve .solve .ensures .x-left) (at-solve .solve .ensures .workspace-left)))
