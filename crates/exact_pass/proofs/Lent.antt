@@ -4,7 +4,7 @@ use Rattle.floats.specs.Ops.{0ᶠ}
 use Rattle.loops.proofs.Common.{ℕ, _+_, _*_, _≤_, _≡_, ap, _∙_, List, arith, length, take, drop, Float}
 use native.Mathlib.Nat.{mul-le-mul}
 use lib.Seq.{length-take-le}
-use Rattle.exact_pass.specs.Private.{Below, part, Free, Fit, Listing, Listed, RatioLent, DirectionLent, SystemLent, TargetLent, Scratch, ScratchLent, Blocked, RayLent, StepLent, RunLent}
+use Rattle.exact_pass.specs.Private.{Below, part, Free, Fit, Scaled, Listing, Listed, RatioLent, DirectionLent, SystemLent, TargetLent, Scratch, ScratchLent, Blocked, RayLent, StepLent, RunLent}
 use Rattle.exact_pass.specs.Pass as pass
 use Rattle.box_rows.specs.declared.Blocking.{Blocking}
 use Rattle.exact_pass.proofs.Stepping.{ratio-blocks}
@@ -111,6 +111,19 @@ module _ {n : ℕ} {w lo hi scale : List Float} {st : List ℕ} {nu : List Float
             list = r .list;
           }
 
-    -- after it
+    -- at the start of a pass: what it is lent, its steps, and where it marks its multipliers and states
+    pub start-lent : Scaled (length nu) lo hi scale st
+    start-lent = let s = r .fit .sized in rw (r .fit .values) (record { lower = s .2; upper = s .3; scales = s .4; states = r .fit .states })
+
+    pub most-steps : {k : ℕ} → k ≤ length nu → 8 * k + 8 ≤ 264
+    most-steps h = omega (arith, h, r .fit .values, r .fit .sized .0)
+
+    pub mark-fits : {j : ℕ} → j ≡ length nu → 1088 + j ≤ length work
+    mark-fits h = omega (arith, h, r .fit .values, r .fit .sized .0, r .workspace)
+
+    pub states-few : {j : ℕ} → j ≡ length st → j ≤ 32
+    states-few h = omega (arith, h, r .fit .states, r .fit .sized .0)
+
+    -- after a step
     pub relent : {st′ : List ℕ} {nu′ : List Float} {q′ : List ℕ} {work′ : List Float} (work₁ : List Float) → Kept st nu rows work st′ nu′ q′ work₁ → length work′ ≡ length work₁ → RunLent n w lo hi scale st′ nu′ q′ work′
     relent work₁ h e = record { fit = refit (r .fit) (h .0) (h .1 .0); list = rw (h .1 .1 .0) (r .list); workspace = rw (e, h .1 .1 .1 .0) (r .workspace) }

@@ -21,9 +21,9 @@ unfolding pass.steps
 steps-more p t u a b h = turns-more (pass.step p) (alike p) (moved t) a b ∙ ap (λ (c : Pass). turns b c (pass.step p)) h
 
 -- t has come back to what is marked
-pub left-is : (m t : Trial) (since left : ℕ) → t ≡ m → (p : box.Problem) → pass.steps p m since ≡ moved t → pass.steps p t left ≡ pass.steps p t (left % since)
+pub rest-is : (m t : Trial) (since rest : ℕ) → t ≡ m → (p : box.Problem) → pass.steps p m since ≡ moved t → pass.steps p t rest ≡ pass.steps p t (rest % since)
 unfolding pass.steps
-left-is m t since left e p h = rounds-left-out (pass.step p) (alike p) (moved t) since (rw (← e) at h) left
+rest-is m t since rest e p h = rounds-left-out (pass.step p) (alike p) (moved t) since (rw (← e) at h) rest
 
 pub same-trials : {nu nu′ : List Float} {st st′ : List ℕ} → nu ≡ nu′ → st ≡ st′ → pass.trial nu st ≡ pass.trial nu′ st′
 same-trials e f = rw (e, f)

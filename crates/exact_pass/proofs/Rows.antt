@@ -49,6 +49,9 @@ module _ (lo hi scale nu₀ : List Float) (st₀ : List ℕ) where
 pub free-row : (l : List ℕ) (n m i k a : ℕ) → Below n l → n ≡ m → k ≡ length l → i < k → a ≡ getD l i 0 → a < m
 free-row l n m i k a h q e b g = rw (g, ← q) (h i (omega arith))
 
+pub row-in : {n : ℕ} {w : List Float} {l : List ℕ} {i a : ℕ} → private.RowLent n w l i → a ≡ getD l i 0 → a < n
+row-in {i = i} r e = rw e (r .below i (r .row))
+
 pub those-below : (test : ℕ → Bool) (n : ℕ) → Below n (those test n)
 those-below test n i b = each-at (λ (a : ℕ). a < n) (those test n) (those-gathered test n .below) i b
 

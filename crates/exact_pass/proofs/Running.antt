@@ -9,7 +9,7 @@ use Rattle.exact_pass.specs.Pass as pass
 use Rattle.exact_pass.specs.Pass.{Trial, trial, Pass, moved, found, failed, infeasible}
 use Rattle.exact_pass.specs.Promise.{Passed}
 use Rattle.exact_pass.specs.Private as private
-use Rattle.exact_pass.specs.Private.{isEnd, Copied, RunLent, MarksLent, Stepped}
+use Rattle.exact_pass.specs.Private.{isEnd, Copied, RunLent, AfterLent, Stepped}
 use Rattle.exact_pass.specs.declared.Cycle.{Cycle}
 use Rattle.exact_pass.specs.declared.Exact.{Exact}
 use Rattle.exact_pass.specs.declared.Exact.the-variants.{Failed}
@@ -146,12 +146,21 @@ module _ {p : box.Problem} {most : ℕ} {b n : Now} (g : Going p most b n) where
         }
 
   -- what is compared and marked fits: lengths after the step
-  pub marks-lent : {j : ℕ} {st : List ℕ} {work : List Float} → length st ≡ length (n .st) → j ≡ length (n .nu) → length work ≡ length (n .work) → MarksLent j st work (n .marks)
-  marks-lent kept-st kept-nu kept-work =
+  pub after-lent : {j : ℕ} {st : List ℕ} {work : List Float} → length st ≡ length (n .st) → j ≡ length (n .nu) → length work ≡ length (n .work) → 0 < n .mark .remaining → AfterLent j st work (n .marks) (n .mark)
+  after-lent kept-st kept-nu kept-work more-left =
       let f = g .lent .fit in
-      rw (kept-nu, f .values) (record { states = kept-st ∙ f .states; few = f .sized .0; workspace = rw kept-work (g .lent .workspace); long = rw (g .marks-long) (f .sized .0) })
+      record {
+        lent = rw (kept-nu, f .values) (record { states = kept-st ∙ f .states; few = f .sized .0; workspace = rw kept-work (g .lent .workspace); long = rw (g .marks-long) (f .sized .0) });
+        some = more-left;
+        since = omega (arith, g .since, g .bounded);
+        span = g .span;
+      }
 
-  -- no step is left
+  -- the measure falls
+  pub less-remain : {k : ℕ} → k ≤ n .mark .remaining - 1 → 0 < n .mark .remaining → k < n .mark .remaining
+  less-remain h m = omega (arith, h, m)
+
+  -- no step remains
   pub going-over : n .mark .remaining ≤ 0 → Passed (pass.closed (pass.steps p (at b) most)) (b .q) Failed (n .nu) (n .st) (n .q) × (drop 1120 (n .work) ≡ drop 1120 (b .work))
   unfolding pass.closed
   going-over z =

@@ -39,16 +39,16 @@ row-blocks {n = n} a v y lo hi r h g = go (lt 0ᶠ y) (lt y 0ᶠ)
     go false true = nearer-blocks ((lo ⊖ v) ⊘ y) r h (omega arith) g
     go false false = g
 
-pub ratio-blocks : {n : ℕ} (lo hi : List Float) (l : List ℕ) (nu y : List Float) (alpha : Float) → 0 < n → private.Below n l → Blocks n (pass.ratioTest lo hi l nu y alpha (length l))
-unfolding pass.ratioTest box.ratioRow nearer
-ratio-blocks {n = n} lo hi l nu y alpha some below = turns-keep _ _ (λ i r. Blocks n r) (length l) (omega arith) λ i r b g. row-blocks (getD l i 0) (at nu (getD l i 0)) (at y i) (at lo (getD l i 0)) (at hi (getD l i 0)) r (below i b) g
+module _ (lo hi : List Float) (l : List ℕ) (nu y : List Float) (alpha : Float) where
+  pub ratio-blocks : {n : ℕ} → 0 < n → private.Below n l → Blocks n (pass.ratioTest lo hi l nu y alpha (length l))
+  unfolding pass.ratioTest box.ratioRow nearer
+  ratio-blocks {n = n} some below = turns-keep _ _ (λ i r. Blocks n r) (length l) (omega arith) λ i r b g. row-blocks (getD l i 0) (at nu (getD l i 0)) (at y i) (at lo (getD l i 0)) (at hi (getD l i 0)) r (below i b) g
 
--- ---- one more row of the ratio test
-
-pub ratio-again : (lo hi : List Float) (l : List ℕ) (nu y : List Float) (alpha : Float) (i : ℕ) {a : ℕ} {v x low high : Float} {r r′ : Blocking} → r ≡ pass.ratioTest lo hi l nu y alpha i → a ≡ getD l i 0
-    → v ≡ at nu a → x ≡ at y i → low ≡ at lo a → high ≡ at hi a → r′ ≡ box.ratioRow a v x low high r → r′ ≡ pass.ratioTest lo hi l nu y alpha (i + 1)
-unfolding pass.ratioTest box.ratioRow nearer
-ratio-again lo hi l nu y alpha i h a v x low high e = turns-again _ _ i _ _ h (rw (e, high, low, x, v, a))
+  -- one more row
+  pub ratio-again : (i : ℕ) {a : ℕ} {v x low high : Float} {r r′ : Blocking} → r ≡ pass.ratioTest lo hi l nu y alpha i → a ≡ getD l i 0 → v ≡ at nu a → x ≡ at y i → low ≡ at lo a → high ≡ at hi a
+      → r′ ≡ box.ratioRow a v x low high r → r′ ≡ pass.ratioTest lo hi l nu y alpha (i + 1)
+  unfolding pass.ratioTest box.ratioRow nearer
+  ratio-again i h a v x low high e = turns-again _ _ i _ _ h (rw (e, high, low, x, v, a))
 
 -- ---- no bound is met
 

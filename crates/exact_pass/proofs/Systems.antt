@@ -50,17 +50,17 @@ pub residual-again : (r scale : List Float) (l : List ℕ) (z : List Float) (b :
 unfolding private.residualRow
 residual-again r scale l z b j h c x v e = turns-again _ _ j _ _ h (rw (e, v, x, c))
 
-pub residual-is : (w scale : List Float) (l : List ℕ) (rhs z : List Float) (i : ℕ) {a : ℕ} {r : List Float} {b s : Float} → a ≡ getD l i 0 → r ≡ box.row w (length scale) a → b ≡ at rhs i → s ≡ private.residualRow r scale l z b (length l) → s ≡ pass.residual w scale l rhs z i
-unfolding pass.residual private.residualRow
-residual-is w scale l rhs z i e f g h = rw (h, g, f, e)
+module _ (w scale : List Float) (l : List ℕ) (rhs z : List Float) (i : ℕ) where
+  pub residual-is : {a : ℕ} {r : List Float} {b s : Float} → a ≡ getD l i 0 → r ≡ box.row w (length scale) a → b ≡ at rhs i → s ≡ private.residualRow r scale l z b (length l) → s ≡ pass.residual w scale l rhs z i
+  unfolding pass.residual private.residualRow
+  residual-is e f g h = rw (h, g, f, e)
 
-pub too-large-is : (w scale : List Float) (l : List ℕ) (rhs z : List Float) (i : ℕ) {a : ℕ} {r : List Float} {x : Float} {b : Bool} → a ≡ getD l i 0 → r ≡ box.row w (length scale) a → x ≡ pass.residual w scale l rhs z i
-    → b ≡ private.tooLarge r scale a x → b ≡ private.tooLargeAt w scale l rhs z i
-too-large-is w scale l rhs z i e f g h = rw (h, g, f, e)
+  pub too-large-is : {a : ℕ} {r : List Float} {x : Float} {b : Bool} → a ≡ getD l i 0 → r ≡ box.row w (length scale) a → x ≡ pass.residual w scale l rhs z i → b ≡ private.tooLarge r scale a x → b ≡ private.tooLargeAt w scale l rhs z i
+  too-large-is e f g h = rw (h, g, f, e)
 
-pub two-tested : (w scale : List Float) (l : List ℕ) (rhs z : List Float) (i e : ℕ) (y : List Float) {y₁ y₂ : List Float} {a b : Float} {s t : Bool} → y₁ ≡ set y i (neg a) → y₂ ≡ set y₁ e (neg b) → a ≡ pass.residual w scale l rhs z i → b ≡ pass.residual w scale l rhs z e
-    → s ≡ private.tooLargeAt w scale l rhs z i → t ≡ private.tooLargeAt w scale l rhs z e → private.TwoTested w scale l rhs z i e y (s || t) y₂
-two-tested w scale l rhs z i e y p q g h s t = record { downhill = rw (q, p, g, h); inconsistent = rw (s, t) }
+  pub two-tested : (e : ℕ) (y : List Float) {y₁ y₂ : List Float} {a b : Float} {s t : Bool} → y₁ ≡ set y i (neg a) → y₂ ≡ set y₁ e (neg b) → a ≡ pass.residual w scale l rhs z i → b ≡ pass.residual w scale l rhs z e
+      → s ≡ private.tooLargeAt w scale l rhs z i → t ≡ private.tooLargeAt w scale l rhs z e → private.TwoTested w scale l rhs z i e y (s || t) y₂
+  two-tested e y p q g h s t = record { downhill = rw (q, p, g, h); inconsistent = rw (s, t) }
 
 -- ---- the right-hand side, column by column
 

@@ -1,5 +1,4 @@
 // Where a pass starts: each row in the state that its multiplier shows, and a row on a bound exactly there.
-ghost use mathlib.Core.Path.{_≡_};
 ghost use Prim.Native.Nat.{_+_};
 ghost use lib.ListN.{length};
 ghost use Rattle.box_rows.specs.Private.{CountedRow};

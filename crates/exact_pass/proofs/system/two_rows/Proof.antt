@@ -1,6 +1,6 @@
-use Rattle.loops.proofs.Common.{_<_, refl, ap, _∙_, arith, length, needs}
+use Rattle.loops.proofs.Common.{_<_, ap, _∙_, arith, length, needs}
 use Rattle.box_rows.proofs.Matrix.{row-length}
-use Rattle.exact_pass.proofs.Rows.{free-row}
+use Rattle.exact_pass.proofs.Rows.{row-in}
 use Rattle.exact_pass.proofs.Systems.{residual-is, too-large-is, two-tested}
 use Rattle.exact_pass.proofs.system.two_rows as this
 use this.Tie as tie
@@ -13,10 +13,10 @@ entry c = to-entry (c .before .before)
 
 -- both rows are rows of the matrix
 below-1 : (c : tie.After-row-number2) → c .before .row-number .result < length (to-entry c .args .scale .now)
-below-1 c = free-row (to-entry c .args .free .now) _ _ _ _ _ (to-entry c .pre .first .below) refl refl (to-entry c .pre .first .row) (c .before .row-number .ensures)
+below-1 c = row-in (to-entry c .pre .first) (c .before .row-number .ensures)
 
 below-2 : (c : tie.After-row-number2) → c .row-number2 .result < length (to-entry c .args .scale .now)
-below-2 c = free-row (to-entry c .args .free .now) _ _ _ _ _ (to-entry c .pre .second .below) refl refl (to-entry c .pre .second .row) (c .row-number2 .ensures)
+below-2 c = row-in (to-entry c .pre .second) (c .row-number2 .ensures)
 
 abbrev to-row2 : tie.After-residual-rows → tie.After-row2
 to-row2 c = c .before .before .before
