@@ -1,4 +1,5 @@
--- Words of private contracts, here and in the crates above: what they are lent. No promise of a public call stands on them. Definitions only.
+-- Words of private contracts, here and in the crates above: what they are lent. No promise of a public call stands
+-- on them. Definitions only.
 use Prim.Native.Nat.{ℕ, _+_, _*_, _≤_, _<_}
 use mathlib.Core.Logic.{_⊎_}
 use mathlib.Core.Path.{_≡_}

@@ -1,5 +1,5 @@
--- The rows of a box problem, by document 01 and boxed.rs: the problem, a row's state, its update, its natural residual, its sum,
--- and its part in an exact pass and in a ray. Definitions only.
+-- The rows of a box problem, by document 01 and boxed.rs: the problem, a row's state, its update, its natural
+-- residual, its sum, and its part in an exact pass and in a ray. Definitions only.
 use Prim.Native.Nat.{ℕ, _+_, _*_}
 use mathlib.Core.Bool.{Bool, false, not, cond, _&&_, _||_}
 use mathlib.Core.List.{List, [], _∷_}

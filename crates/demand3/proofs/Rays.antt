@@ -8,9 +8,9 @@ use lib.Ieee.{Float, lt, le, eq}
 use Rattle.loops.proofs.Turns.{turns-keep}
 use Rattle.loops.proofs.Gather.{Gathered, gathered-none, gathered-skip, gathered-take, those-gathered}
 use Rattle.floats.specs.Ops.{at, 0ᶠ, 1e-9, ∞, −∞, _⊗_}
-use Rattle.box_rows.specs.Rows.{Problem, size, acts}
+use Rattle.box_rows.specs.Rows.{Problem, size, acts, grows}
 use Rattle.exact_pass.specs.Ray.{Collected, none, these, collect, fallingRows, ray}
-use Rattle.exact_pass.specs.Walk.{sizeAt, grows, collected, farthest}
+use Rattle.exact_pass.specs.Walk.{sizeAt, collected, farthest}
 use Rattle.exact_pass.specs.Private.{largestRow, largest, linear, quadraticRow, quadratic, falls}
 use Rattle.boxed.specs.Sweep.{grown}
 use Rattle.boxed.specs.Private.{isGrown, grownAt}

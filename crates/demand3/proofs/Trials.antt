@@ -15,14 +15,13 @@ use Rattle.loops.proofs.Turns.{turns-keep, turns-start, turns-step}
 use Rattle.loops.proofs.Gather.{Gathered, getD-set}
 use Rattle.floats.specs.Ops.{_⊕_, _⊖_, _⊗_, _⊘_, at, 0ᶠ, 1e-9}
 use Rattle.floats.specs.Helpers.{isFinite, larger}
-use Rattle.box_rows.specs.Rows.{Problem, size, state, acts, onBound, stateOf, rowSum, residualAt}
-use Rattle.box_rows.specs.Private.{rowOf}
+use Rattle.box_rows.specs.Rows.{Problem, size, state, acts, onBound, stateOf, placed, pushed, ratioRow, rowSum, residualAt}
+use Rattle.box_rows.specs.Private.{rowOf, nearer}
 use Rattle.exact_pass.specs.Ray.{ray}
 use Rattle.exact_pass.specs.Pass as pass
-use Rattle.exact_pass.specs.Pass.{Trial, trial, Pass, moved, found, failed, infeasible, placed, freeRows, exactPass}
-use Rattle.exact_pass.specs.Private.{freeStep, nearer, ratioRow, releaseRow, startRow, started, takeStep, unbounded, worstRow}
-use Rattle.exact_pass.specs.Private.{pushed, worse}
-use Rattle.exact_pass.specs.declared.Blocking.{Blocking}
+use Rattle.exact_pass.specs.Pass.{Trial, trial, Pass, moved, found, failed, infeasible, freeRows, exactPass}
+use Rattle.exact_pass.specs.Private.{freeStep, releaseRow, startRow, started, takeStep, unbounded, worse, worstRow}
+use Rattle.box_rows.specs.declared.Blocking.{Blocking}
 use Rattle.exact_pass.specs.declared.Worst.{Worst}
 use Rattle.demand3.specs.Claims.{firstTried, freeIn, directionOf, directionAt, targetOf, stepLength, LastStep}
 use Rattle.demand3.proofs.Rays.{ActsUnlimited, ray-gathered}
@@ -191,7 +190,7 @@ module _ (p : Problem) (st : List ℕ) where
       go false = h
 
   row-blocks : (a : ℕ) (v y lo hi : Float) (r : Blocking) → a < size p → state st a ≡ 0 → Blocks p st r → Blocks p st (ratioRow a v y lo hi r)
-  unfolding ratioRow
+  unfolding ratioRow nearer
   row-blocks a v y lo hi r b e h = go (lt 0ᶠ y) (lt y 0ᶠ)
     where
       go : (c d : Bool) → Blocks p st (cond c (nearer a 2 ((hi ⊖ v) ⊘ y) r) (cond d (nearer a 1 ((lo ⊖ v) ⊘ y) r) r))

@@ -1,4 +1,5 @@
--- The exact pass of boxed.rs, by its steps. Definitions only. l lists the free rows; the right-hand side, z and y have a value for each of them.
+-- The exact pass of boxed.rs, by its steps. Definitions only. l lists the free rows; the right-hand side, z and y
+-- have a value for each of them.
 use Prim.Native.Nat.{ℕ, suc, _+_, _*_}
 use mathlib.Core.Bool.{Bool, false, cond, _||_}
 use mathlib.Core.List.{List, [], _∷_, _++_}
@@ -40,7 +41,10 @@ start lo hi scale nu st n =
     let st = s .trial .states in
     let state = box.stateOf (at lo i) (at hi i) (at scale i) (at nu i) in
     cond (box.acts st i)
-    (record { trial = trial (set nu i (box.placed (at lo i) (at hi i) state (at nu i))) (set st i state); acting = suc (s .acting) })
+    (record {
+      trial = trial (set nu i (box.placed (at lo i) (at hi i) state (at nu i))) (set st i state);
+      acting = suc (s .acting);
+    })
     s
 
 -- ---- the free rows, strictly inside their boxes
@@ -55,7 +59,8 @@ rightHandSide w uFree st nu l k =
     tab
     (λ (i : ℕ).
     let r = box.row w (length nu) (getD l i 0) in
-    turns (length nu) (neg (at uFree (getD l i 0))) λ j s. cond (eqb (box.state st j) box.inside) s (s ⊖ at r j ⊗ at nu j))
+    turns (length nu) (neg (at uFree (getD l i 0))) λ j s.
+    cond (eqb (box.state st j) box.inside) s (s ⊖ at r j ⊗ at nu j))
     k
 
 unfoldable pub matrix : List Float → List Float → List ℕ → ℕ → List Float

@@ -1,4 +1,5 @@
--- Words of private contracts: what they are lent. No promise of a public call stands on them; those are in Promise.antt. Definitions only.
+-- Words of private contracts: what they are lent. No promise of a public call stands on them; those are in
+-- Promise.antt. Definitions only.
 use Prim.Native.Nat.{ℕ, suc, _+_, _-_, _*_, _≤_, _<_}
 use mathlib.Core.Path.{_≡_}
 use mathlib.Core.Bool.{Bool, true, false, not, cond, _&&_, _||_}
@@ -215,14 +216,16 @@ pub record RayLent (n : ℕ) (w lo hi scale : List Float) (st l : List ℕ) (y :
   pub list : n ≤ length rows
 
 -- what a step of the free rows l in the direction y is lent
-pub record StepLent (n : ℕ) (w lo hi scale : List Float) (st : List ℕ) (nu : List Float) (l : List ℕ) (y : List Float) (rows : List ℕ) : Type 0 where
+pub record StepLent (n : ℕ) (w lo hi scale : List Float) (st : List ℕ) (nu : List Float) (l : List ℕ)
+    (y : List Float) (rows : List ℕ) : Type 0 where
   pub fit : Fit n w lo hi scale st nu
   pub listed : Listed n l y
   pub some : 0 < n
   pub list : n ≤ length rows
 
 -- what a run and each of its steps are lent
-pub record RunLent (n : ℕ) (w lo hi scale : List Float) (st : List ℕ) (nu : List Float) (rows : List ℕ) (work : List Float) : Type 0 where
+pub record RunLent (n : ℕ) (w lo hi scale : List Float) (st : List ℕ) (nu : List Float) (rows : List ℕ)
+    (work : List Float) : Type 0 where
   pub fit : Fit n w lo hi scale st nu
   pub list : n ≤ length rows
   pub workspace : WORKSPACE ≤ length work
@@ -257,12 +260,14 @@ abbrev pub targeted : List Float → List Float → Bool → pass.Target
 targeted z y b = record { z = z; y = y; inconsistent = b }
 
 -- after a step: what is marked in the workspace stays
-pub record Stepped (p : pass.Pass) (rows : List ℕ) (work : List Float) (e : Exact) (nu : List Float) (st rows′ : List ℕ) (work′ : List Float) : Type 0 where
+pub record Stepped (p : pass.Pass) (rows : List ℕ) (work : List Float) (e : Exact) (nu : List Float)
+    (st rows′ : List ℕ) (work′ : List Float) : Type 0 where
   pub passed : Passed p rows e nu st rows′
   pub workspace : drop MARKED work′ ≡ drop MARKED work
 
 -- after a pass
-pub record Ran (p : box.Problem) (st : List ℕ) (nu : List Float) (rows : List ℕ) (work : List Float) (e : Exact) (nu′ : List Float) (st′ rows′ : List ℕ) (work′ : List Float) : Type 0 where
+pub record Ran (p : box.Problem) (st : List ℕ) (nu : List Float) (rows : List ℕ) (work : List Float) (e : Exact)
+    (nu′ : List Float) (st′ rows′ : List ℕ) (work′ : List Float) : Type 0 where
   pub passed : Passed (pass.exactPass p st nu) rows e nu′ st′ rows′
   pub workspace : drop WORKSPACE work′ ≡ drop WORKSPACE work
 
@@ -287,7 +292,8 @@ abbrev pub part : ℕ → ℕ → List Float → List Float
 part a k work = take k (drop a work)
 
 -- after the direction of the free rows l is found, for the target t of their system: it is in the workspace
-pub record Directed (t : pass.Target) (scale : List Float) (l : List ℕ) (nu work : List Float) (b : Bool) (work′ : List Float) : Type 0 where
+pub record Directed (t : pass.Target) (scale : List Float) (l : List ℕ) (nu work : List Float) (b : Bool)
+    (work′ : List Float) : Type 0 where
   pub direction : part DIRECTION (length l) work′ ≡ pass.direction (t .inconsistent) scale l (t .z) nu (t .y)
   pub inconsistent : b ≡ t .inconsistent
   pub workspace : drop MARKED work′ ≡ drop MARKED work
@@ -327,8 +333,8 @@ pub record Shortened (s t : pass.Trial) (k i j : ℕ) : Type 0 where
   pub steps : (p : box.Problem) → pass.steps p s k ≡ pass.moved t → pass.steps p t i ≡ pass.steps p t j
   pub fewer : j ≤ i
 
--- After a step to the trial t, by the counters m before it: if the pass came to t from what was marked, it came to t from
--- what is marked now, and the steps that remain by m′ lead to where those by m do.
+-- After a step to the trial t, by the counters m before it: if the pass came to t from what was marked, it came to t
+-- from what is marked now, and the steps that remain by m′ lead to where those by m do.
 pub record MarkedOn (t : pass.Trial) (m : Cycle) (work : List Float) (marks : List ℕ) (m′ : Cycle)
     (work′ : List Float) (marks′ : List ℕ) : Type 0 where
   pub round : (p : box.Problem) → pass.steps p (marked (length (t .nu)) work marks) (m .since + 1) ≡ pass.moved t
@@ -348,7 +354,9 @@ startRow lo hi scale i s =
     let nu = s .trial .nu in
     let st = s .trial .states in
     let state = box.stateOf (at lo i) (at hi i) (at scale i) (at nu i) in
-    cond (box.acts st i) (started (set nu i (box.placed (at lo i) (at hi i) state (at nu i))) (set st i state) (suc (s .acting))) s
+    cond (box.acts st i)
+    (started (set nu i (box.placed (at lo i) (at hi i) state (at nu i))) (set st i state) (suc (s .acting)))
+    s
 
 abbrev pub isFree : List ℕ → ℕ → Bool
 isFree st i = eqb (box.state st i) box.inside
@@ -370,7 +378,8 @@ unfoldable pub residualRow : List Float → List Float → List ℕ → List Flo
 residualRow r scale l z b k = turns k (neg b) λ j s. s ⊕ scaled r scale l j ⊗ at z j
 
 -- q is what z leaves of two rows r and s, whose right-hand sides are a and b
-pub record TwoResiduals (r s scale : List Float) (l : List ℕ) (z : List Float) (a b : Float) (q : Residuals) : Type 0 where
+pub record TwoResiduals (r s scale : List Float) (l : List ℕ) (z : List Float) (a b : Float)
+    (q : Residuals) : Type 0 where
   pub first : q .first ≡ residualRow r scale l z a (length l)
   pub second : q .second ≡ residualRow s scale l z b (length l)
 
@@ -411,7 +420,9 @@ worse i r worst = cond (lt (worst .residual) r) (record { residual = r; row = i 
 
 unfoldable pub releaseRow : box.Problem → List ℕ → List Float → ℕ → Worst → Worst
 releaseRow p st nu i worst =
-    cond (box.pushed (box.state st i) (box.rowSum (box.row (p .w) (box.size p) i) (at (p .uFree) i) nu)) (worse i (box.residualAt p nu i) worst) worst
+    cond (box.pushed (box.state st i) (box.rowSum (box.row (p .w) (box.size p) i) (at (p .uFree) i) nu))
+    (worse i (box.residualAt p nu i) worst)
+    worst
 
 abbrev pub worstRow : box.Problem → List ℕ → List Float → ℕ → Worst
 worstRow p st nu n = turns n (record { residual = 1e-9; row = box.size p }) (releaseRow p st nu)
@@ -424,7 +435,8 @@ unfoldable pub takeStep : box.Problem → pass.Trial → List ℕ → List Float
 takeStep p t l y inconsistent =
     let r = pass.ratioTest (p .lo) (p .hi) l (t .nu) y (pass.longest inconsistent) (length l) in
     let u = pass.trial (pass.advance l y (r .alpha) (t .nu) (length l)) (t .states) in
-    cond (isFinite (r .alpha)) (cond (eqb (r .state) box.inside) (pass.release p u) (pass.moved (pass.hold (p .lo) (p .hi) u r)))
+    cond (isFinite (r .alpha))
+    (cond (eqb (r .state) box.inside) (pass.release p u) (pass.moved (pass.hold (p .lo) (p .hi) u r)))
     (unbounded p t l y)
 
 unfoldable pub freeStep : box.Problem → pass.Trial → List ℕ → pass.Pass

@@ -28,7 +28,8 @@ WORKSPACE = 1120
 -- workspace's length.
 unfoldable pub reply : box.Problem → List ℕ → List Float → List ℕ → ℕ → Pass
 reply p st nu rows workspace =
-    cond (leb WORKSPACE workspace && fits p (length st) (length nu) (length rows)) (exactPass p st nu) (failed (trial nu st))
+    cond (leb WORKSPACE workspace && fits p (length st) (length nu) (length rows)) (exactPass p st nu)
+    (failed (trial nu st))
 
 -- how many values at the workspace's front are free afterwards
 abbrev pub used : box.Problem → List ℕ → List Float → List ℕ → ℕ → ℕ
@@ -60,7 +61,8 @@ pub record Passed (p : Pass) (r₀ : List ℕ) (e : Exact) (nu : List Float) (st
   pub listed : r ≡ rowsOf p r₀
 
 -- of the public call
-pub record Left (p : box.Problem) (st₀ : List ℕ) (nu₀ : List Float) (r₀ : List ℕ) (work₀ : List Float) (e : Exact) (st : List ℕ) (nu : List Float) (r : List ℕ) (work : List Float) : Type 0 where
+pub record Left (p : box.Problem) (st₀ : List ℕ) (nu₀ : List Float) (r₀ : List ℕ) (work₀ : List Float) (e : Exact)
+    (st : List ℕ) (nu : List Float) (r : List ℕ) (work : List Float) : Type 0 where
   pub passed : Passed (reply p st₀ nu₀ r₀ (length work₀)) r₀ e nu st r
   pub workspace : drop (used p st₀ nu₀ r₀ (length work₀)) work ≡ drop (used p st₀ nu₀ r₀ (length work₀)) work₀
 

@@ -1,4 +1,5 @@
--- The ray test of boxed.rs: the rows along whose direction y the problem falls without end, or no row. Definitions only.
+-- The ray test of boxed.rs: the rows along whose direction y the problem falls without end, or no row. Definitions
+-- only.
 use Prim.Native.Nat.{ℕ}
 use mathlib.Core.Bool.{not, cond, _&&_, _||_}
 use mathlib.Core.List.{List, [], _∷_, _++_}
@@ -24,7 +25,8 @@ collect lo hi scale st y least a (these l) =
 
 -- ---- along nu + t·y the problem falls as t·lin + t²·quad / 2
 
--- whether it falls without end, or its least lies past a million scales (DIVERGENCE); only a linear part of 0 or more rejects
+-- whether it falls without end, or its least lies past a million scales (DIVERGENCE); only a linear part of 0 or
+-- more rejects
 unfoldable pub fallingRows : box.Problem → List Float → Collected → List ℕ
 fallingRows p y none = []
 fallingRows p y (these l) =
