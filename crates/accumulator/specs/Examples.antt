@@ -8,6 +8,7 @@ use lib.IntN.{ℤ, pos, negsuc}
 use lib.ListN.{replicate}
 use lib.Ieee.{Float, binary64, ofBits, lt}
 use Rattle.loops.specs.Loops.{turns, every}
+use Rattle.loops.specs.Lists.{same}
 use Rattle.floats.specs.Helpers.{isFinite}
 use Rattle.accumulator.specs.declared.Accumulator.{Accumulator}
 use Rattle.accumulator.specs.declared.Added.{Added}
@@ -34,12 +35,6 @@ numbers [] = []
 numbers (run n x ∷ l) = replicate n x ++ numbers l
 
 -- ---- comparison
-
-same : List ℕ → List ℕ → Bool
-same [] [] = true
-same (x ∷ l) (y ∷ k) = eqb x y && same l k
-same [] (y ∷ k) = false
-same (x ∷ l) [] = false
 
 alike : ℤ → ℤ → Bool
 alike (pos m) (pos n) = eqb m n
@@ -197,25 +192,25 @@ whole-rows =
     []
 
 sums-1-worked : each sums-1 ≡ true
-unfolding each sums-1 passes after answer left calls numbers same alike floats
+unfolding each sums-1 passes after answer left calls numbers alike floats
 sums-1-worked = refl
 
 sums-2-worked : each sums-2 ≡ true
-unfolding each sums-2 passes after answer left calls numbers same alike floats
+unfolding each sums-2 passes after answer left calls numbers alike floats
 sums-2-worked = refl
 
 sums-3-worked : each sums-3 ≡ true
-unfolding each sums-3 passes after answer left calls numbers same alike floats
+unfolding each sums-3 passes after answer left calls numbers alike floats
 sums-3-worked = refl
 
 sums-4-worked : each sums-4 ≡ true
-unfolding each sums-4 passes after answer left calls numbers same alike floats
+unfolding each sums-4 passes after answer left calls numbers alike floats
 sums-4-worked = refl
 
 sums-5-worked : each sums-5 ≡ true
-unfolding each sums-5 passes after answer left calls numbers same alike floats
+unfolding each sums-5 passes after answer left calls numbers alike floats
 sums-5-worked = refl
 
 whole-rows-worked : each whole-rows ≡ true
-unfolding each whole-rows passes after answer left calls numbers same alike floats
+unfolding each whole-rows passes after answer left calls numbers alike floats
 whole-rows-worked = refl

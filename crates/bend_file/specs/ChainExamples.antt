@@ -3,12 +3,13 @@
 -- compute here stand too.
 use mathlib.Core.Path.{_≡_, refl}
 use mathlib.Core.Bool.{Bool, true, false, _&&_}
-use mathlib.Core.List.{List, [], _∷_, _++_, map}
+use mathlib.Core.List.{List, [], _∷_, _++_}
 use Prim.Native.Nat.{ℕ, zero, suc, _+_, _-_, _*_}
 use lib.Dec.{eqb}
 use lib.Ieee.{ofBits, toBits}
 use lib.ListN.{length, take, drop, replicate}
 use Rattle.loops.specs.Loops.{tab, turns}
+use Rattle.loops.specs.Lists.{sameBy}
 use Rattle.bend_file.specs.Little.{u16, u32, u64, value, values}
 use Rattle.bend_file.specs.Trailer.{start, rows, coords, count, marked, small, counted}
 use Rattle.bend_file.specs.Read.{Problem, problem}
@@ -46,15 +47,9 @@ data Case : Type 0 where
   gives : List ℕ → List Bits → Case
   gets : List ℕ → ℕ → Case
 
-sames : List Problem → List Bits → Bool
-sames [] [] = true
-sames [] (b ∷ m) = false
-sames (p ∷ l) [] = false
-sames (p ∷ l) (b ∷ m) = same p b && sames l m
-
 reads : Verdict (List Problem) → List Bits → Bool
 reads (refused k) b = false
-reads (taken l) b = sames l b
+reads (taken l) b = sameBy same l b
 
 numbered : Verdict (List Problem) → ℕ → Bool
 numbered (refused n) k = eqb n k
@@ -152,7 +147,7 @@ few =
 
 table : every few ≡ true
 unfolding
-    every few passes reads sames numbered same bits two four eight patterns mark trailer example exampleBits none free
+    every few passes reads numbered same bits two four eight patterns mark trailer example exampleBits none free
     step ex bare torn one
 table = refl
 
@@ -176,6 +171,6 @@ many =
 
 long-table : every many ≡ true
 unfolding
-    every many passes reads sames numbered same bits two four eight patterns mark trailer example exampleBits none free
+    every many passes reads numbered same bits two four eight patterns mark trailer example exampleBits none free
     step ex bare rising torn one falling
 long-table = refl

@@ -3,11 +3,12 @@
 use mathlib.Core.Path.{_≡_, refl}
 use mathlib.Core.Bool.{Bool, true, false, _&&_}
 use mathlib.Core.List.{List, [], _∷_, _++_}
-use Prim.Native.Nat.{ℕ, _+_, _*_, _/_, _%_}
+use Prim.Native.Nat.{ℕ, _/_, _%_}
 use lib.Dec.{eqb}
 use lib.Ieee.{Float, binary64, ofBits, toBits}
 use lib.ListN.{replicate}
 use Rattle.loops.specs.Loops.{tab, turns}
+use Rattle.loops.specs.Lists.{sameBy}
 use Rattle.bend_file.specs.Little.{u16, u32, u64, value, values}
 use Rattle.bend_file.specs.Trailer.{start, rows, coords, count, sized, marked, small, counted, reaching, number}
 use Rattle.bend_file.specs.Read.{Problem, problem, Answer, refused, accepted, answer}
@@ -38,10 +39,7 @@ trailer s n c k = four s ++ two n ++ two c ++ four k ++ mark
 -- ---- answers compared, every NaN as one
 
 unfoldable pub bits : List Float → List ℕ → Bool
-bits [] [] = true
-bits [] (b ∷ m) = false
-bits (x ∷ l) [] = false
-bits (x ∷ l) (b ∷ m) = eqb (toBits binary64 x) b && bits l m
+bits l m = sameBy (λ x b. eqb (toBits binary64 x) b) l m
 
 -- a problem by its rows, its coordinates and the bits of its values
 pub record Bits : Type 0 where

@@ -4,12 +4,13 @@ use mathlib.Core.Bool.{Bool, true, false, _&&_}
 use mathlib.Core.List.{List, [], _∷_, _++_, map}
 use Prim.Native.Nat.{ℕ, zero, suc, _-_, _*_, _/_, _%_}
 use lib.Dec.{eqb}
-use lib.Ieee.{Float, binary64, ofBits, toBits}
+use lib.Ieee.{binary64, ofBits, toBits}
 use lib.ListN.{length, replicate}
 use Rattle.loops.specs.Loops.{tab, turns}
+use Rattle.loops.specs.Lists.{same}
 use Rattle.bend_file.specs.Trailer.{small}
 use Rattle.bend_writer.specs.Bytes.{bytes16, bytes32, bytes64, pattern, patterns}
-use Rattle.bend_writer.specs.Steps.{Step, trailer, stepBytes, chained, file, fair, ruled, stepNumber, first, stepsNumber, several, number}
+use Rattle.bend_writer.specs.Steps.{trailer, stepBytes, chained, file, fair, ruled, stepNumber, first, stepsNumber, several, number}
 use Rattle.bend_writer.specs.Write.{part, before, stepAt, lent, Answer, refused, written, answer, left}
 
 -- ---- what is lent, and what must come out
@@ -32,12 +33,6 @@ data Case : Type 0 where
 hex : ℕ → ℕ → List ℕ
 hex zero x = []
 hex (suc k) x = hex k (x / 256) ++ (x % 256 ∷ [])
-
-same : List ℕ → List ℕ → Bool
-same [] [] = true
-same [] (y ∷ m) = false
-same (x ∷ l) [] = false
-same (x ∷ l) (y ∷ m) = eqb x y && same l m
 
 -- the output before: what it holds stays where nothing is written
 untouched : ℕ → List ℕ
@@ -155,7 +150,7 @@ cases =
     gets (one 0 0 0xFFFFFFFFFFFFFFFF example) 100 4 ∷ []
 
 table : every cases ≡ true
-unfolding every cases passes asked fileIs numberIs untouched same hex one bare two after example exampleFile
+unfolding every cases passes asked fileIs numberIs untouched hex one bare two after example exampleFile
 table = refl
 
 -- 49: the file of 40 steps has 1,120 bytes, and each link is 28 past the one before
@@ -166,5 +161,5 @@ forty =
     (turns 40 [] λ i f. f ++ (28 * i % 256 ∷ 28 * i / 256 ∷ []) ++ hex 26 0x0000000000000000F03F04000000000000000100000042454E44)
 
 forty-steps : forty ≡ true
-unfolding forty same hex
+unfolding forty hex
 forty-steps = refl

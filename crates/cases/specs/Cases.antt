@@ -8,6 +8,7 @@ use lib.ListN.{length, replicate}
 use lib.Ieee.{Float, nan, binary64, add, sub, mul, div, ofBits, toBits, lt, le, eq, ne, neg}
 use Rattle.loops.specs.Loops as loops
 use Rattle.loops.specs.Updates as updates
+use Rattle.loops.specs.Lists.{same}
 use Rattle.floats.specs.Helpers as helpers
 use Rattle.floats.specs.Sqrt as root
 use Rattle.floats.specs.Sums as sums
@@ -24,13 +25,7 @@ use Rattle.boxed.specs.declared.BoxReport.{BoxReport}
 use Rattle.boxed.specs.declared.Cause.{Cause}
 use Rattle.boxed.specs.declared.Cause.the-variants as cause
 
--- ---- sameness, every NaN as one
-
-abbrev pub same : List ℕ → List ℕ → Bool
-same [] [] = true
-same [] (y ∷ ys) = false
-same (x ∷ xs) [] = false
-same (x ∷ xs) (y ∷ ys) = eqb x y && same xs ys
+-- ---- floats by their bits, every NaN as one
 
 abbrev pub floats : List ℕ → List Float
 floats l = map (ofBits binary64) l

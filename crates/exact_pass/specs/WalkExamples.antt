@@ -7,6 +7,7 @@ use mathlib.Core.List.{List, [], _∷_, map}
 use lib.Dec.{eqb}
 use lib.Ieee.{Float, binary64, ofBits, toBits, div, mul, lt, le, eq, ne, neg, add}
 use Rattle.loops.specs.Loops as loops
+use Rattle.loops.specs.Lists.{same}
 use Rattle.floats.specs.Ops.{_⊗_, 1e-9}
 use Rattle.floats.specs.Helpers as helpers
 use Rattle.box_rows.specs.Rows as box
@@ -46,12 +47,6 @@ floats l = map (ofBits binary64) l
 
 abbrev problem : List ℕ → List ℕ → List ℕ → List ℕ → List ℕ → box.Problem
 problem w u lo hi s = box.problem (floats w) (floats u) (floats lo) (floats hi) (floats s)
-
-abbrev same : List ℕ → List ℕ → Bool
-same [] [] = true
-same [] (y ∷ ys) = false
-same (x ∷ xs) [] = false
-same (x ∷ xs) (y ∷ ys) = eqb x y && same xs ys
 
 abbrev shows : Walked → Expected → Bool
 shows none stops = true

@@ -6,9 +6,10 @@ use mathlib.Core.Bool.{Bool, true, false, _&&_}
 use mathlib.Core.List.{List, [], _∷_, map}
 use lib.Dec.{eqb}
 use lib.ListN.{replicate}
-use lib.Ieee.{Float, nan, binary64, ofBits, toBits, add, sub, mul, div, lt, le, eq, ne, neg}
+use lib.Ieee.{nan, binary64, ofBits, toBits, add, sub, mul, div, lt, le, eq, ne, neg}
 use Rattle.loops.specs.Loops.{turns, between, downward, tab, swap}
 use Rattle.loops.specs.Updates.{updated}
+use Rattle.loops.specs.Lists.{same}
 use Rattle.floats.specs.Ops.{0ᶠ}
 use Rattle.floats.specs.Helpers.{abs}
 use Rattle.floats.specs.Sums.{gathered}
@@ -16,12 +17,6 @@ use Rattle.floats.specs.Sqrt.{sqrt, nearestRoot, wholeRoot}
 use Rattle.least_norm.specs.Reflector.{beta, reflect}
 use Rattle.least_norm.specs.LeastNorm as least
 use Rattle.least_norm.specs.Promise.{Reply, refused, answered, reply, replyNumber}
-
-same : List ℕ → List ℕ → Bool
-same [] [] = true
-same [] (y ∷ ys) = false
-same (x ∷ xs) [] = false
-same (x ∷ xs) (y ∷ ys) = eqb x y && same xs ys
 
 answers : Reply → ℕ → List ℕ → List ℕ → List ℕ → Bool
 answers (refused k) rank a b x = false
@@ -183,7 +178,7 @@ cases =
 
 cases-hold : all cases ≡ true
 unfolding
-    same answers solves refuses all cases reply
+    answers solves refuses all cases reply
     add sub mul div ofBits toBits lt le eq ne neg
     turns between downward tab swap updated gathered abs sqrt nearestRoot wholeRoot beta reflect
     least.norm2 least.pivot least.brought least.eliminated least.reduce least.reduced least.leading least.cleared least.substituted

@@ -4,9 +4,9 @@ use Prim.Native.String.{String}
 use mathlib.Core.Path.{_≡_, refl}
 use mathlib.Core.Bool.{Bool, true, false, _&&_}
 use mathlib.Core.List.{List, [], _∷_, _++_}
-use lib.Dec.{eqb}
 use lib.Ieee.{Float, binary64, ofBits, toBits}
 use Rattle.loops.specs.Loops.{turns}
+use Rattle.loops.specs.Lists.{same}
 use Rattle.boxed.specs.declared.BoxReport.{BoxReport}
 use Rattle.boxed.specs.declared.Cause.the-variants.{Growth, Pass, Sweep}
 use Rattle.printer.specs.Output.{
@@ -43,12 +43,6 @@ case name written wanted = record { name = name; written = written; wanted = wan
 abbrev pub lines : List String → List ℕ
 lines [] = []
 lines (l ∷ m) = bytes l ++ newline ++ lines m
-
-abbrev pub same : List ℕ → List ℕ → Bool
-same [] [] = true
-same [] (y ∷ m) = false
-same (x ∷ l) [] = false
-same (x ∷ l) (y ∷ m) = eqb x y && same l m
 
 abbrev pub all : List Case → Bool
 all [] = true

@@ -8,6 +8,7 @@ use lib.Dec.{eqb}
 use lib.Ieee.{Float, binary64, add, sub, mul, div, ofBits, toBits, lt, le, eq, ne, neg}
 use Rattle.loops.specs.Loops as loops
 use Rattle.loops.specs.Updates as updates
+use Rattle.loops.specs.Lists.{same}
 use Rattle.floats.specs.Helpers as helpers
 use Rattle.floats.specs.Sqrt as root
 use Rattle.floats.specs.Sums as sums
@@ -192,12 +193,6 @@ sameTally a b =
     && eqb (a .anchors) (b .anchors) && eqb (a .sweeps) (b .sweeps) && eqb (a .«exact_passes») (b .«exact_passes») && eqb (a .stopped) (b .stopped) && Bool·beq (a .converged) (b .converged)
     && Bool·beq (a .exact) (b .exact) && eqb (toBits binary64 (a .residual)) (toBits binary64 (b .residual))
 
-same : List ℕ → List ℕ → Bool
-same [] [] = true
-same [] (y ∷ ys) = false
-same (x ∷ xs) [] = false
-same (x ∷ xs) (y ∷ ys) = eqb x y && same xs ys
-
 numberIn : solve.Outcome → ℕ
 numberIn (solve.refused k) = k
 numberIn (solve.solved r) = 0
@@ -323,6 +318,6 @@ unfolding
     add sub mul div ofBits toBits lt le eq ne neg
     joins.sumFits joins.sumsFit joins.allSumsFit joins.and
     def.alone def.noNaN def.turned def.taken def.full def.numberOn def.answerOn def.with def.tallied def.before def.all
-    counts tallyOf case sameTally same numberIn unless sameBuffers answersAre comesTo passes allPass cases
+    counts tallyOf case sameTally numberIn unless sameBuffers answersAre comesTo passes allPass cases
     taking says isTaken allTaken takings
 table = refl
