@@ -236,10 +236,6 @@ notNegative (fin s m e) = not s || eqb m 0
 zero-size : (n : ℕ) (d e : ℤ) → eqb n 0 ≡ true → n * up d * down e ≡ 0
 zero-size n d e h = let g = eqb-true n 0 h in ap (λ (x : ℕ). x * up d * down e) g ∙ ap (λ (x : ℕ). x * down e) (zero-mul (up d)) ∙ zero-mul (down e)
 
-swap-down : (f : Format) (s t : Bool) (m n : ℕ) (e d : ℤ) → add f (fin s m e) (fin t n d) ≡ sum f s (m * up e * down d) t (n * up d * down e) (down e * down d)
-unfolding add
-swap-down f s t m n e d = refl
-
 pub add-down : (f : Format) (x z : Float) → T (fits f x) → notPositive z ≡ true → lt x (add f x z) ≡ false
 unfolding lt add
 add-down f nan z p h = refl

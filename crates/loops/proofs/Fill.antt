@@ -14,9 +14,6 @@ use Rattle.loops.specs.Loops.{tab, turns}
 use lib.ListN.{length, getD, length-append, set, drop, replicate, drop-of-length-le, List·getD-append}
 
 module _ {A : Type 0} where
-  pub fill-start : (v : A) (d : List A) → d ≡ replicate 0 v ++ drop 0 d
-  fill-start v d = refl
-
   fill-suc : (n : ℕ) (v : A) (d : List A) → n < length d → set (replicate n v ++ drop n d) n v ≡ replicate (suc n) v ++ drop (suc n) d
   fill-suc n v [] l = absurd (not-suc-le-zero l)
   fill-suc zero v (x ∷ d) l = refl

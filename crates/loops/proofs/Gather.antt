@@ -1,15 +1,14 @@
 -- Numbers that a loop gathers, rising: what holds of each, and the front of a list that the loop fills with them.
 use Prim.Native.Nat.{ℕ, zero, suc, _+_, _≤_, _<_, zero-le}
-use mathlib.Core.Path.{_≡_, refl, ap, _∙_}
+use mathlib.Core.Path.{_≡_, refl, ap}
 use mathlib.Core.Bool.{Bool, true, false, cond}
 use mathlib.Core.List.{List, [], _∷_, _++_}
 use native.Mathlib.Omega.{arith}
 use native.Mathlib.Nat.{not-suc-le-zero, le-of-suc-le-suc}
 use lib.Dec.{eqb}
-use lib.ListN.{length, getD, set, drop, take, length-append}
-use lib.Seq.{getD-set-same, getD-set-other, sets, sets-eq, take-suc, take-all, take-at, length-take-le}
+use lib.ListN.{length, getD, set, drop, length-append}
+use lib.Seq.{getD-set-same, getD-set-other}
 use native.Mathlib.Numerals.{add-one}
-use native.Mathlib.Nat.{add-zero, zero-add}
 use borrow.Author.Tests.{eqb-true, eqb-false}
 use Rattle.loops.specs.Loops.{turns, those, noted, counted, fronted}
 use Rattle.loops.specs.Gathering.{Gathering}
@@ -140,17 +139,3 @@ module _ (test : ℕ → Bool) (l₀ : List ℕ) where
   -- a count is never above the turns made
   pub gather-le : (i k : ℕ) (l : List ℕ) → Gathering test l₀ i k l → k ≤ i
   gather-le i k l g = omega (arith, those-le test i, g .count)
-
--- a loop that only counts them
-module _ (test : ℕ → Bool) where
-  pub count-start : 0 ≡ length (those test 0)
-  unfolding those turns
-  count-start = refl
-
-  pub count-again : (i k k′ : ℕ) → k ≡ length (those test i) → k′ ≡ counted (test i) k → k′ ≡ length (those test (i + 1))
-  unfolding counted
-  count-again i k k′ g e = go (test i) refl e
-    where
-      go : (b : Bool) → test i ≡ b → k′ ≡ cond b (suc k) k → k′ ≡ length (those test (i + 1))
-      go true t e = rw (add-one i, those-take test i t, e, g) (simp length-append (omega arith))
-      go false t e = rw (add-one i, those-skip test i t, e) g

@@ -48,10 +48,6 @@ module _ {A : Type 0} (z : A) (π ρ : ℕ → ℕ) (w : ℕ → A → A → A) 
     unfolding fold
     here k t l u h = let q : k ≡ i + (k - i) = omega arith in rw q (fold-here (k - i) t l (omega arith) h)
 
-  pub away : (k p : ℕ) → i ≤ k → ((t : ℕ) → i ≤ t → t < k → p ≡ π t → ⊥) → at (between i k a λ t b. set b (π t) (w t (at b (π t)) (at b (ρ t)))) p ≡ at a p
-  unfolding fold
-  away k p g h = let q : k ≡ i + (k - i) = omega arith in rw q (fold-away (k - i) p (λ t l u. h t l (omega arith)))
-
   pub long : (k : ℕ) → i ≤ k → length (between i k a λ t b. set b (π t) (w t (at b (π t)) (at b (ρ t)))) ≡ length a
   unfolding fold
   long k g = let q : k ≡ i + (k - i) = omega arith in rw q (fold-length (k - i))
