@@ -68,7 +68,7 @@ pub fn table() -> String {
         return String::new();
     };
     let mut text = String::from(
-        "\n| triangle solve, typical | n | full, ns | triangle, ns | more, ns | triangle / full |\n|---|---|---|---|---|---|\n",
+        "| triangle solve, typical | n | full, ns | triangle, ns | more, ns | triangle / full |\n|---|---|---|---|---|---|\n",
     );
     for n in SIZES {
         let mut rng = Rng::of_case("bench/triangle", n as u64, 0);
@@ -87,5 +87,6 @@ pub fn table() -> String {
             l / f
         );
     }
+    text.push('\n');
     text
 }
