@@ -3,12 +3,14 @@
 
     python3 -m unittest tools/test_readme.py
 
-Needs target/bin/bendsolve, which `rt check bendsolve` makes.
+Needs target/bin/bendsolve, which `rt check bendsolve` makes; where it is missing, the tests that need it fail at once and say so. None of
+them is the place for a proof, which takes minutes.
 """
 
 import os
 import re
 import shutil
+import signal
 import subprocess
 import sys
 import tempfile
@@ -17,7 +19,8 @@ import unittest
 ROOT = os.path.dirname(os.path.dirname(os.path.abspath(__file__)))
 EXAMPLE = os.path.join(ROOT, "tools", "solve-example.sh")
 NEEDS = os.path.join(ROOT, "tools", "needs.sh")
-BASIC = "awk cat cut dirname git grep mkdir printf sed sh sort tail uname".split()
+PROGRAM = os.path.join(ROOT, "target", "bin", "bendsolve")
+BASIC = "awk cat cut dirname git grep mkdir printf rm sed sh sort tail uname".split()
 
 
 def read(*path):
@@ -55,11 +58,27 @@ class Commands(unittest.TestCase):
     def with_python(self):
         os.symlink(sys.executable, os.path.join(self.bin, "python3"))
 
+    def needs_program(self):
+        if not os.path.exists(PROGRAM):
+            self.fail("target/bin/bendsolve is not there: run `rt check bendsolve` first, which proves and builds it in some minutes")
+
+    def run_proved(self, command):
+        """A command that has nothing left to prove. One that begins a proof all the same, since something has changed, is ended with all
+        that it started."""
+        with subprocess.Popen([command], stdout=subprocess.PIPE, stderr=subprocess.PIPE, text=True, start_new_session=True) as process:
+            try:
+                out, err = process.communicate(timeout=120)
+            except subprocess.TimeoutExpired:
+                os.killpg(process.pid, signal.SIGKILL)
+                self.fail("not done in 120 s: something has changed since it was proved; run `rt check bendsolve` first")
+        return process.returncode, out, err
+
     def test_the_example(self):
+        self.needs_program()
         before = files()
-        ran = subprocess.run([EXAMPLE], capture_output=True, text=True, timeout=3600)
-        self.assertEqual((ran.returncode, ran.stderr), (0, ""))
-        self.assertTrue(ran.stdout.endswith("\n\n" + read("examples", "shaft-six-pads", "shaft-six-pads.table.txt")), ran.stdout)
+        status, out, err = self.run_proved(EXAMPLE)
+        self.assertEqual((status, err), (0, ""))
+        self.assertTrue(out.endswith("\n\n" + read("examples", "shaft-six-pads", "shaft-six-pads.table.txt")), out)
         self.assertEqual(files(), before)
 
     def test_a_line_a_crate(self):
@@ -101,6 +120,7 @@ class Commands(unittest.TestCase):
 
     def test_walkthrough(self):
         """Each command of the page runs, and leaves nothing in the repository but in target/."""
+        self.needs_program()
         place = os.path.join(self.bin, "repository")
         os.makedirs(os.path.join(place, "target"))
         for name in ("docs", "examples", "tools", "target/bin"):
