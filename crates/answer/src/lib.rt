@@ -138,7 +138,7 @@ pub fn of_file(file: &[u8], out: &mut [u8]) -> usize
     let mut scale = [0.0f64; 32];
     let mut nu = [0.0f64; 32];
     let mut motion = [0.0f64; 2048];
-    let reading = bend_file::read(
+    match bend_file::read(
         file,
         &mut w,
         &mut u_free,
@@ -147,8 +147,7 @@ pub fn of_file(file: &[u8], out: &mut [u8]) -> usize
         &mut scale,
         &mut nu,
         &mut motion,
-    );
-    match reading {
+    ) {
         Reading::Refused(number) => printer::refused(number, out),
         Reading::Problem {
             rows,
