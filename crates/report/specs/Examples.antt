@@ -4,15 +4,15 @@ use mathlib.Core.Bool.{Bool, true, false, _&&_, Bool·beq}
 use mathlib.Core.List.{List, [], _∷_}
 use Prim.Native.Nat.{ℕ}
 use lib.Dec.{eqb}
-use lib.Ieee.{Float, binary64, ofBits, toBits, add, lt, eq, ne}
+use lib.Ieee.{binary64, ofBits, toBits, add, lt, eq, ne}
 use Rattle.floats.specs.Helpers.{larger}
 use Rattle.report.specs.declared.SolveReport.{SolveReport}
 use Rattle.report.specs.Joins.{NOTHING, sumFits, sumsFit, allSumsFit, Answer, refused, joined, and, continued, all}
 
 -- ---- reports and answers compared, every NaN as one
 
-same : SolveReport → SolveReport → Bool
-same a b =
+unfoldable pub sameReport : SolveReport → SolveReport → Bool
+sameReport a b =
     eqb (a .increments) (b .increments)
     && eqb (a .iterations) (b .iterations)
     && eqb (a .«most_iterations») (b .«most_iterations»)
@@ -29,7 +29,7 @@ alike : Answer → Answer → Bool
 alike (refused k) (refused l) = eqb k l
 alike (refused k) (joined b) = false
 alike (joined a) (refused l) = false
-alike (joined a) (joined b) = same a b
+alike (joined a) (joined b) = sameReport a b
 
 -- the counts in the order of the struct's fields, the flags, and the residual's bits
 report : ℕ → ℕ → ℕ → ℕ → ℕ → ℕ → ℕ → ℕ → Bool → Bool → ℕ → SolveReport
@@ -168,5 +168,5 @@ cases =
     lists (stops 4294967264 ∷ stops 32 ∷ []) (refused 13) ∷ []
 
 table : every cases ≡ true
-unfolding every cases passes alike same report rest sweeps stops each
+unfolding every cases passes alike sameReport report rest sweeps stops each
 table = refl

@@ -21,6 +21,7 @@ use Rattle.boxed.specs.Sweep as sweep
 use Rattle.boxed.specs.Solve as solve
 use Rattle.triangle.specs.Triangle.{whole, triangle, rowStart, withinLimits, wrongLength, triangleRefusal, refusalOf}
 use Rattle.report.specs.Joins as joins
+use Rattle.report.specs.Examples.{sameReport}
 use Rattle.report.specs.declared.SolveReport.{SolveReport}
 use Rattle.tally.specs.Tally as def
 
@@ -187,12 +188,6 @@ pub record Case : Type 0 where
 case : String → SolveReport → List def.Call → SolveReport → List ℕ → Case
 case m t l s n = record { name = m; first = t; calls = l; left = s; numbers = n }
 
-sameTally : SolveReport → SolveReport → Bool
-sameTally a b =
-    eqb (a .increments) (b .increments) && eqb (a .iterations) (b .iterations) && eqb (a .«most_iterations») (b .«most_iterations») && eqb (a .rejected) (b .rejected)
-    && eqb (a .anchors) (b .anchors) && eqb (a .sweeps) (b .sweeps) && eqb (a .«exact_passes») (b .«exact_passes») && eqb (a .stopped) (b .stopped) && Bool·beq (a .converged) (b .converged)
-    && Bool·beq (a .exact) (b .exact) && eqb (toBits binary64 (a .residual)) (toBits binary64 (b .residual))
-
 numberIn : solve.Outcome → ℕ
 numberIn (solve.refused k) = k
 numberIn (solve.solved r) = 0
@@ -216,7 +211,7 @@ answersAre (c ∷ l) (a ∷ r) [] = false
 answersAre (c ∷ l) (a ∷ r) (k ∷ n) = eqb (numberIn (a .outcome)) k && unless (a .outcome) (sameBuffers c a) && answersAre l r n
 
 comesTo : Case → def.Tallies → Bool
-comesTo c t = sameTally (t .tally) (c .left) && answersAre (c .calls) (t .answers) (c .numbers)
+comesTo c t = sameReport (t .tally) (c .left) && answersAre (c .calls) (t .answers) (c .numbers)
 
 passes : Case → Bool
 passes c = comesTo c (def.all (c .first) (c .calls))
@@ -273,7 +268,7 @@ says c e (solve.solved r) = Bool·beq (r .converged) c && Bool·beq (r .exact) e
 says c e (solve.infeasible f l r) = Bool·beq (r .converged) c && Bool·beq (r .exact) e
 
 isTaken : Taking → def.Tallied → Bool
-isTaken k t = says (k .converged) (k .exact) (t .answer .outcome) && same (map (toBits binary64) (t .answer .nu)) (k .left) && sameTally (t .tally) (k .tally)
+isTaken k t = says (k .converged) (k .exact) (t .answer .outcome) && same (map (toBits binary64) (t .answer .nu)) (k .left) && sameReport (t .tally) (k .tally)
 
 allTaken : List Taking → Bool
 allTaken [] = true
@@ -318,6 +313,6 @@ unfolding
     add sub mul div ofBits toBits lt le eq ne neg
     joins.sumFits joins.sumsFit joins.allSumsFit joins.and
     def.alone def.noNaN def.turned def.taken def.full def.numberOn def.answerOn def.with def.tallied def.before def.all
-    counts tallyOf case sameTally numberIn unless sameBuffers answersAre comesTo passes allPass cases
+    counts tallyOf case sameReport numberIn unless sameBuffers answersAre comesTo passes allPass cases
     taking says isTaken allTaken takings
 table = refl
