@@ -1,12 +1,10 @@
--- A run of values, as the loop that fills a buffer makes it: at the start, after one more value, at the end. And what a
--- buffer filled at its front has.
+-- A run of values, as the loop that fills a buffer makes it: at the start, after one more value, at the end.
 use Prim.Native.Nat.{ℕ, _+_, _*_, _≤_, _<_}
-use mathlib.Core.Path.{_≡_, refl, _∙_}
+use mathlib.Core.Path.{_≡_}
 use mathlib.Core.List.{List, _++_}
 use native.Mathlib.Omega.{arith}
 use lib.Ieee.{Float}
-use lib.ListN.{length, take, drop, set, length-append, length-drop}
-use lib.Seq.{take-at}
+use lib.ListN.{length, drop, set}
 use Rattle.loops.proofs.Fill.{tab-length, tab-start, tab-again}
 use Rattle.bend_file.specs.Little.{value, values, over}
 
@@ -28,11 +26,3 @@ module _ (f : List ℕ) (start first : ℕ) where
   pub values-done : (n count : ℕ) (d s : List Float) → s ≡ values f start first n ++ drop n d → n ≤ count → count ≤ n
       → s ≡ over (values f start first count) d
   values-done n count d s e h k = let q : n ≡ count = omega arith in rw (values-length count, ← q) e
-
-module _ {A : Type 0} (front l : List A) (fits : length front ≤ length l) where
-  -- its length is the buffer's, and its front the values
-  pub over-length : length (over front l) ≡ length l
-  over-length = length-append front (drop (length front) l) ∙ omega (arith, length-drop (length front) l)
-
-  pub over-front : take (length front) (over front l) ≡ front
-  over-front = take-at front (drop (length front) l) (length front) refl

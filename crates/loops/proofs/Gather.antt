@@ -1,12 +1,12 @@
 -- Numbers that a loop gathers, rising: what holds of each, and the front of a list that the loop fills with them.
 use Prim.Native.Nat.{ℕ, zero, suc, _+_, _≤_, _<_, zero-le}
-use mathlib.Core.Path.{_≡_, refl, ap}
+use mathlib.Core.Path.{_≡_, refl}
 use mathlib.Core.Bool.{Bool, true, false, cond}
 use mathlib.Core.List.{List, [], _∷_, _++_}
 use native.Mathlib.Omega.{arith}
 use native.Mathlib.Nat.{not-suc-le-zero, le-of-suc-le-suc}
 use lib.Dec.{eqb}
-use lib.ListN.{length, getD, set, drop, length-append}
+use lib.ListN.{length, getD, set, length-append}
 use lib.Seq.{getD-set-same, getD-set-other}
 use native.Mathlib.Numerals.{add-one}
 use borrow.Author.Tests.{eqb-true, eqb-false}
@@ -94,13 +94,6 @@ those-take test i h = rw h
 pub those-skip : (test : ℕ → Bool) (i : ℕ) → test i ≡ false → those test (suc i) ≡ those test i
 unfolding those turns
 those-skip test i h = rw h
-
--- a number written behind the front
-pub those-write : (l r : List ℕ) (i : ℕ) → length l < length r → set (l ++ drop (length l) r) (length l) i ≡ (l ++ (i ∷ [])) ++ drop (suc (length l)) r
-those-write [] [] i h = absurd (not-suc-le-zero h)
-those-write [] (x ∷ r) i h = refl
-those-write (a ∷ l) [] i h = absurd (not-suc-le-zero h)
-those-write (a ∷ l) (x ∷ r) i h = ap {B = List ℕ} (λ t. a ∷ t) (those-write l r i (le-of-suc-le-suc h))
 
 -- an element after a store
 pub getD-set : {A : Type 0} (l : List A) (i j : ℕ) (v d : A) → i < length l → getD (set l i v) j d ≡ cond (eqb j i) v (getD l j d)
