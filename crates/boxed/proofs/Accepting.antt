@@ -1,7 +1,7 @@
 -- What a call that is not refused was lent.
 use Prim.Native.Nat.{ℕ, suc, _*_, _%_, _≤_}
 use mathlib.Core.Path.{_≡_, refl, sym, _∙_}
-use mathlib.Core.Bool.{Bool, true, false, not, cond, _&&_, _||_, true≢false}
+use mathlib.Core.Bool.{Bool, true, false, not, _&&_, _||_, true≢false}
 use mathlib.Core.List.{List, [], _∷_}
 use native.Mathlib.Omega.{arith}
 use lib.Dec.{ltb, eqb}
@@ -13,13 +13,8 @@ use Rattle.loops.specs.Loops.{every}
 use Rattle.loops.proofs.Every.{both-true}
 use Rattle.box_rows.specs.Rows.{Problem, size}
 use Rattle.box_rows.specs.Private.{Sized}
-use Rattle.boxed.specs.Solve.{refusal}
+use Rattle.boxed.specs.Solve.{MAX_ROWS, MAX_MOTION, WORKSPACE, first, refusal}
 use Rattle.boxed.specs.Private.{goodScale, goodScaleAt, Matrix, Lent}
-
--- the number of the first test that holds
-abbrev first : List (Bool × ℕ) → ℕ
-first [] = 0
-first (c ∷ l) = cond (c .0) (c .1) (first l)
 
 first-false : (c : Bool) (k : ℕ) (l : List (Bool × ℕ)) → first ((c, suc k) ∷ l) ≡ 0 → (c ≡ false) × (first l ≡ 0)
 first-false true k l h = absurd (omega arith)
@@ -32,7 +27,7 @@ or-false false b h = (refl, h)
 pub record Accepted (p : Problem) (nu : List Float) (st l : List ℕ) (workspace : ℕ) : Type 0 where
   pub sized : Sized (size p) (p .w) (p .lo) (p .hi) (p .scale)
   pub values : length nu ≡ size p
-  pub work : 2304 ≤ workspace
+  pub work : WORKSPACE ≤ workspace
   pub states : size p ≤ length st
   pub listed : size p ≤ length l
 
@@ -59,17 +54,17 @@ unfolding refusal goodScale
 accepted p motion nu st l workspace h =
     let n = size p in
     let lengths = eqb (length (p .lo)) n && eqb (length (p .hi)) n && eqb (length (p .scale)) n && eqb (length nu) n in
-    let g = six (ltb 32 n || ltb 2048 (length motion)) (not (eqb (length (p .w)) (n * n))) (not lengths)
-    (not (every (goodScaleAt (p .scale)) n)) (ltb 0 n && not (eqb (length motion % n) 0)) (ltb workspace 2304 || ltb (length st) n || ltb (length l) n) h in
-    let few = ltb-false 32 n (or-false (ltb 32 n) (ltb 2048 (length motion)) (g .0) .0) in
+    let g = six (ltb MAX_ROWS n || ltb MAX_MOTION (length motion)) (not (eqb (length (p .w)) (n * n))) (not lengths)
+    (not (every (goodScaleAt (p .scale)) n)) (ltb 0 n && not (eqb (length motion % n) 0)) (ltb workspace WORKSPACE || ltb (length st) n || ltb (length l) n) h in
+    let few = ltb-false MAX_ROWS n (or-false (ltb MAX_ROWS n) (ltb MAX_MOTION (length motion)) (g .0) .0) in
     let square = eqb-true (length (p .w)) (n * n) (not-false (eqb (length (p .w)) (n * n)) (g .1)) in
     let seven = four (length (p .lo)) (length (p .hi)) (length (p .scale)) (length nu) n (g .2) in
-    let ten = or-false (ltb workspace 2304 || ltb (length st) n) (ltb (length l) n) (g .3) in
-    let lent = or-false (ltb workspace 2304) (ltb (length st) n) (ten .0) in
+    let ten = or-false (ltb workspace WORKSPACE || ltb (length st) n) (ltb (length l) n) (g .3) in
+    let lent = or-false (ltb workspace WORKSPACE) (ltb (length st) n) (ten .0) in
     record {
       sized = (few, square, seven .0, seven .1, seven .2);
       values = seven .3;
-      work = ltb-false workspace 2304 (lent .0);
+      work = ltb-false workspace WORKSPACE (lent .0);
       states = ltb-false (length st) n (lent .1);
       listed = ltb-false (length l) n (ten .1);
     }

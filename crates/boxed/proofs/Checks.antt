@@ -22,14 +22,14 @@ use Rattle.boxed.specs.declared.Counts.{Counts}
 use Rattle.boxed.specs.declared.Sweeping.{Sweeping}
 use Rattle.boxed.specs.declared.Sweeping.the-variants as sweeping
 use Rattle.boxed.specs.Solve as solve
-use Rattle.boxed.specs.Private.{PASS-USED, USED, Lent, Worked, Counted, Settled}
+use Rattle.boxed.specs.Private.{BEFORE, SOLVE_END, Lent, Worked, Counted, Settled}
 use Rattle.boxed.proofs.Testing.{all-fit}
 
 -- ---- the table of checkpoints as a loop goes through it: l is the table, r what is behind it
 
-or-false : (b : Bool) → b || false ≡ b
-or-false true = refl
-or-false false = refl
+or-with-false : (b : Bool) → b || false ≡ b
+or-with-false true = refl
+or-with-false false = refl
 
 module _ (k : ℕ) (l r : List ℕ) (b : Bool) where
   pub member-skip : (i : ℕ) → i < length l → (k ≡ getD l i 0 → ⊥) → solve.member k (drop i l ++ r) ≡ b → solve.member k (drop (i + 1) l ++ r) ≡ b
@@ -42,7 +42,7 @@ module _ (k : ℕ) (l r : List ℕ) (b : Bool) where
 
 pub member-end : (k c : ℕ) (l : List ℕ) (b : Bool) (i : ℕ) → length l ≤ i → solve.member k (drop i l ++ (c ∷ [])) ≡ b → eqb k c ≡ b
 unfolding solve.member
-member-end k c l b i h e = sym (or-false (eqb k c)) ∙ rw (drop-of-length-le l {i = i} h) at e
+member-end k c l b i h e = sym (or-with-false (eqb k c)) ∙ rw (drop-of-length-le l {i = i} h) at e
 
 -- ---- how the solve goes on after a pass
 
@@ -89,19 +89,19 @@ keeping a n w t = putMid a (a + n - a) w t
 put-length : (a n : ℕ) (w t : List Float) → a + n ≤ length w → length t ≡ n → length (keeping a n w t) ≡ length w
 put-length a n w t h l = same-len-mid a (a + n - a) w t (omega (arith, length-take (a + n - a) (drop a w), length-drop a w))
 
--- w′ has t at these places, and past the 32 that multipliers take at most it is w
+-- w′ has t at these places, and past the most that multipliers take it is w
 pub record Keeps (a n : ℕ) (w t w′ : List Float) : Type 0 where
   pub part : take (a + n - a) (drop a w′) ≡ t
-  pub beyond : drop (a + 32) w′ ≡ drop (a + 32) w
+  pub beyond : drop (a + solve.MAX_ROWS) w′ ≡ drop (a + solve.MAX_ROWS) w
 
 -- w′ is what a pass over the places before leaves
-pub keeps : (a n : ℕ) (w t w′ : List Float) → n ≤ 32 → a + 32 ≤ length w → length t ≡ n → drop a w′ ≡ drop a (keeping a n w t) → Keeps a n w t w′
-keeps a n w t w′ few room long kept =
+pub keeps : (a n : ℕ) (w t w′ : List Float) → n ≤ solve.MAX_ROWS → a + solve.MAX_ROWS ≤ length w → length t ≡ n → drop a w′ ≡ drop a (keeping a n w t) → Keeps a n w t w′
+keeps a n w t w′ few enough long kept =
     let k : a + n - a ≡ n = omega arith in
     record {
       part = rw (kept, drop-at (take a w) (t ++ postOf a (a + n - a) w) a (length-take-le a w (omega arith)), k, take-at t (postOf a n w) n long);
-      beyond = later a (a + 32) w′ (keeping a n w t) (omega arith) kept
-          ∙ later (a + n) (a + 32) (keeping a n w t) w (omega arith) (drop-put a (a + n) w t (omega arith) (omega arith) (omega (arith, long)));
+      beyond = later a (a + solve.MAX_ROWS) w′ (keeping a n w t) (omega arith) kept
+          ∙ later (a + n) (a + solve.MAX_ROWS) (keeping a n w t) w (omega arith) (drop-put a (a + n) w t (omega arith) (omega arith) (omega (arith, long)));
     }
 
 module _ (p : box.Problem) (st : List ℕ) (nu : List Float) (rows : List ℕ) (work : List Float) (z : Lent p st nu rows work)
@@ -116,10 +116,10 @@ module _ (p : box.Problem) (st : List ℕ) (nu : List Float) (rows : List ℕ) (
   -- t is the copy of the multipliers that is kept
   pub attempted : (t : List Float) (g : Sweeping) (nu′ : List Float) → t ≡ nu → Left p st nu rows (keeping WORKSPACE (box.size p) work t) e st′ v rows′ work′
       → Settled e v (take (WORKSPACE + box.size p - WORKSPACE) (drop WORKSPACE work′)) g nu′
-      → (c : Counts) → Worked PASS-USED (solve.passed (solve.iterate nu st c) (exactPass p st nu)) rows work g nu′ st′ c rows′ work′
+      → (c : Counts) → Worked BEFORE (solve.passed (solve.iterate nu st c) (exactPass p st nu)) rows work g nu′ st′ c rows′ work′
   attempted t g nu′ s h k c =
       let few = z .lists .matrix .few in
-      let long : USED ≤ length work = z .workspace in
+      let long : SOLVE_END ≤ length work = z .workspace in
       let l : length t ≡ box.size p = ap length s ∙ z .lists .matrix .multipliers in
       let x = accepted (keeping WORKSPACE (box.size p) work t) (omega (arith, few, put-length WORKSPACE (box.size p) work t (omega arith) l)) h in
       let y = keeps WORKSPACE (box.size p) work t work′ few (omega arith) l (x .1) in
@@ -131,16 +131,21 @@ module _ (p : box.Problem) (st : List ℕ) (nu : List Float) (rows : List ℕ) (
 module _ (cap : ℕ) (p : box.Problem) (nu : List Float) (st : List ℕ) (n : Counts) (rows : List ℕ) (work : List Float) (b : Bool) (due : b ≡ solve.checkpoint cap (n .sweeps)) where
   abbrev Checked : Sweeping → Counts → List Float → List ℕ → List ℕ → List Float → Type 0
   Checked g c nu′ st′ rows′ work′ =
-      Counted PASS-USED (solve.checked cap p (solve.going (solve.iterate nu st n))) rows work (n .sweeps) (n .passes + 1) (record { sweeping = g; counts = c }) nu′ st′ rows′ work′
+      Counted BEFORE (solve.checked cap p (solve.going (solve.iterate nu st n))) rows work (n .sweeps) (n .passes + 1) (record { sweeping = g; counts = c }) nu′ st′ rows′ work′
 
   pub check-tried : (g : Sweeping) (nu′ : List Float) (st′ rows′ : List ℕ) (work′ : List Float) → b ≡ true
-      → ((c : Counts) → Worked PASS-USED (solve.passed (solve.iterate nu st c) (exactPass p st nu)) rows work g nu′ st′ c rows′ work′)
+      → ((c : Counts) → Worked BEFORE (solve.passed (solve.iterate nu st c) (exactPass p st nu)) rows work g nu′ st′ c rows′ work′)
       → Checked g (solve.counts (n .sweeps) (n .passes + 1) (n .stopped)) nu′ st′ rows′ work′
   unfolding solve.checked
   check-tried g nu′ st′ rows′ work′ t h =
       let w = h (solve.counts (n .sweeps) (suc (n .passes)) (n .stopped)) in
-      record { ran = rw (sym due ∙ t, add-one) (w .ran); workspace = w .workspace; sweeps = refl; passes = omega arith }
+      record { worked = record { ran = rw (sym due ∙ t, add-one) (w .ran); workspace = w .workspace }; sweeps = refl; passes = omega arith }
 
   pub check-not : b ≡ false → Checked sweeping.Going n nu st rows work
   unfolding solve.checked
-  check-not t = record { ran = rw (sym due ∙ t) (record { answer = refl; reached = refl; listed = refl }); workspace = refl; sweeps = refl; passes = omega arith }
+  check-not t =
+      record {
+        worked = record { ran = rw (sym due ∙ t) (record { answer = refl; reached = refl; listed = refl }); workspace = refl };
+        sweeps = refl;
+        passes = omega arith;
+      }

@@ -12,7 +12,7 @@ use Rattle.boxed.specs.Sweep as sweep
 use Rattle.boxed.specs.Private as private
 use Rattle.boxed.specs.Solve as solve
 use Rattle.boxed.specs.Solve.{iterate, Watch, Left}
-use Rattle.boxed.specs.Private.{USED, Worked, Answered}
+use Rattle.boxed.specs.Private.{SOLVE_END, Worked, Answered}
 use Rattle.boxed.proofs.Finishing.{solve-uses}
 use Rattle.boxed.specs.declared.BoxReport.{BoxReport}
 use Rattle.boxed.specs.declared.Counts.{Counts}
@@ -37,7 +37,7 @@ module _ (cap : ℕ) (p : box.Problem) (m : Watch) (nu : List Float) (st l : Lis
 
   -- g is how the run has ended
   pub some-act : (idle ≡ box.size p → ⊥) → (g : Sweeping) (nu₂ : List Float) (st₂ : List ℕ) (c : Counts) (r : BoxAnswer) (st′ l′ : List ℕ) (w w′ : List Float)
-      → Worked USED (solve.run cap p m (iterate nu₁ st₁ (solve.counts 0 0 0)) cap) l w g nu₂ st₂ c l′ w′
+      → Worked SOLVE_END (solve.run cap p m (iterate nu₁ st₁ (solve.counts 0 0 0)) cap) l w g nu₂ st₂ c l′ w′
       → Answered p idle g nu₂ st₂ c r st′
       → Left (solve.solve cap p m nu st l) r nu₂ st′ l′ w w′
   some-act h g nu₂ st₂ c r st′ l′ w w′ d k =
@@ -48,7 +48,7 @@ module _ (cap : ℕ) (p : box.Problem) (m : Watch) (nu : List Float) (st l : Lis
         multipliers = rw e (f .multipliers);
         states = rw e (f .states);
         listed = rw e (f .listed);
-        workspace = rw (solve-uses cap p m nu st l) (later USED 2304 w′ w (omega arith) (d .workspace));
+        workspace = rw (solve-uses cap p m nu st l) (later SOLVE_END solve.WORKSPACE w′ w (omega arith) (d .workspace));
       }
 
 -- ---- a number refuses, and 0 does not

@@ -16,7 +16,7 @@ use Rattle.boxed.specs.Sweep as sweep
 use Rattle.boxed.specs.Private as private
 use Rattle.boxed.specs.Solve as solve
 use Rattle.boxed.specs.Solve.{Run, going, ended, exact, converged, conflict, Iterate, iterate, Watch}
-use Rattle.boxed.specs.Private.{PASS-USED, USED, isGoing, TurnLent, Swept, Ran, Worked, Counted}
+use Rattle.boxed.specs.Private.{BEFORE, SOLVE_END, isGoing, TurnLent, Swept, Ran, Worked, Counted}
 use Rattle.boxed.proofs.Checks.{keeping, Keeps, keeps}
 use Rattle.boxed.proofs.Testing.{none-fight, some-fight}
 use Rattle.exact_pass.specs.Promise.{Front}
@@ -62,7 +62,7 @@ module _ (cap : ℕ) (m : Watch) (i : ℕ) {p : box.Problem} {nu : List Float} {
 
   -- what this turn comes to
   abbrev TurnCounted : Progress → List Float → List ℕ → List ℕ → List Float → Type 0
-  TurnCounted q nu′ st′ rows′ work′ = Counted USED (solve.turn cap p m i (going (iterate nu st n))) rows work (n .sweeps + 1) (n .passes + 1) q nu′ st′ rows′ work′
+  TurnCounted q nu′ st′ rows′ work′ = Counted SOLVE_END (solve.turn cap p m i (going (iterate nu st n))) rows work (n .sweeps + 1) (n .passes + 1) q nu′ st′ rows′ work′
 
   abbrev fighting : List ℕ
   fighting = sweep.grown nu₁ (p .scale) (length nu₁)
@@ -80,18 +80,20 @@ module _ (cap : ℕ) (m : Watch) (i : ℕ) {p : box.Problem} {nu : List Float} {
 
   -- the workspace after the sweep: the multipliers before it are past what a pass uses
   abbrev work₁ : List Float
-  work₁ = keeping PASS-USED (box.size p) work old
+  work₁ = keeping BEFORE (box.size p) work old
 
-  kept : (w : List Float) → drop PASS-USED w ≡ drop PASS-USED work₁ → Keeps PASS-USED (box.size p) work old w
-  kept w = keeps PASS-USED (box.size p) work old w (lent .lent .lists .matrix .few) (lent .lent .workspace) (swept .before-long)
+  kept : (w : List Float) → drop BEFORE w ≡ drop BEFORE work₁ → Keeps BEFORE (box.size p) work old w
+  kept w = keeps BEFORE (box.size p) work old w (lent .check .lent .lists .matrix .few) (lent .check .lent .workspace) (swept .before-long)
 
   pub turn-grown : (k ≡ 0 → ⊥) → TurnCounted (told (sweeping.Infeasible cause.Growth k) c) nu₁ st rows₁ work₁
   turn-grown h =
       let g : Sweeping = sweeping.Infeasible cause.Growth k in
       let r : Ran after rows g nu₁ st c rows₁ = some-fight cause.Growth nu₁ st rows k rows₁ fighting front h c in
       record {
-        ran = rw (turn-is, checked-ended rows g nu₁ st c rows₁ cap p after r refl, tested-ended rows g nu₁ st c rows₁ p m nu after r refl) r;
-        workspace = kept work₁ refl .beyond;
+        worked = record {
+          ran = rw (turn-is, checked-ended rows g nu₁ st c rows₁ cap p after r refl, tested-ended rows g nu₁ st c rows₁ p m nu after r refl) r;
+          workspace = kept work₁ refl .beyond;
+        };
         sweeps = refl;
         passes = omega arith;
       }
@@ -101,7 +103,7 @@ module _ (cap : ℕ) (m : Watch) (i : ℕ) {p : box.Problem} {nu : List Float} {
 
   -- b tells whether the solve goes on after the check
   module _ (none : k ≡ 0) {q : Progress} {nu₂ : List Float} {st₂ rows₂ : List ℕ} {work₂ : List Float} {b : Bool}
-      (checked : Counted PASS-USED (solve.checked cap p (going (iterate nu₁ st c))) rows₁ work₁ (n .sweeps + 1) (n .passes + 1) q nu₂ st₂ rows₂ work₂) (on : b ≡ isGoing (q .sweeping)) where
+      (checked : Counted BEFORE (solve.checked cap p (going (iterate nu₁ st c))) rows₁ work₁ (n .sweeps + 1) (n .passes + 1) q nu₂ st₂ rows₂ work₂) (on : b ≡ isGoing (q .sweeping)) where
     turn-on : solve.turn cap p m i (going (iterate nu st n)) ≡ solve.tested p m nu (solve.checked cap p (going (iterate nu₁ st c)))
     turn-on = turn-is ∙ ap (λ (r : Run). solve.tested p m nu (solve.checked cap p r)) (none-grown none .0)
 
@@ -110,28 +112,32 @@ module _ (cap : ℕ) (m : Watch) (i : ℕ) {p : box.Problem} {nu : List Float} {
 
     pub turn-ended : not b ≡ true → TurnCounted q nu₂ st₂ rows₂ work₂
     turn-ended f =
-        let r = checked .ran in
+        let r = checked .worked .ran in
         record {
-          ran = rw (turn-on, tested-ended rows₁ (q .sweeping) nu₂ st₂ (q .counts) rows₂ p m nu (solve.checked cap p (going (iterate nu₁ st c))) r (sym on ∙ not-true b f), ← rows-stay) r;
-          workspace = kept work₂ (checked .workspace) .beyond;
+          worked = record {
+            ran = rw (turn-on, tested-ended rows₁ (q .sweeping) nu₂ st₂ (q .counts) rows₂ p m nu (solve.checked cap p (going (iterate nu₁ st c))) r (sym on ∙ not-true b f), ← rows-stay) r;
+            workspace = kept work₂ (checked .worked .workspace) .beyond;
+          };
           sweeps = checked .sweeps;
           passes = checked .passes;
         }
 
     pub turn-tested : not b ≡ false → (g : Sweeping) (rows₃ : List ℕ)
-        → ((d : Counts) → Ran (solve.tested p m (take (PASS-USED + box.size p - PASS-USED) (drop PASS-USED work₂)) (going (iterate nu₂ st₂ d))) rows₂ g nu₂ st₂ d rows₃) → TurnCounted (told g (q .counts)) nu₂ st₂ rows₃ work₂
+        → ((d : Counts) → Ran (solve.tested p m (take (BEFORE + box.size p - BEFORE) (drop BEFORE work₂)) (going (iterate nu₂ st₂ d))) rows₂ g nu₂ st₂ d rows₃) → TurnCounted (told g (q .counts)) nu₂ st₂ rows₃ work₂
     turn-tested f g rows₃ h =
-        let x = goes-on rows₁ (q .sweeping) nu₂ st₂ (q .counts) rows₂ (solve.checked cap p (going (iterate nu₁ st c))) (checked .ran) (sym on ∙ not-false b f) in
+        let x = goes-on rows₁ (q .sweeping) nu₂ st₂ (q .counts) rows₂ (solve.checked cap p (going (iterate nu₁ st c))) (checked .worked .ran) (sym on ∙ not-false b f) in
         record {
-          ran = rw (turn-on, x .0, ← rows-stay, ← x .1) (rw (kept work₂ (checked .workspace) .part, swept .before) at (h (q .counts)));
-          workspace = kept work₂ (checked .workspace) .beyond;
+          worked = record {
+            ran = rw (turn-on, x .0, ← rows-stay, ← x .1) (rw (kept work₂ (checked .worked .workspace) .part, swept .before) at (h (q .counts)));
+            workspace = kept work₂ (checked .worked .workspace) .beyond;
+          };
           sweeps = checked .sweeps;
           passes = checked .passes;
         }
 
 -- ---- the sweeps, each from where the one before left off, until one ends the solve
 
--- the lengths and counts of a run's loop
+-- the counts of a run's loop and the lengths of its lists: the proof of `run` names none of them, its `omega` reads all
 pub record Kept (cap : ℕ) (st₀ st : List ℕ) (nu₀ nu : List Float) (rows₀ rows : List ℕ) (work₀ work : List Float) (c : Counts) : Type 0 where
   pub sweeps : c .sweeps ≤ cap
   pub passes : c .passes ≤ c .sweeps
@@ -140,14 +146,14 @@ pub record Kept (cap : ℕ) (st₀ st : List ℕ) (nu₀ nu : List Float) (rows�
   pub of-rows : length rows ≡ length rows₀
   pub of-work : length work ≡ length work₀
 
-abbrev pub first : List Float → List ℕ → Iterate
-first nu st = iterate nu st (solve.counts 0 0 0)
+abbrev pub initial : List Float → List ℕ → Iterate
+initial nu st = iterate nu st (solve.counts 0 0 0)
 
 -- what its sweeps have come to
 pub record Reached (cap : ℕ) (p : box.Problem) (m : Watch) (nu₀ : List Float) (st₀ rows₀ : List ℕ) (work₀ nu : List Float) (st rows : List ℕ) (work : List Float) (c : Counts) : Type 0 where
-  pub run : solve.run cap p m (first nu₀ st₀) (c .sweeps) ≡ going (iterate nu st c)
+  pub run : solve.run cap p m (initial nu₀ st₀) (c .sweeps) ≡ going (iterate nu st c)
   pub listed : rows ≡ rows₀
-  pub workspace : drop USED work ≡ drop USED work₀
+  pub workspace : drop SOLVE_END work ≡ drop SOLVE_END work₀
 
 module _ (cap : ℕ) (p : box.Problem) (m : Watch) (nu₀ : List Float) (st₀ rows₀ : List ℕ) (work₀ : List Float) where
   pub run-start : Reached cap p m nu₀ st₀ rows₀ work₀ nu₀ st₀ rows₀ work₀ (solve.counts 0 0 0)
@@ -155,34 +161,34 @@ module _ (cap : ℕ) (p : box.Problem) (m : Watch) (nu₀ : List Float) (st₀ r
   run-start = record { run = refl; listed = refl; workspace = refl }
 
   module _ (nu : List Float) (st rows : List ℕ) (work : List Float) (c : Counts) (so-far : Reached cap p m nu₀ st₀ rows₀ work₀ nu st rows work c) where
-    pub run-over : c .sweeps ≤ cap → cap ≤ c .sweeps → Worked USED (solve.run cap p m (first nu₀ st₀) cap) rows₀ work₀ sweeping.Going nu st c rows work
+    pub run-over : c .sweeps ≤ cap → cap ≤ c .sweeps → Worked SOLVE_END (solve.run cap p m (initial nu₀ st₀) cap) rows₀ work₀ sweeping.Going nu st c rows work
     run-over a b =
         let e : cap ≡ c .sweeps = omega arith in
-        let r : solve.run cap p m (first nu₀ st₀) cap ≡ going (iterate nu st c) = ap (solve.run cap p m (first nu₀ st₀)) e ∙ so-far .run in
+        let r : solve.run cap p m (initial nu₀ st₀) cap ≡ going (iterate nu st c) = ap (solve.run cap p m (initial nu₀ st₀)) e ∙ so-far .run in
         record { ran = rw r (record { answer = refl; reached = refl; listed = so-far .listed }); workspace = so-far .workspace }
 
     abbrev next : Run
     next = solve.turn cap p m (c .sweeps) (going (iterate nu st c))
 
-    step : solve.run cap p m (first nu₀ st₀) (suc (c .sweeps)) ≡ next
+    step : solve.run cap p m (initial nu₀ st₀) (suc (c .sweeps)) ≡ next
     unfolding solve.run turns
     step = rw (so-far .run)
 
-    module _ (q : Progress) (nu′ : List Float) (st′ rows′ : List ℕ) (work′ : List Float) (b : Bool) (swept : Counted USED next rows work (c .sweeps + 1) (c .passes + 1) q nu′ st′ rows′ work′) (on : b ≡ isGoing (q .sweeping)) where
+    module _ (q : Progress) (nu′ : List Float) (st′ rows′ : List ℕ) (work′ : List Float) (b : Bool) (swept : Counted SOLVE_END next rows work (c .sweeps + 1) (c .passes + 1) q nu′ st′ rows′ work′) (on : b ≡ isGoing (q .sweeping)) where
       pub run-again : not b ≡ false → Reached cap p m nu₀ st₀ rows₀ work₀ nu′ st′ rows′ work′ (q .counts)
       run-again f =
-          let x = goes-on rows (q .sweeping) nu′ st′ (q .counts) rows′ next (swept .ran) (sym on ∙ not-false b f) in
+          let x = goes-on rows (q .sweeping) nu′ st′ (q .counts) rows′ next (swept .worked .ran) (sym on ∙ not-false b f) in
           record {
-            run = ap (solve.run cap p m (first nu₀ st₀)) (swept .sweeps ∙ add-one (c .sweeps)) ∙ step ∙ x .0;
+            run = ap (solve.run cap p m (initial nu₀ st₀)) (swept .sweeps ∙ add-one (c .sweeps)) ∙ step ∙ x .0;
             listed = x .1 ∙ so-far .listed;
-            workspace = swept .workspace ∙ so-far .workspace;
+            workspace = swept .worked .workspace ∙ so-far .workspace;
           }
 
-      pub run-ended : not b ≡ true → c .sweeps < cap → Worked USED (solve.run cap p m (first nu₀ st₀) cap) rows₀ work₀ (q .sweeping) nu′ st′ (q .counts) rows′ work′
+      pub run-ended : not b ≡ true → c .sweeps < cap → Worked SOLVE_END (solve.run cap p m (initial nu₀ st₀) cap) rows₀ work₀ (q .sweeping) nu′ st′ (q .counts) rows′ work′
       unfolding solve.run
       run-ended f h =
-          let still = ended-stays rows (q .sweeping) nu′ st′ (q .counts) rows′ cap p m next (swept .ran) (sym on ∙ not-true b f) in
+          let still = ended-stays rows (q .sweeping) nu′ st′ (q .counts) rows′ cap p m next (swept .worked .ran) (sym on ∙ not-true b f) in
           record {
-            ran = rw (stays (solve.turn cap p m) (going (first nu₀ st₀)) next (suc (c .sweeps)) step (λ i g. still i) cap h, ← so-far .listed) (swept .ran);
-            workspace = swept .workspace ∙ so-far .workspace;
+            ran = rw (stays (solve.turn cap p m) (going (initial nu₀ st₀)) next (suc (c .sweeps)) step (λ i g. still i) cap h, ← so-far .listed) (swept .worked .ran);
+            workspace = swept .worked .workspace ∙ so-far .workspace;
           }

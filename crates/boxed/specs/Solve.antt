@@ -1,4 +1,5 @@
--- `BoxSolver::solve` of boxed.rs by document 01: the sweeps with their tests, the ending, the refusals. Definitions only.
+-- `BoxSolver::solve` of boxed.rs by document 01: the sweeps with their tests, the ending, the refusals.
+-- Definitions only.
 use Prim.Native.Nat.{ℕ, zero, suc, _*_, _/_, _%_}
 use mathlib.Core.Path.{_≡_}
 use mathlib.Core.Bool.{Bool, true, false, not, cond, _&&_, _||_}
@@ -20,14 +21,35 @@ use Rattle.boxed.specs.declared.BoxReport.{BoxReport}
 use Rattle.boxed.specs.declared.BoxAnswer.{BoxAnswer}
 use Rattle.boxed.specs.declared.BoxAnswer.the-variants.{Solved, Infeasible, Refused}
 
--- ---- the sweeps after which an exact pass is tried: the table's, and the last that there may be
+-- ---- constants of document 01
+
+-- the most rows of a problem
+abbrev pub MAX_ROWS : ℕ
+MAX_ROWS = 32
+
+-- the most values of its motion
+abbrev pub MAX_MOTION : ℕ
+MAX_MOTION = 2048
+
+-- the fewest values of a workspace
+abbrev pub WORKSPACE : ℕ
+WORKSPACE = 2304
+
+-- the most sweeps one solve runs
+abbrev pub SWEEP_CAP : ℕ
+SWEEP_CAP = 200
+
+abbrev pub CHECKPOINTS : List ℕ
+CHECKPOINTS = 1 ∷ 2 ∷ 4 ∷ 8 ∷ 16 ∷ 32 ∷ 64 ∷ 128 ∷ []
+
+-- ---- the sweeps after which an exact pass is tried: the checkpoints, and the last that there may be
 
 unfoldable pub member : ℕ → List ℕ → Bool
 member k [] = false
 member k (a ∷ l) = eqb k a || member k l
 
 abbrev pub checkpoint : ℕ → ℕ → Bool
-checkpoint cap k = member k (1 ∷ 2 ∷ 4 ∷ 8 ∷ 16 ∷ 32 ∷ 64 ∷ 128 ∷ cap ∷ [])
+checkpoint cap k = member k (CHECKPOINTS ++ (cap ∷ []))
 
 -- ---- a solve between two sweeps, or how it ended
 
@@ -68,7 +90,9 @@ unfoldable pub checked : ℕ → box.Problem → Run → Run
 checked cap p (ended e s) = ended e s
 checked cap p (going s) =
     let c = counts (s .counts .sweeps) (suc (s .counts .passes)) (s .counts .stopped) in
-    cond (checkpoint cap (s .counts .sweeps)) (passed (iterate (s .nu) (s .states) c) (pass.exactPass p (s .states) (s .nu))) (going s)
+    cond (checkpoint cap (s .counts .sweeps))
+    (passed (iterate (s .nu) (s .states) c) (pass.exactPass p (s .states) (s .nu)))
+    (going s)
 
 -- the motion that is watched: a row of values for each coordinate, and a tolerance
 pub record Watch : Type 0 where
@@ -142,28 +166,49 @@ result p idle l (ended converged s) = unfound p idle l true s
 result p idle l (ended exact s) =
     record { outcome = solved (reportOf p idle true true s); nu = s .nu; states = s .states; listed = l }
 result p idle l (ended (conflict c r) s) =
-    record { outcome = infeasible c r (reportOf p idle false false s); nu = s .nu; states = s .states; listed = fronted r l }
+    record {
+      outcome = infeasible c r (reportOf p idle false false s);
+      nu = s .nu;
+      states = s .states;
+      listed = fronted r l;
+    }
 
 -- st are n states. Where all rows are Idle there is nothing to solve.
 unfoldable pub solve : ℕ → box.Problem → Watch → List Float → List ℕ → List ℕ → Result
 solve cap p m nu st l =
     let b = sweep.start (p .w) (box.size p) (p .lo) (p .hi) nu st (box.size p) in
     let r : BoxReport =
-    record { sweeps = 0; «exact_passes» = 0; converged = true; exact = true; residual = 0ᶠ; idle = b .idle; stopped = 0 } in
+    record {
+      sweeps = 0;
+      «exact_passes» = 0;
+      converged = true;
+      exact = true;
+      residual = 0ᶠ;
+      idle = b .idle;
+      stopped = 0;
+    } in
     cond (eqb (b .idle) (box.size p)) (record { outcome = solved r; nu = b .nu; states = b .states; listed = l })
     (result p (b .idle) l (run cap p m (iterate (b .nu) (b .states) (counts 0 0 0)) cap))
 
--- ---- refusals, in the order of document 01: 0 is none. `room` is the workspace's length.
+-- ---- refusals: a test and its number, in the order of document 01
 
+-- the number of the first test that holds, or 0 where none does
+abbrev pub first : List (Bool × ℕ) → ℕ
+first [] = 0
+first (c ∷ l) = cond (c .0) (c .1) (first l)
+
+-- `workspace` is the length of the workspace.
 unfoldable pub refusal : box.Problem → List Float → List Float → List ℕ → List ℕ → ℕ → ℕ
-refusal p motion nu st l room =
+refusal p motion nu st l workspace =
     let n = box.size p in
-    cond (ltb 32 n || ltb 2048 (length motion)) 5
-    (cond (not (eqb (length (p .w)) (n * n))) 6
-    (cond (not (eqb (length (p .lo)) n && eqb (length (p .hi)) n && eqb (length (p .scale)) n && eqb (length nu) n)) 7
-    (cond (not (every (λ (i : ℕ). isFinite (at (p .scale) i) && lt 0ᶠ (at (p .scale) i)) n)) 8
-    (cond (ltb 0 n && not (eqb (length motion % n) 0)) 9
-    (cond (ltb room 2304 || ltb (length st) n || ltb (length l) n) 10 0)))))
+    first
+    ((ltb MAX_ROWS n || ltb MAX_MOTION (length motion), 5)
+    ∷ (not (eqb (length (p .w)) (n * n)), 6)
+    ∷ (not (eqb (length (p .lo)) n && eqb (length (p .hi)) n && eqb (length (p .scale)) n && eqb (length nu) n), 7)
+    ∷ (not (every (λ (i : ℕ). isFinite (at (p .scale) i) && lt 0ᶠ (at (p .scale) i)) n), 8)
+    ∷ (ltb 0 n && not (eqb (length motion % n) 0), 9)
+    ∷ (ltb workspace WORKSPACE || ltb (length st) n || ltb (length l) n, 10)
+    ∷ [])
 
 -- states past the n of the problem stay
 unfoldable pub reply : ℕ → box.Problem → Watch → List Float → List ℕ → List ℕ → ℕ → Result
@@ -172,16 +217,13 @@ reply cap p m nu st l zero =
     record { outcome = x .outcome; nu = x .nu; states = x .states ++ drop (box.size p) st; listed = x .listed }
 reply cap p m nu st l (suc k) = record { outcome = refused (suc k); nu = nu; states = st; listed = l }
 
--- the most sweeps one solve runs
-abbrev pub SWEEP_CAP : ℕ
-SWEEP_CAP = 200
-
 unfoldable pub solveReply : box.Problem → Watch → List Float → List ℕ → List ℕ → ℕ → Result
-solveReply p m nu st l room = reply SWEEP_CAP p m nu st l (refusal p (m .motion) nu st l room)
+solveReply p m nu st l workspace = reply SWEEP_CAP p m nu st l (refusal p (m .motion) nu st l workspace)
 
 -- ---- what the call promises
 
--- the code's answer to an outcome: the rows of an infeasible one are the filled front of the row list, of which it tells the length
+-- the code's answer to an outcome: the rows of an infeasible one are the filled front of the row list, of which it
+-- tells the length
 abbrev pub answerOf : Outcome → BoxAnswer
 answerOf (refused k) = Refused k
 answerOf (solved r) = Solved r
@@ -190,13 +232,15 @@ answerOf (infeasible c l r) = Infeasible c (length l) r
 -- how many values at the workspace's front are free afterwards: none where the call is refused
 abbrev pub used : Outcome → ℕ
 used (refused k) = 0
-used (solved r) = 2304
-used (infeasible c l r) = 2304
+used (solved r) = WORKSPACE
+used (infeasible c l r) = WORKSPACE
 
--- The answer r of a call is that of the result x, and so are the multipliers, the states and the row list that it leaves. The workspace held w before the call and w′ after it.
-pub record Left (x : Result) (r : BoxAnswer) (nu : List Float) (st q : List ℕ) (w w′ : List Float) : Type 0 where
+-- The answer r of a call is that of the result x, and so are the multipliers, the states and the row list that it
+-- leaves. The workspace held `work` before the call and `work′` after it.
+pub record Left (x : Result) (r : BoxAnswer) (nu : List Float) (st rows : List ℕ) (work work′ : List Float)
+    : Type 0 where
   pub answer : r ≡ answerOf (x .outcome)
   pub multipliers : nu ≡ x .nu
   pub states : st ≡ x .states
-  pub listed : q ≡ x .listed
-  pub workspace : drop (used (x .outcome)) w′ ≡ drop (used (x .outcome)) w
+  pub listed : rows ≡ x .listed
+  pub workspace : drop (used (x .outcome)) work′ ≡ drop (used (x .outcome)) work

@@ -1,4 +1,5 @@
--- The start of a solve, one sweep, growth, and the tests after a sweep, by document 01 and boxed.rs. Definitions only. A loop's last argument is how far it has come.
+-- The start of a solve, one sweep, growth, and the tests after a sweep, by document 01 and boxed.rs. Definitions only.
+-- The last argument k of a loop is how many turns it has made.
 use Prim.Native.Nat.{ℕ, suc}
 use mathlib.Core.Bool.{cond, _&&_, _||_}
 use mathlib.Core.List.{List}
@@ -17,10 +18,14 @@ pub record Start : Type 0 where
   pub idle : ℕ
 
 unfoldable pub start : List Float → ℕ → List Float → List Float → List Float → List ℕ → ℕ → Start
-start w n lo hi nu st i =
-    turns i (record { nu = nu; states = st; idle = 0 }) λ i s.
+start w n lo hi nu st k =
+    turns k (record { nu = nu; states = st; idle = 0 }) λ i s.
     cond (box.isIdle (at (box.row w n i) i))
-    (record { nu = set (s .nu) i (clamp 0ᶠ (at lo i) (at hi i)); states = set (s .states) i box.idle; idle = suc (s .idle) })
+    (record {
+      nu = set (s .nu) i (clamp 0ᶠ (at lo i) (at hi i));
+      states = set (s .states) i box.idle;
+      idle = suc (s .idle);
+    })
     (record {
       nu = set (s .nu) i (clamp (at (s .nu) i) (at lo i) (at hi i));
       states = set (s .states) i box.inside;
@@ -30,43 +35,44 @@ start w n lo hi nu st i =
 -- ---- one sweep: each row that acts updates its multiplier, in order
 
 unfoldable pub sweep : List Float → List Float → List Float → List Float → List ℕ → List Float → ℕ → List Float
-sweep w uFree lo hi st nu i =
-    turns i nu λ i nu.
+sweep w uFree lo hi st nu k =
+    turns k nu λ i nu.
     let r = box.row w (length uFree) i in
     cond (box.acts st i)
     (set nu i (box.update (at nu i) (box.rowSum r (at uFree i) nu) (at r i) (at lo i) (at hi i)))
     nu
 
--- ---- the rows that a sweep stops at a bound: those of the first i that act and whose update is clamped when the sweep comes to the row
+-- ---- the rows that a sweep stops at a bound: those of the first k that act and whose update is clamped when the sweep
+-- comes to the row
 
 unfoldable pub stopped : List Float → List Float → List Float → List Float → List ℕ → List Float → ℕ → ℕ
-stopped w uFree lo hi st nu i =
-    turns i 0 λ i k.
+stopped w uFree lo hi st nu k =
+    turns k 0 λ i count.
     let v = sweep w uFree lo hi st nu i in
     let r = box.row w (length uFree) i in
     let x = at v i ⊖ box.rowSum r (at uFree i) v ⊘ at r i in
-    cond (box.acts st i && (lt x (at lo i) || lt (at hi i) x)) (suc k) k
+    cond (box.acts st i && (lt x (at lo i) || lt (at hi i) x)) (suc count) count
 
 -- ---- growth: the rows whose multiplier is above a million scales (DIVERGENCE), Idle rows included
 
 abbrev pub grown : List Float → List Float → ℕ → List ℕ
-grown nu scale i = those (λ (i : ℕ). lt (1e6 ⊗ at scale i) (abs (at nu i))) i
+grown nu scale k = those (λ (i : ℕ). lt (1e6 ⊗ at scale i) (abs (at nu i))) k
 
 -- ---- the residual: the largest natural residual over the rows that act, from 0
 
 unfoldable pub residual : box.Problem → List ℕ → List Float → ℕ → Float
-residual p st nu i = turns i 0ᶠ λ i worst. cond (box.acts st i) (larger worst (box.residualAt p nu i)) worst
+residual p st nu k = turns k 0ᶠ λ i worst. cond (box.acts st i) (larger worst (box.residualAt p nu i)) worst
 
--- ---- the motion of a sweep: the most that a coordinate moves, `motion` having a row of n values for each
+-- ---- the motion of a sweep: the most that one of k coordinates moves, `motion` having a row of values for each
 
 unfoldable pub moved : List Float → List Float → List Float → ℕ → Float
-moved motion nu before c =
-    turns c 0ᶠ λ c worst.
+moved motion nu before k =
+    turns k 0ᶠ λ c worst.
     let r = box.row motion (length nu) c in
     larger worst (abs (turns (length nu) 0ᶠ λ i s. s ⊕ at r i ⊗ (at nu i ⊖ at before i)))
 
 -- ---- the states that the multipliers show
 
 unfoldable pub classified : List Float → List Float → List Float → List Float → List ℕ → ℕ → List ℕ
-classified lo hi scale nu st i =
-    turns i st λ i st. cond (box.acts st i) (set st i (box.stateOf (at lo i) (at hi i) (at scale i) (at nu i))) st
+classified lo hi scale nu st k =
+    turns k st λ i st. cond (box.acts st i) (set st i (box.stateOf (at lo i) (at hi i) (at scale i) (at nu i))) st

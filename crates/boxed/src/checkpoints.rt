@@ -7,6 +7,7 @@ ghost use Rattle.exact_pass.specs.Pass.{exactPass};
 ghost use Rattle.boxed.specs.Solve as solve;
 ghost use Rattle.boxed.specs.Private as private;
 ghost use Rattle.boxed.specs.declared.Counts.{Counts};
+use crate::CHECKPOINT_COUNT;
 use crate::CHECKPOINTS;
 use crate::Cause;
 use crate::Counts;
@@ -20,7 +21,7 @@ fn checkpoint(cap: u32, k: u32) -> bool
     ensures { λ q. ⌜ q ≡ solve.checkpoint cap k ⌝ }
 {
     let mut i = 0;
-    while i < 8 {
+    while i < CHECKPOINT_COUNT {
         if k == CHECKPOINTS[i] {
             return true;
         }
@@ -67,7 +68,7 @@ fn attempt(
 ) -> Sweeping
     requires { ⌜ private.Lent (box.problem (now w) (now «u_free») (now lo) (now hi) (now scale)) (now states) (now nu)
         (now rows) (now work) ⌝ }
-    ensures { λ q. ⌜ ((c : Counts) → private.Worked private.PASS-USED
+    ensures { λ q. ⌜ ((c : Counts) → private.Worked private.BEFORE
         (solve.passed (solve.iterate (now (nu .entry)) (now (states .entry)) c)
         (exactPass
         (box.problem (now (w .entry)) (now («u_free» .entry)) (now (lo .entry)) (now (hi .entry)) (now (scale .entry)))
@@ -97,7 +98,7 @@ pub fn check(
 ) -> Progress
     requires { ⌜ private.CheckLent (box.problem (now w) (now «u_free») (now lo) (now hi) (now scale)) (now states)
         (now nu) (now rows) (now work) counts ⌝ }
-    ensures { λ q. ⌜ private.Counted private.PASS-USED
+    ensures { λ q. ⌜ private.Counted private.BEFORE
         (solve.checked cap
         (box.problem (now (w .entry)) (now («u_free» .entry)) (now (lo .entry)) (now (hi .entry)) (now (scale .entry)))
         (solve.going (solve.iterate (now (nu .entry)) (now (states .entry)) counts)))

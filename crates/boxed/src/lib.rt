@@ -31,8 +31,11 @@ const BEFORE: usize = exact_pass::WORKSPACE + MAX_ROWS;
 // The most sweeps one solve runs.
 pub const SWEEP_CAP: u32 = 200;
 
+// How many checkpoints there are.
+const CHECKPOINT_COUNT: usize = 8;
+
 // The sweeps after which an exact pass is tried, beside the last that there may be.
-pub const CHECKPOINTS: [u32; 8] = [1, 2, 4, 8, 16, 32, 64, 128];
+pub const CHECKPOINTS: [u32; CHECKPOINT_COUNT] = [1, 2, 4, 8, 16, 32, 64, 128];
 
 // How a solve found that no motion meets every row: by growth, in an exact pass, or after a sweep.
 pub enum Cause {
@@ -159,7 +162,7 @@ impl BoxSolver {
         rows: &[usize],
         workspace: usize,
     ) -> u32
-        ensures { λ r. ⌜ r ≡ solve.refusal
+        ensures { λ q. ⌜ q ≡ solve.refusal
             (box.problem (now (w .entry)) (now («u_free» .entry)) (now (lo .entry)) (now (hi .entry))
             (now (scale .entry)))
             (now (motion .entry)) (now (nu .entry)) (now (states .entry)) (now (rows .entry)) workspace ⌝ }
@@ -194,14 +197,14 @@ impl BoxSolver {
         rows: &mut [usize],
         workspace: &mut [f64],
     ) -> BoxAnswer
-        ensures { λ r. ⌜
+        ensures { λ q. ⌜
             solve.Left
             (solve.solveReply
             (box.problem (now (w .entry)) (now («u_free» .entry)) (now (lo .entry)) (now (hi .entry))
             (now (scale .entry)))
             (solve.watch (now (motion .entry)) tolerance)
             (now (nu .entry)) (now (states .entry)) (now (rows .entry)) (length (now (workspace .entry))))
-            r (now (nu .exit)) (now (states .exit)) (now (rows .exit))
+            q (now (nu .exit)) (now (states .exit)) (now (rows .exit))
             (now (workspace .entry)) (now (workspace .exit)) ⌝ }
     {
         let n = u_free.len();
@@ -238,7 +241,7 @@ impl BoxSolver {
 
 // The rows that fight: the filled front of the row list, of which an infeasible answer tells the length.
 pub fn listed(rows: &[usize], count: usize) -> &[usize]
-    ensures { λ r. ⌜ now r ≡ take count (now (rows .entry)) ⌝ }
+    ensures { λ q. ⌜ now q ≡ take count (now (rows .entry)) ⌝ }
 {
     if count < rows.len() {
         return &rows[..count];

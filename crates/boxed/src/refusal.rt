@@ -12,7 +12,7 @@ use crate::read;
 
 // 5: more than 32 rows, or motion of more than 2,048 values.
 fn too_large(n: usize, motion: usize) -> bool
-    ensures { λ r. ⌜ r ≡ (ltb 32 n || ltb 2048 motion) ⌝ }
+    ensures { λ q. ⌜ q ≡ (ltb solve.MAX_ROWS n || ltb solve.MAX_MOTION motion) ⌝ }
 {
     if crate::MAX_ROWS < n {
         return true;
@@ -22,15 +22,15 @@ fn too_large(n: usize, motion: usize) -> bool
 
 // 6: W is not n by n.
 fn not_square(w: usize, n: usize) -> bool
-    requires { ⌜ n ≤ 32 ⌝ }
-    ensures { λ r. ⌜ r ≡ not (eqb w (n * n)) ⌝ }
+    requires { ⌜ n ≤ solve.MAX_ROWS ⌝ }
+    ensures { λ q. ⌜ q ≡ not (eqb w (n * n)) ⌝ }
 {
     w != n * n
 }
 
 // 7: bounds, scales or multipliers that are not one for each row.
 fn unequal(lo: usize, hi: usize, scale: usize, nu: usize, n: usize) -> bool
-    ensures { λ r. ⌜ r ≡ not (eqb lo n && eqb hi n && eqb scale n && eqb nu n) ⌝ }
+    ensures { λ q. ⌜ q ≡ not (eqb lo n && eqb hi n && eqb scale n && eqb nu n) ⌝ }
 {
     if lo != n {
         return true;
@@ -46,7 +46,7 @@ fn unequal(lo: usize, hi: usize, scale: usize, nu: usize, n: usize) -> bool
 
 // 8: a scale that is NaN, infinite or not above 0.
 fn good_scale(s: f64) -> bool
-    ensures { λ r. ⌜ r ≡ private.goodScale s ⌝ }
+    ensures { λ q. ⌜ q ≡ private.goodScale s ⌝ }
 {
     if floats::is_finite(s) {
         return s > 0.0;
@@ -56,7 +56,7 @@ fn good_scale(s: f64) -> bool
 
 fn good_scales(scale: &[f64], n: usize) -> bool
     requires { ⌜ length (now scale) ≡ n ⌝ }
-    ensures { λ r. ⌜ r ≡ loops.every (private.goodScaleAt (now (scale .entry))) n ⌝ }
+    ensures { λ q. ⌜ q ≡ loops.every (private.goodScaleAt (now (scale .entry))) n ⌝ }
 {
     let mut good = true;
     let mut i = 0;
@@ -69,7 +69,7 @@ fn good_scales(scale: &[f64], n: usize) -> bool
 
 // 9: motion that is no whole number of rows.
 fn uneven(motion: usize, n: usize) -> bool
-    ensures { λ r. ⌜ r ≡ (ltb 0 n && not (eqb (motion % n) 0)) ⌝ }
+    ensures { λ q. ⌜ q ≡ (ltb 0 n && not (eqb (motion % n) 0)) ⌝ }
 {
     if 0 < n {
         return motion % n != 0;
@@ -79,7 +79,7 @@ fn uneven(motion: usize, n: usize) -> bool
 
 // 10: a workspace, states or a row list that are too short.
 fn too_short(workspace: usize, states: usize, rows: usize, n: usize) -> bool
-    ensures { λ r. ⌜ r ≡ (ltb workspace 2304 || ltb states n || ltb rows n) ⌝ }
+    ensures { λ q. ⌜ q ≡ (ltb workspace solve.WORKSPACE || ltb states n || ltb rows n) ⌝ }
 {
     if workspace < crate::WORKSPACE {
         return true;
@@ -103,7 +103,7 @@ pub fn refusal(
     rows: &[usize],
     workspace: usize,
 ) -> u32
-    ensures { λ r. ⌜ r ≡ solve.refusal
+    ensures { λ q. ⌜ q ≡ solve.refusal
         (box.problem (now (w .entry)) (now («u_free» .entry)) (now (lo .entry)) (now (hi .entry)) (now (scale .entry)))
         (now (motion .entry)) (now (nu .entry)) (now (states .entry)) (now (rows .entry)) workspace ⌝ }
 {

@@ -42,7 +42,7 @@ fn turn(
 ) -> Progress
     requires { ⌜ private.TurnLent (box.problem (now w) (now «u_free») (now lo) (now hi) (now scale)) (now states)
         (now nu) (now rows) (now work) counts ⌝ }
-    ensures { λ q. ⌜ private.Counted private.USED
+    ensures { λ q. ⌜ private.Counted private.SOLVE_END
         (solve.turn (limits .cap)
         (box.problem (now (w .entry)) (now («u_free» .entry)) (now (lo .entry)) (now (hi .entry)) (now (scale .entry)))
         (solve.watch (now (motion .entry)) (limits .tolerance)) (counts .sweeps)
@@ -106,7 +106,7 @@ pub fn run(
 ) -> Progress
     requires { ⌜ private.TurnLent (box.problem (now w) (now «u_free») (now lo) (now hi) (now scale)) (now states)
         (now nu) (now rows) (now work) (solve.counts 0 0 0) ⌝ }
-    ensures { λ q. ⌜ private.Worked private.USED
+    ensures { λ q. ⌜ private.Worked private.SOLVE_END
         (solve.run (limits .cap)
         (box.problem (now (w .entry)) (now («u_free» .entry)) (now (lo .entry)) (now (hi .entry)) (now (scale .entry)))
         (solve.watch (now (motion .entry)) (limits .tolerance))

@@ -27,7 +27,7 @@ use Rattle.box_rows.specs.Rows.{Problem, size, state, acts, isIdle, pushed, row
 use Rattle.box_rows.specs.Private.{rowOf}
 use Rattle.boxed.specs.Sweep as sweep
 use Rattle.boxed.specs.Private.{isGrown, residualRow}
-use Rattle.boxed.specs.Private.{left, nothing}
+use Rattle.boxed.specs.Private.{resultWith, nothing}
 use Rattle.boxed.specs.Solve.{Ending, exact, converged, conflict, Iterate, counts, Run, going, ended, Watch, run, Outcome, refused, solved, infeasible, Result, reportOf, unfound, result, solve, reply, SWEEP_CAP}
 use Rattle.boxed.proofs.Accepting.{Accepted, accepted}
 use Rattle.boxed.specs.declared.BoxReport.{BoxReport}
@@ -126,7 +126,7 @@ module _ (c : Call) (zeroth : number c ≡ 0) (fair : BoundsInOrder (c .problem)
 
   -- the answer of a call: states past those of the problem stay
   abbrev answered : Result → Result
-  answered x = left (x .outcome) (x .nu) (x .states ++ drop (size p) (c .states)) (x .listed)
+  answered x = resultWith (x .outcome) (x .nu) (x .states ++ drop (size p) (c .states)) (x .listed)
 
   row-states : (st : List ℕ) → length st ≡ size p → take (size p) (st ++ drop (size p) (c .states)) ≡ st
   row-states st h = take-at st (drop (size p) (c .states)) (size p) h
@@ -343,14 +343,14 @@ not-bound false s v e f g h = h (sym f ∙ e)
 
 -- every row is Idle, or the sweeps run
 solve-either : (P : Result → Type 0) (p : Problem) (m : Watch) (nu : List Float) (st l : List ℕ)
-    → (startOf p nu st .idle ≡ size p → P (left (solved (nothing (startOf p nu st .idle))) (startOf p nu st .nu) (startOf p nu st .states) l))
+    → (startOf p nu st .idle ≡ size p → P (resultWith (solved (nothing (startOf p nu st .idle))) (startOf p nu st .nu) (startOf p nu st .states) l))
     → ((startOf p nu st .idle ≡ size p → ⊥) → P (result p (startOf p nu st .idle) l (run SWEEP_CAP p m (firstIterate (startOf p nu st)) 200)))
     → P (solve SWEEP_CAP p m nu (take (size p) st) l)
 unfolding solve
 solve-either P p m nu st l x y = go (eqb (startOf p nu st .idle) (size p)) refl
   where
     go : (b : Bool) → eqb (startOf p nu st .idle) (size p) ≡ b
-        → P (cond b (left (solved (nothing (startOf p nu st .idle))) (startOf p nu st .nu) (startOf p nu st .states) l)
+        → P (cond b (resultWith (solved (nothing (startOf p nu st .idle))) (startOf p nu st .nu) (startOf p nu st .states) l)
         (result p (startOf p nu st .idle) l (run SWEEP_CAP p m (firstIterate (startOf p nu st)) 200)))
     go true e = x (eqb-true (startOf p nu st .idle) (size p) e)
     go false e = y (eqb-false (startOf p nu st .idle) (size p) e)
@@ -380,7 +380,7 @@ module _ (p : Problem) (nu : List Float) (st l : List ℕ) {room : ℕ} (ok : Ac
 
 -- all rows Idle: no row is on a bound, and every multiplier is as the clamp put it
 nothing-claims : (c : Call) → number c ≡ 0 → BoundsInOrder (c .problem) → (ok : Accepted (c .problem) (c .nu) (c .states) (c .listed) (c .room)) → started c .idle ≡ size (c .problem)
-    → Claims c (left (solved (nothing (started c .idle))) (started c .nu) (started c .states ++ drop (size (c .problem)) (c .states)) (c .listed))
+    → Claims c (resultWith (solved (nothing (started c .idle))) (started c .nu) (started c .states ++ drop (size (c .problem)) (c .states)) (c .listed))
 unfolding inBox sweepsAlone stoppedByLast passesMade
 nothing-claims c z fair ok e =
     let h = is-started (c .problem) (c .nu) (c .states) (c .listed) ok in

@@ -29,8 +29,8 @@ returns : tie.Need-returns
 unfolding solve.refusal private.goodScale
 returns c = search (refuses, passes, refuses-not, passes-not, needs)
 
-few : (q b : Bool) (n : ℕ) → q ≡ (ltb 32 n || b) → q ≡ false → n ≤ 32
-few q b n e h = ltb-false 32 n (or-false (ltb 32 n) b (sym e ∙ h) .0)
+few : (q b : Bool) (n : ℕ) → q ≡ (ltb solve.MAX_ROWS n || b) → q ≡ false → n ≤ solve.MAX_ROWS
+few q b n e h = ltb-false solve.MAX_ROWS n (or-false (ltb solve.MAX_ROWS n) b (sym e ∙ h) .0)
 
 returns-2 : tie.Need-returns-2
 unfolding solve.refusal private.goodScale
