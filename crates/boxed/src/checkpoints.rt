@@ -30,8 +30,8 @@ fn checkpoint(cap: u32, k: u32) -> bool
     k == cap
 }
 
-// How the solve goes on after a pass that ended so: its multipliers count where it found the solution, and else those
-// kept.
+// How the solve goes on after a pass that ended as e. Where the pass found the solution, nu stays as the pass left it;
+// otherwise the multipliers from before the pass, which are in `kept`, are copied back into nu.
 fn settle(e: Exact, kept: &[f64], nu: &mut [f64]) -> Sweeping
     requires { ⌜ length (now kept) ≡ length (now nu) ⌝ }
     ensures { λ q. ⌜ private.Settled e (now (nu .entry)) (now (kept .entry)) q (now (nu .exit)) ⌝ }

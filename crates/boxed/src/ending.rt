@@ -13,7 +13,7 @@ use crate::Sweeping;
 use crate::read;
 use crate::tests;
 
-// All rows Idle: nothing to solve.
+// The report where all rows are Idle, so that there is nothing to solve.
 pub fn nothing(idle: u32) -> BoxReport
     ensures { λ q. ⌜ q ≡ private.nothing idle ⌝ }
 {
@@ -48,7 +48,7 @@ fn classify_row(lo: &[f64], hi: &[f64], scale: &[f64], nu: &[f64], states: &mut 
     read::put_state(states, i, s);
 }
 
-// The states that the multipliers show.
+// Sets the state of every row that acts to the one that its multiplier shows.
 fn classify(lo: &[f64], hi: &[f64], scale: &[f64], nu: &[f64], states: &mut [u8])
     requires { ⌜ private.Scaled (length (now nu)) (now lo) (now hi) (now scale) (now states) (now nu) ⌝ }
     ensures { λ q. ⌜ now (states .exit)
@@ -85,7 +85,8 @@ fn report(counts: Counts, converged: bool, exact: bool, residual: f64, idle: u32
     }
 }
 
-// The answer of a solve that ended so, of whose rows so many are Idle.
+// The answer of a solve that ended as `progress` tells, of whose rows `idle` are Idle. Where no exact pass found the
+// solution and no rows fight, the states are set to those that the multipliers show.
 pub fn answer(
     w: &[f64],
     u_free: &[f64],

@@ -17,7 +17,7 @@ fn grown_row(v: f64, s: f64, i: usize, k: usize, rows: &mut [usize]) -> usize
     k
 }
 
-// They go to the front of `rows`, rising; how many there are.
+// Puts their numbers at the front of `rows`, in rising order, and answers how many there are.
 pub fn grown(nu: &[f64], scale: &[f64], rows: &mut [usize]) -> usize
     requires { ⌜ private.Listing (length (now nu)) (now scale) (now rows) ⌝ }
     ensures { λ q. ⌜ Gathering (private.grownAt (now (nu .entry)) (now (scale .entry))) (now (rows .entry))

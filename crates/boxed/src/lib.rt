@@ -6,7 +6,8 @@ ghost use Rattle.box_rows.specs.Rows as box;
 ghost use Rattle.boxed.specs.Solve as solve;
 ghost use Rattle.boxed.specs.Private as private;
 
-// The steps of a solve, in their order.
+// The steps of a solve are, in their order: refusal; start; run, which has for each turn sweep, growth, checkpoints and
+// tests; ending. `read` has the reads and stores that they share.
 mod checkpoints;
 mod ending;
 mod growth;
@@ -17,11 +18,14 @@ mod start;
 mod sweep;
 mod tests;
 
-// The most rows of a problem, the most values of its motion, and the fewest of its workspace.
+// The most rows of a problem.
 pub const MAX_ROWS: usize = 32;
 
+// The most values of its motion.
 pub const MAX_MOTION: usize = 2048;
 
+// The fewest values of a workspace. Document 01 asks for 2,304, and a shorter one is refused. A solve uses the first
+// 1,184 alone: up to `BEFORE`, and MAX_ROWS multipliers from there.
 pub const WORKSPACE: usize = 2304;
 
 // Where the workspace has the multipliers before a sweep: past an exact pass's part and the multipliers that the pass
@@ -62,8 +66,9 @@ pub struct BoxReport {
     pub stopped: u32,
 }
 
-// How a solve ended: the multipliers are in the caller's slice; or no motion meets every row, and so many rows at the
-// front of the row list fight; or it was refused with document 01's number.
+// How a solve ended. Solved: the multipliers are in the caller's slice. Infeasible: no motion meets every row; the rows
+// that fight are at the front of the row list, and the second value is how many they are. Refused: with document 01's
+// number.
 pub enum BoxAnswer {
     Solved(BoxReport),
     Infeasible(Cause, usize, BoxReport),
@@ -86,6 +91,7 @@ pub struct Counts {
     pub stopped: u32,
 }
 
+// What one sweep with its tests, or all of them, came to: how the solve goes on, and what it has counted.
 pub struct Progress {
     pub sweeping: Sweeping,
     pub counts: Counts,
@@ -97,7 +103,8 @@ pub struct Limits {
     pub tolerance: f64,
 }
 
-// The solve of a call that is not refused: every list has n values.
+// The solve of a call that is not refused. For n rows, W has n * n values; bounds, scales, multipliers and states have
+// n each; the row list has at least n, and the motion n for each coordinate. The workspace is not too short.
 fn solve_rows(
     w: &[f64],
     u_free: &[f64],
@@ -145,6 +152,8 @@ fn solve_rows(
     ending::answer(w, u_free, lo, hi, scale, states, nu, p, idle as u32)
 }
 
+// The solver of boxed.rs. There it keeps its workspace between solves; here it holds nothing, since the caller lends
+// the workspace.
 pub struct BoxSolver {}
 
 impl BoxSolver {

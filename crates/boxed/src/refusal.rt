@@ -44,7 +44,7 @@ fn unequal(lo: usize, hi: usize, scale: usize, nu: usize, n: usize) -> bool
     nu != n
 }
 
-// 8: a scale that is NaN, infinite or not above 0.
+// Whether a scale is finite and above 0.
 fn good_scale(s: f64) -> bool
     ensures { λ q. ⌜ q ≡ private.goodScale s ⌝ }
 {
@@ -54,6 +54,7 @@ fn good_scale(s: f64) -> bool
     false
 }
 
+// 8 is answered where this is false: a scale that is NaN, infinite or not above 0.
 fn good_scales(scale: &[f64], n: usize) -> bool
     requires { ⌜ length (now scale) ≡ n ⌝ }
     ensures { λ q. ⌜ q ≡ loops.every (private.goodScaleAt (now (scale .entry))) n ⌝ }

@@ -14,6 +14,7 @@ use crate::growth;
 use crate::sweep;
 use crate::tests;
 
+// Whether the solve goes on with the next sweep.
 fn going(s: Sweeping) -> bool
     ensures { λ q. ⌜ q ≡ private.isGoing s ⌝ }
 {
@@ -25,7 +26,8 @@ fn going(s: Sweeping) -> bool
     }
 }
 
-// One more sweep, after those counted.
+// One more sweep, after those counted, and its tests: growth first, then an exact pass where one is due, then the tests
+// of motion, residual and ray. Where one of them ends the solve, those after it are not made.
 fn turn(
     limits: Limits,
     w: &[f64],

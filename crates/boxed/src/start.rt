@@ -8,7 +8,8 @@ ghost use Rattle.boxed.specs.Sweep as sweep;
 ghost use Rattle.boxed.specs.Private as private;
 use crate::read;
 
-// Row i, of which d is the diagonal; how many rows up to it are Idle.
+// Sets the state and clamps the multiplier of row i, of which d is the diagonal. Answers how many rows up to it are
+// Idle, `idle` being those before it.
 fn start_row(
     d: f64,
     lo: f64,
@@ -35,7 +36,7 @@ fn start_row(
     idle
 }
 
-// How many rows are Idle.
+// Sets the state and clamps the multiplier of every row, and answers how many rows are Idle.
 pub fn start(w: &[f64], lo: &[f64], hi: &[f64], states: &mut [u8], nu: &mut [f64]) -> usize
     requires { ⌜ private.Matrix (length (now lo)) (now w) (now lo) (now hi) (now states) (now nu) ⌝ }
     ensures { λ q. ⌜ private.Started

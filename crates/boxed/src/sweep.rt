@@ -18,7 +18,8 @@ fn count(side: u8, k: u32) -> u32
     k + 1
 }
 
-// Row i; how many rows up to it are stopped, k being those before it.
+// Updates the multiplier of row i where the row acts. Answers how many rows up to it are stopped at a bound, k being
+// those before it.
 fn sweep_row(
     w: &[f64],
     u_free: &[f64],
@@ -56,8 +57,8 @@ fn sweep_row(
     count(v.side, k)
 }
 
-// How many rows are stopped. `before` gets the multipliers as they were: each is noted just before its row updates it,
-// which spares a walk of its own.
+// Updates the multiplier of every row that acts, and answers how many rows are stopped at a bound. `before` gets the
+// multipliers as they were: each is noted just before its row updates it, which spares a loop of its own.
 pub fn sweep(
     w: &[f64],
     u_free: &[f64],

@@ -16,6 +16,7 @@ use crate::MAX_ROWS;
 use crate::Sweeping;
 use crate::read;
 
+// The larger of `worst`, the largest natural residual of the rows before row i, and that of row i where it acts.
 fn residual_row(
     w: &[f64],
     u_free: &[f64],
@@ -110,7 +111,7 @@ fn moved(motion: &[f64], nu: &[f64], before: &[f64]) -> f64
     worst
 }
 
-// In y the direction in which the multipliers moved.
+// Writes into y the direction in which the multipliers moved.
 fn change(nu: &[f64], before: &[f64], y: &mut [f64])
     requires { ⌜ private.Pair (length (now nu)) (now before) (now y) ⌝ }
     ensures { λ q. ⌜ now (y .exit) ≡ private.change (now (nu .entry)) (now (before .entry))
@@ -124,6 +125,9 @@ fn change(nu: &[f64], before: &[f64], y: &mut [f64])
     }
 }
 
+// Whether the direction in which the sweep moved the multipliers is a ray, which shows that no motion meets every row.
+// If so, the rows that fight are put at the front of the row list, and the solve ends as infeasible. If not, it goes
+// on.
 fn ray_test(
     w: &[f64],
     u_free: &[f64],
@@ -155,7 +159,9 @@ fn ray_test(
     Sweeping::Infeasible(Cause::Sweep, c)
 }
 
-// `before` has the multipliers before the sweep.
+// How the solve goes on after a sweep, before which the multipliers were `before`. Where the motion of the sweep is not
+// within the tolerance, with the next sweep. Where it is, the solve has converged if the residual is small enough, and
+// otherwise the ray is tried, since multipliers that change while nothing moves may do so without end.
 pub fn tests(
     w: &[f64],
     u_free: &[f64],
