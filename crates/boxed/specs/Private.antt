@@ -137,6 +137,7 @@ pub record RowRead (w : List Float) (n i : ℕ) (r : List Float) : Type 0 where
   pub row : r ≡ box.row w n i
   pub long : length r ≡ n
 
+-- a start by its parts
 abbrev pub started : List Float → List ℕ → ℕ → sweep.Start
 started nu st k = record { nu = nu; states = st; idle = k }
 
@@ -248,6 +249,7 @@ classifyRow lo hi scale nu i st =
 
 -- ---- and of Solve.antt
 
+-- a result by its parts
 abbrev pub resultWith : Outcome → List Float → List ℕ → List ℕ → Result
 resultWith o nu st l = record { outcome = o; nu = nu; states = st; listed = l }
 

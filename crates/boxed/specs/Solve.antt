@@ -39,10 +39,11 @@ WORKSPACE = 2304
 abbrev pub SWEEP_CAP : ℕ
 SWEEP_CAP = 200
 
+-- the sweeps after which an exact pass is tried, beside the last that there may be
 abbrev pub CHECKPOINTS : List ℕ
 CHECKPOINTS = 1 ∷ 2 ∷ 4 ∷ 8 ∷ 16 ∷ 32 ∷ 64 ∷ 128 ∷ []
 
--- ---- the sweeps after which an exact pass is tried: the checkpoints, and the last that there may be
+-- ---- whether an exact pass is tried after sweep k: at the checkpoints, and after the last sweep that there may be
 
 unfoldable pub member : ℕ → List ℕ → Bool
 member k [] = false
