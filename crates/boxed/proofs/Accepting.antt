@@ -11,9 +11,9 @@ use lib.Ieee.{Float}
 use borrow.Author.Tests.{eqb-true, ltb-false, not-false}
 use Rattle.loops.specs.Loops.{every}
 use Rattle.loops.proofs.Every.{both-true}
-use Rattle.box_rows.specs.Rows.{Problem, size}
+use Rattle.box_rows.specs.Rows.{Problem, MAX_ROWS, size}
 use Rattle.box_rows.specs.Private.{Sized}
-use Rattle.boxed.specs.Solve.{MAX_ROWS, MAX_MOTION, WORKSPACE, first, refusal}
+use Rattle.boxed.specs.Solve.{MAX_MOTION, WORKSPACE, first, refusal}
 use Rattle.boxed.specs.Private.{goodScale, goodScaleAt, Matrix, Lent}
 
 first-false : (c : Bool) (k : ℕ) (l : List (Bool × ℕ)) → first ((c, suc k) ∷ l) ≡ 0 → (c ≡ false) × (first l ≡ 0)

@@ -92,16 +92,16 @@ put-length a n w t h l = same-len-mid a (a + n - a) w t (omega (arith, length-ta
 -- w′ has t at these places, and past the most that multipliers take it is w
 pub record Keeps (a n : ℕ) (w t w′ : List Float) : Type 0 where
   pub part : take (a + n - a) (drop a w′) ≡ t
-  pub beyond : drop (a + solve.MAX_ROWS) w′ ≡ drop (a + solve.MAX_ROWS) w
+  pub beyond : drop (a + box.MAX_ROWS) w′ ≡ drop (a + box.MAX_ROWS) w
 
 -- w′ is what a pass over the places before leaves
-pub keeps : (a n : ℕ) (w t w′ : List Float) → n ≤ solve.MAX_ROWS → a + solve.MAX_ROWS ≤ length w → length t ≡ n → drop a w′ ≡ drop a (keeping a n w t) → Keeps a n w t w′
+pub keeps : (a n : ℕ) (w t w′ : List Float) → n ≤ box.MAX_ROWS → a + box.MAX_ROWS ≤ length w → length t ≡ n → drop a w′ ≡ drop a (keeping a n w t) → Keeps a n w t w′
 keeps a n w t w′ few enough long kept =
     let k : a + n - a ≡ n = omega arith in
     record {
       part = rw (kept, drop-at (take a w) (t ++ postOf a (a + n - a) w) a (length-take-le a w (omega arith)), k, take-at t (postOf a n w) n long);
-      beyond = later a (a + solve.MAX_ROWS) w′ (keeping a n w t) (omega arith) kept
-          ∙ later (a + n) (a + solve.MAX_ROWS) (keeping a n w t) w (omega arith) (drop-put a (a + n) w t (omega arith) (omega arith) (omega (arith, long)));
+      beyond = later a (a + box.MAX_ROWS) w′ (keeping a n w t) (omega arith) kept
+          ∙ later (a + n) (a + box.MAX_ROWS) (keeping a n w t) w (omega arith) (drop-put a (a + n) w t (omega arith) (omega arith) (omega (arith, long)));
     }
 
 module _ (p : box.Problem) (st : List ℕ) (nu : List Float) (rows : List ℕ) (work : List Float) (z : Lent p st nu rows work)

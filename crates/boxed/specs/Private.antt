@@ -21,7 +21,7 @@ use Rattle.boxed.specs.declared.Sweeping.the-variants as sweeping
 use Rattle.boxed.specs.declared.BoxReport.{BoxReport}
 use Rattle.boxed.specs.declared.BoxAnswer.{BoxAnswer}
 use Rattle.boxed.specs.Sweep as sweep
-use Rattle.boxed.specs.Solve.{MAX_ROWS, Run, going, ended, exact, converged, conflict}
+use Rattle.boxed.specs.Solve.{Run, going, ended, exact, converged, conflict}
 use Rattle.boxed.specs.Solve.{Iterate, iterate, passed, Outcome, Result, result, answerOf}
 
 abbrev pub isGoing : Sweeping → Bool
@@ -59,7 +59,7 @@ pub record Scaled (n : ℕ) (lo hi scale : List Float) (st : List ℕ) (nu : Lis
 
 -- at most MAX_ROWS rows: their matrix, and for each row its bounds, state and multiplier
 pub record Matrix (n : ℕ) (w lo hi : List Float) (st : List ℕ) (nu : List Float) : Type 0 where
-  pub few : n ≤ MAX_ROWS
+  pub few : n ≤ box.MAX_ROWS
   pub square : length w ≡ n * n
   pub lower : length lo ≡ n
   pub upper : length hi ≡ n
@@ -101,11 +101,11 @@ pub record TestLists (p : box.Problem) (st : List ℕ) (nu old : List Float) (l 
 -- where a workspace has the multipliers before a sweep: past an exact pass's own values and the multipliers that the
 -- pass starts from
 abbrev pub BEFORE : ℕ
-BEFORE = promise.WORKSPACE + MAX_ROWS
+BEFORE = promise.WORKSPACE + box.MAX_ROWS
 
 -- where they end, which is the end of what a solve uses of the workspace
 abbrev pub SOLVE_END : ℕ
-SOLVE_END = BEFORE + MAX_ROWS
+SOLVE_END = BEFORE + box.MAX_ROWS
 
 -- the most that a count can be
 abbrev pub MOST : ℕ

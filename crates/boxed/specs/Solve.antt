@@ -23,11 +23,7 @@ use Rattle.boxed.specs.declared.BoxAnswer.the-variants.{Solved, Infeasib
 
 -- ---- constants of document 01
 
--- the most rows of a problem
-abbrev pub MAX_ROWS : ℕ
-MAX_ROWS = 32
-
--- the most values of its motion
+-- the most values of a problem's motion
 abbrev pub MAX_MOTION : ℕ
 MAX_MOTION = 2048
 
@@ -203,7 +199,7 @@ unfoldable pub refusal : box.Problem → List Float → List Float → List ℕ 
 refusal p motion nu st l workspace =
     let n = box.size p in
     first
-    ((ltb MAX_ROWS n || ltb MAX_MOTION (length motion), 5)
+    ((ltb box.MAX_ROWS n || ltb MAX_MOTION (length motion), 5)
     ∷ (not (eqb (length (p .w)) (n * n)), 6)
     ∷ (not (eqb (length (p .lo)) n && eqb (length (p .hi)) n && eqb (length (p .scale)) n && eqb (length nu) n), 7)
     ∷ (not (every (λ (i : ℕ). isFinite (at (p .scale) i) && lt 0ᶠ (at (p .scale) i)) n), 8)

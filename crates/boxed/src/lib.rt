@@ -18,10 +18,7 @@ mod start;
 mod sweep;
 mod tests;
 
-// The most rows of a problem.
-pub const MAX_ROWS: usize = 32;
-
-// The most values of its motion.
+// The most values of a problem's motion.
 pub const MAX_MOTION: usize = 2048;
 
 // The fewest values of a workspace. Document 01 asks for 2,304, and a shorter one is refused. A solve uses the first
@@ -30,7 +27,7 @@ pub const WORKSPACE: usize = 2304;
 
 // Where the workspace has the multipliers before a sweep: past an exact pass's part and the multipliers that the pass
 // starts from. A local array would have to be cleared in each sweep.
-const BEFORE: usize = exact_pass::WORKSPACE + MAX_ROWS;
+const BEFORE: usize = exact_pass::WORKSPACE + box_rows::MAX_ROWS;
 
 // The most sweeps one solve runs.
 pub const SWEEP_CAP: u32 = 200;

@@ -12,9 +12,9 @@ use crate::read;
 
 // 5: more than 32 rows, or motion of more than 2,048 values.
 fn too_large(n: usize, motion: usize) -> bool
-    ensures { λ q. ⌜ q ≡ (ltb solve.MAX_ROWS n || ltb solve.MAX_MOTION motion) ⌝ }
+    ensures { λ q. ⌜ q ≡ (ltb box.MAX_ROWS n || ltb solve.MAX_MOTION motion) ⌝ }
 {
-    if crate::MAX_ROWS < n {
+    if box_rows::MAX_ROWS < n {
         return true;
     }
     crate::MAX_MOTION < motion
@@ -22,7 +22,7 @@ fn too_large(n: usize, motion: usize) -> bool
 
 // 6: W is not n by n.
 fn not_square(w: usize, n: usize) -> bool
-    requires { ⌜ n ≤ solve.MAX_ROWS ⌝ }
+    requires { ⌜ n ≤ box.MAX_ROWS ⌝ }
     ensures { λ q. ⌜ q ≡ not (eqb w (n * n)) ⌝ }
 {
     w != n * n

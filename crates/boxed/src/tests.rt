@@ -12,7 +12,6 @@ ghost use Rattle.boxed.specs.Private as private;
 ghost use Rattle.boxed.specs.declared.Counts.{Counts};
 ghost use Rattle.boxed.specs.declared.Cause.the-variants as cause;
 use crate::Cause;
-use crate::MAX_ROWS;
 use crate::Sweeping;
 use crate::read;
 
@@ -150,7 +149,7 @@ fn ray_test(
         (now (rows .entry)) q (now (nu .entry)) (now (states .entry)) c (now (rows .exit))) ⌝ }
 {
     let n = u_free.len();
-    let mut y = [0.0f64; MAX_ROWS];
+    let mut y = [0.0f64; box_rows::MAX_ROWS];
     change(nu, before, &mut y[..n]);
     let c = exact_pass::ray(w, u_free, lo, hi, scale, states, &y[..n], rows);
     if c == 0 {

@@ -16,7 +16,7 @@ mod mirror;
 fn too_large(n: usize, motion: usize) -> bool
     ensures { λ r. ⌜ r ≡ (ltb 32 n || ltb 2048 motion) ⌝ }
 {
-    if boxed::MAX_ROWS < n {
+    if box_rows::MAX_ROWS < n {
         return true;
     }
     boxed::MAX_MOTION < motion

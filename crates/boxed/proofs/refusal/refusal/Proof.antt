@@ -5,6 +5,7 @@ use mathlib.Core.Bool.{Bool, true, false, not, cond, _&&_, _||_}
 use mathlib.Core.Path.{_≡_, sym, _∙_}
 use lib.Dec.{ltb, eqb}
 use borrow.Author.Tests.{ltb-false, eqb-true, not-false}
+use Rattle.box_rows.specs.Rows.{MAX_ROWS}
 use Rattle.boxed.specs.Solve as solve
 use Rattle.boxed.specs.Private as private
 use Rattle.loops.proofs.Every.{both-true}
@@ -29,8 +30,8 @@ returns : tie.Need-returns
 unfolding solve.refusal private.goodScale
 returns c = search (refuses, passes, refuses-not, passes-not, needs)
 
-few : (q b : Bool) (n : ℕ) → q ≡ (ltb solve.MAX_ROWS n || b) → q ≡ false → n ≤ solve.MAX_ROWS
-few q b n e h = ltb-false solve.MAX_ROWS n (or-false (ltb solve.MAX_ROWS n) b (sym e ∙ h) .0)
+few : (q b : Bool) (n : ℕ) → q ≡ (ltb MAX_ROWS n || b) → q ≡ false → n ≤ MAX_ROWS
+few q b n e h = ltb-false MAX_ROWS n (or-false (ltb MAX_ROWS n) b (sym e ∙ h) .0)
 
 returns-2 : tie.Need-returns-2
 unfolding solve.refusal private.goodScale
