@@ -6,8 +6,8 @@ ghost use Rattle.exact_pass.specs.Private as private;
 use crate::read;
 use crate::system;
 
-// The scratch of a step has one of three sizes, by the number of free rows, so that few free rows do not clear nine
-// kilobytes: for this many, for that many, or for MAX_ROWS.
+// The scratch of a step is for at most SMALL, MEDIUM or MAX_ROWS free rows, so that a step with few of them does not
+// clear nine kilobytes.
 const SMALL: usize = 2;
 
 const MEDIUM: usize = 8;
@@ -126,7 +126,7 @@ fn in_large(
     )
 }
 
-// In scratch for eight rows, or in the largest where more are free.
+// In scratch for MEDIUM rows, or in the largest where more are free.
 fn in_medium(
     w: &[f64],
     u_free: &[f64],
