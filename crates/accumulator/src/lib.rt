@@ -1,5 +1,7 @@
 // Exact row sums: a free motion and up to 32 products W_ij * nu_j added without rounding, in a Kulisch (long) accumulator. Each call is total, and its
 // contract is an equation with a definition of specs/. The solver does not use it: its row sums stay rounded.
+#![tactic(auto)]
+
 ghost use Rattle.std.specs.Prelude.{◌≡◌};
 ghost use Rattle.accumulator.specs.Accumulators as acc;
 

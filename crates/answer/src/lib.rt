@@ -1,5 +1,7 @@
 // From a bend file's bytes to the bytes that bendsolve writes: read, solve, print. The call is total, and its contract is
 // an equation with the definition in specs/, which is the reader's, the solver's and the printer's one after another.
+#![tactic(auto)]
+
 ghost use Rattle.std.specs.Prelude.{◌≡◌, ◌≤◌, length};
 ghost use Rattle.box_rows.specs.Rows as box;
 ghost use Rattle.boxed.specs.Solve as solve;

@@ -1,5 +1,7 @@
 // The reader of bend files: document 01's numbers 1 to 4 in their order, and the values of the problem that a file
 // holds. The call is total, and its contract is an equation with the definition of the format in specs/.
+#![tactic(auto)]
+
 ghost use Rattle.bend_file.specs.Read as read;
 
 pub mod chain;

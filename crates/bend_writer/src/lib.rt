@@ -1,5 +1,7 @@
 // The writer of chained bend files: document 02's W1, 1 to 40 steps with no free bytes. Each public call is total, and
 // its contract is an equation with the definition of the file in specs/.
+#![tactic(auto)]
+
 ghost use Rattle.bend_writer.specs.Write as write;
 
 mod checks;

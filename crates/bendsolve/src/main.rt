@@ -1,6 +1,8 @@
 // bendsolve: a bend file on standard input, its answer on standard output. The answer is made whole before any of it
 // is written. An input that cannot be read gets none, and a line on standard error says why; so does one where
 // standard output did not take the whole answer.
+#![tactic(auto)]
+
 mod input;
 
 use input::Input;

@@ -1,5 +1,6 @@
 // One row of a box problem, by its numbers: its update, its natural residual, the state that its multiplier shows, its
 // row sum, and its part in an exact pass and in a ray. Each call is total by nature.
+#![tactic(auto)]
 
 ghost use Rattle.std.specs.Prelude.{◌≡◌};
 ghost use Rattle.box_rows.specs.Rows as box;

@@ -1,5 +1,7 @@
 // The box solver of boxed.rs: sweeps with their tests, exact passes at the checkpoints, and what a solve reports and
 // leaves.
+#![tactic(auto)]
+
 ghost use Rattle.std.specs.Prelude.{◌≡◌, length, take};
 ghost use Rattle.box_rows.specs.Rows as box;
 ghost use Rattle.boxed.specs.Solve as solve;

@@ -1,6 +1,8 @@
 // The solver's public calls for C and Rust, by plain numbers and slices: a slice passes as a pointer and then a
 // length. include/piskorlu.h declares them. Each call is total; one that cannot be taken answers document 01's number
 // and writes nothing.
+#![tactic(auto)]
+
 ghost use Rattle.std.specs.Prelude.{◌≡◌, length};
 ghost use Rattle.box_rows.specs.Rows as box;
 ghost use Rattle.boxed.specs.Solve as solve;

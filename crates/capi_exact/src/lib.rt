@@ -1,4 +1,6 @@
 // Exact row sums for C and Rust, by plain numbers and slices: a slice passes as a pointer and then a length.
 // include/piskorlu.h declares the calls. Each is total; one that cannot be taken answers its number and writes nothing.
+#![tactic(auto)]
+
 mod exact;
 mod exact_nearest;

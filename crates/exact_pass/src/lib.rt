@@ -1,5 +1,7 @@
 // The exact pass of boxed.rs: a primal active-set method from the multipliers of a sweep. `step` reads as the Rust's
 // loop body, and the modules are its parts.
+#![tactic(auto)]
+
 ghost use Rattle.std.specs.Prelude.{◌≡◌};
 ghost use Rattle.box_rows.specs.Rows as box;
 ghost use Rattle.exact_pass.specs.Promise as promise;

@@ -1,4 +1,6 @@
 // A bool as a number, as the calls for C and Rust pass it.
+#![tactic(auto)]
+
 ghost use Rattle.std.specs.Prelude.{◌≡◌};
 ghost use Rattle.flags.specs.Flags as def;
 

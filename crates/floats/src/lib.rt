@@ -1,4 +1,6 @@
 // Document 01's float helpers and the square root of an f64. Each call is total, and its contract is an equation with a definition of specs/.
+#![tactic(auto)]
+
 ghost use Rattle.std.specs.Prelude.{◌≡◌};
 ghost use Rattle.floats.specs.Helpers as helpers;
 ghost use Rattle.floats.specs.Rough as rough;

@@ -1,5 +1,7 @@
 // The least-norm solution of a linear system of at most 32 rows and 32 columns by a complete orthogonal decomposition
 // (dense.rs), held to the definitions of specs/.
+#![tactic(auto)]
+
 ghost use Rattle.std.specs.Prelude.{◌≡◌, ℕ, ◌+◌, ◌*◌, ◌≤◌, ◌<◌, min, length, drop, replicate};
 ghost use Rattle.loops.specs.Loops.{tab};
 ghost use Rattle.floats.specs.Ops.{0ᶠ};

@@ -1,4 +1,6 @@
 // The f64 nearest to an exact row sum, from the 67 words of a Kulisch (long) accumulator.
+#![tactic(auto)]
+
 ghost use Rattle.std.specs.Prelude.{◌≡◌};
 ghost use Rattle.accumulator.specs.Accumulators as acc;
 ghost use Rattle.nearest.specs.ToNearest as def;

@@ -1,5 +1,7 @@
 // bendsolve's output as text in a lent buffer: as much of it as the buffer holds, and how much that is. Each public call
 // is total, and its contract is an equation with a definition of specs/.
+#![tactic(auto)]
+
 ghost use Rattle.printer.specs.Output as print;
 ghost use Rattle.printer.specs.Writing.{Wrote};
 

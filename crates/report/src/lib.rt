@@ -1,5 +1,7 @@
 // Reports of solves, joined: report.rs, where a count's sum above 4,294,967,295 gets document 01's number 13. Each call
 // is total, and its contract is an equation with a definition of specs/.
+#![tactic(auto)]
+
 ghost use Rattle.std.specs.Prelude.{◌≡◌, max as nat_max};
 ghost use Rattle.report.specs.Joins as joins;
 

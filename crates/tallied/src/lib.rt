@@ -1,5 +1,7 @@
 // The tallied solve of document 01: a solve whose report is joined to a tally, by value and then by reference.
 // specs/Tally.antt of crate tally defines it.
+#![tactic(auto)]
+
 ghost use Rattle.std.specs.Prelude.{◌≡◌, cond, eqb, length};
 ghost use Rattle.box_rows.specs.Rows as box;
 ghost use Rattle.boxed.specs.Solve as solve;

@@ -1,1 +1,2 @@
 // The tallied solve: its definition is in specs/Tally.antt.
+#![tactic(auto)]

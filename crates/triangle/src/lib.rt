@@ -1,5 +1,7 @@
 // The solve of a symmetric matrix that comes as its lower triangle by rows: the full solve of the mirrored matrix, which
 // stands in the call's own scratch while it runs. specs/Triangle.antt defines it.
+#![tactic(auto)]
+
 ghost use Rattle.std.specs.Prelude.{◌≡◌, not, ◌||◌, ◌*◌, ◌≤◌, ltb, eqb, length};
 ghost use Rattle.boxed.specs.Solve as solve;
 ghost use Rattle.triangle.specs.Triangle as triangle;
