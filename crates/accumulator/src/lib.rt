@@ -12,7 +12,7 @@ mod term;
 mod words;
 
 // A whole number of 2^-2148 in 67 words of 64 bits, the lowest first, two's complement: what was added so far, and how much of it.
-#[derive(Drop)]
+#[derive(Clone, Copy)]
 pub struct Accumulator {
     pub words: [u64; 67],
     // How many products it holds, at most 32.
@@ -22,7 +22,7 @@ pub struct Accumulator {
 }
 
 // What adding answers: 0 and the sum, or document 02's number 17 or 18 and the accumulator as it was.
-#[derive(Drop)]
+#[derive(Clone, Copy)]
 pub struct Added {
     pub number: u32,
     pub sum: Accumulator,

@@ -7,7 +7,7 @@ ghost use Rattle.accumulator.specs.Steps as steps;
 use crate::words;
 
 // A finite value: digits * 2^places units of 2^-1074, below 0 where negative.
-#[derive(Drop)]
+#[derive(Clone, Copy)]
 struct Scaled {
     negative: bool,
     digits: u64,
@@ -15,7 +15,7 @@ struct Scaled {
 }
 
 // low + 2^64 * high.
-#[derive(Drop)]
+#[derive(Clone, Copy)]
 struct Wide {
     low: u64,
     high: u64,

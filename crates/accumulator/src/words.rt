@@ -3,7 +3,7 @@ ghost use Rattle.std.specs.Prelude.{◌≡◌, ◌+◌, ◌*◌, ◌^◌, ◌<�
 ghost use Rattle.accumulator.specs.Accumulators as acc;
 
 // A word, and the carry out of it or the borrow that it owes.
-#[derive(Drop)]
+#[derive(Clone, Copy)]
 struct Word {
     word: u64,
     carry: u64,

@@ -9,7 +9,7 @@ use crate::{parts, step};
 
 // The steps of a chained bend file, newest first: how many, and where the trailer of each ends, with 0 past them. Where
 // the file is refused, its number, and 0 everywhere else.
-#[derive(Drop)]
+#[derive(Clone, Copy)]
 pub struct Chain {
     pub number: u32,
     pub count: usize,
@@ -18,7 +18,7 @@ pub struct Chain {
 
 // What a step gives: document 02's number for the whole file, or the step's rows, coordinates and motion tolerance, its
 // other values being in the lent buffers; or that the file has no such step, which is no refusal.
-#[derive(Drop)]
+#[derive(Clone, Copy)]
 pub enum StepReading {
     Refused(u32),
     Problem {

@@ -12,7 +12,7 @@ mod trailer;
 
 // What a bend file gives: document 01's number, or the problem's rows, coordinates and motion tolerance, its other
 // values being in the lent buffers.
-#[derive(Drop)]
+#[derive(Clone, Copy)]
 pub enum Reading {
     Refused(u32),
     Problem {

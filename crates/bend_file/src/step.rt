@@ -8,7 +8,7 @@ ghost use Rattle.bend_file.specs.Private as private;
 use crate::{little, trailer};
 
 // Where a step's values start and how many there are; or that the file is refused, or has no such step.
-#[derive(Drop)]
+#[derive(Clone, Copy)]
 pub enum Place {
     Refused(u32),
     Past,

@@ -5,7 +5,7 @@ ghost use Rattle.bend_file.specs.Trailer as trailer;
 use crate::little;
 
 // A file's number, or where its values start and how many there are.
-#[derive(Drop)]
+#[derive(Clone, Copy)]
 pub enum Shape {
     Refused(u32),
     At {

@@ -11,7 +11,7 @@ mod steps;
 
 // The steps of a pull, oldest first: the first `steps` places of each list. Step k has counts[k] values, the next ones
 // of those lent beside it.
-#[derive(Drop)]
+#[derive(Clone, Copy)]
 pub struct Pull {
     pub steps: usize,
     pub rows: [usize; 40],
@@ -20,7 +20,7 @@ pub struct Pull {
 }
 
 // What the writer answers: its number, or how many bytes the file has.
-#[derive(Drop)]
+#[derive(Clone, Copy)]
 pub enum Written {
     Refused(u32),
     Bytes(usize),

@@ -24,7 +24,7 @@ pub const AT_HI: u8 = 2;
 pub const IDLE: u8 = 3;
 
 // A row's numbers: its multiplier, its row sum, its diagonal and its box.
-#[derive(Drop)]
+#[derive(Clone, Copy)]
 pub struct Row {
     pub nu: f64,
     pub u: f64,
@@ -35,7 +35,7 @@ pub struct Row {
 
 // How far the boxes let a step go, and the row that blocks it with its state there: INSIDE is no row. The state is a
 // whole word: a byte would have the compiler copy what fills up the struct, row by row.
-#[derive(Drop)]
+#[derive(Clone, Copy)]
 pub struct Blocking {
     pub alpha: f64,
     pub row: usize,

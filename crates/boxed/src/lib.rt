@@ -40,7 +40,7 @@ const CHECKPOINT_COUNT: usize = 8;
 pub const CHECKPOINTS: [u32; CHECKPOINT_COUNT] = [1, 2, 4, 8, 16, 32, 64, 128];
 
 // How a solve found that no motion meets every row: by growth, in an exact pass, or after a sweep.
-#[derive(Drop)]
+#[derive(Clone, Copy)]
 pub enum Cause {
     Growth,
     Pass,
@@ -48,7 +48,7 @@ pub enum Cause {
 }
 
 // What a solve reports.
-#[derive(Drop)]
+#[derive(Clone, Copy)]
 pub struct BoxReport {
     // Sweeps run.
     pub sweeps: u32,
@@ -69,7 +69,7 @@ pub struct BoxReport {
 // How a solve ended. Solved: the multipliers are in the caller's slice. Infeasible: no motion meets every row; the rows
 // that fight are at the front of the row list, and the second value is how many they are. Refused: with document 01's
 // number.
-#[derive(Drop)]
+#[derive(Clone, Copy)]
 pub enum BoxAnswer {
     Solved(BoxReport),
     Infeasible(Cause, usize, BoxReport),
@@ -78,7 +78,7 @@ pub enum BoxAnswer {
 
 // How a solve goes on after a sweep: with the next one; or it ended, by a pass that found the solution, by its own
 // tests, or as no motion meets every row.
-#[derive(Drop)]
+#[derive(Clone, Copy)]
 pub enum Sweeping {
     Going,
     Exact,
@@ -87,7 +87,7 @@ pub enum Sweeping {
 }
 
 // What a solve has counted so far; of the rows stopped those of the last sweep alone.
-#[derive(Drop)]
+#[derive(Clone, Copy)]
 pub struct Counts {
     pub sweeps: u32,
     pub passes: u32,
@@ -95,14 +95,14 @@ pub struct Counts {
 }
 
 // What one sweep with its tests, or all of them, came to: how the solve goes on, and what it has counted.
-#[derive(Drop)]
+#[derive(Clone, Copy)]
 pub struct Progress {
     pub sweeping: Sweeping,
     pub counts: Counts,
 }
 
 // The most sweeps that a solve may run, and the motion at which it tests whether it is done.
-#[derive(Drop)]
+#[derive(Clone, Copy)]
 pub struct Limits {
     pub cap: u32,
     pub tolerance: f64,
@@ -149,7 +149,7 @@ fn solve_rows(
 
 // The solver of boxed.rs. There it keeps its workspace between solves; here it holds nothing, since the caller lends
 // the workspace.
-#[derive(Drop)]
+#[derive(Clone, Copy)]
 pub struct BoxSolver {}
 
 impl BoxSolver {

@@ -37,7 +37,7 @@ pub const WORKSPACE: usize = 1120;
 
 // What a pass, or a step of it, found. Moved is a step's answer alone: the pass goes on. Of the rows that no motion
 // meets the number is told; they stand at the front of the row list.
-#[derive(Drop)]
+#[derive(Clone, Copy)]
 pub enum Exact {
     Moved,
     Found,
@@ -46,21 +46,21 @@ pub enum Exact {
 }
 
 // What a solution leaves of two rows of its system.
-#[derive(Drop)]
+#[derive(Clone, Copy)]
 pub struct Residuals {
     pub first: f64,
     pub second: f64,
 }
 
 // The row on a bound pushed inside the hardest, and its natural residual: row n is none.
-#[derive(Drop)]
+#[derive(Clone, Copy)]
 pub struct Worst {
     pub residual: f64,
     pub row: usize,
 }
 
 // How many rows a ray has, and the farthest of them over its scale.
-#[derive(Drop)]
+#[derive(Clone, Copy)]
 pub struct RayRows {
     pub count: usize,
     pub farthest: f64,
@@ -68,7 +68,7 @@ pub struct RayRows {
 
 // The counters of Brent's method: how many steps were made since multipliers and states were marked, how many are made
 // before they are marked anew, and how many remain of the pass.
-#[derive(Drop)]
+#[derive(Clone, Copy)]
 pub struct Cycle {
     pub since: usize,
     pub span: usize,

@@ -16,7 +16,7 @@ pub const LOW: u8 = 1;
 pub const HIGH: u8 = 2;
 
 // A value put into its box, and the side at which it was stopped.
-#[derive(Drop)]
+#[derive(Clone, Copy)]
 pub struct Clamped {
     pub value: f64,
     pub side: u8,

@@ -21,14 +21,14 @@ mod trapezoid;
 mod vector;
 
 // A column and its squared norm.
-#[derive(Drop)]
+#[derive(Clone, Copy)]
 pub struct Pivot {
     pub col: usize,
     pub norm: f64,
 }
 
 // Four adjacent entries.
-#[derive(Drop)]
+#[derive(Clone, Copy)]
 pub struct Four {
     pub a: f64,
     pub b: f64,
@@ -37,14 +37,14 @@ pub struct Four {
 }
 
 // The pivot among the columns before `next`.
-#[derive(Drop)]
+#[derive(Clone, Copy)]
 pub struct Scan {
     pub best: Pivot,
     pub next: usize,
 }
 
 // A column's reflector: the entry that it leaves, its own first entry and its square.
-#[derive(Drop)]
+#[derive(Clone, Copy)]
 pub struct Householder {
     pub beta: f64,
     pub v0: f64,
@@ -52,7 +52,7 @@ pub struct Householder {
 }
 
 // The rank; or the call was refused and nothing written, document 01's number 12.
-#[derive(Drop)]
+#[derive(Clone, Copy)]
 pub enum Outcome {
     Rank(usize),
     Refused,
@@ -219,7 +219,7 @@ fn least_norm(
     rank
 }
 
-#[derive(Drop)]
+#[derive(Clone, Copy)]
 pub struct LeastNorm {}
 
 impl LeastNorm {

@@ -14,7 +14,7 @@ pub fn negative(words: &[u64]) -> bool
 }
 
 // A word, and the carry to the word above.
-#[derive(Drop)]
+#[derive(Clone, Copy)]
 pub struct Word {
     pub word: u64,
     pub carry: u64,

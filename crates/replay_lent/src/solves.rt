@@ -6,7 +6,7 @@ use report::SolveReport;
 use tallied::Tallied;
 
 // What a solve leaves of its buffers.
-#[derive(Drop)]
+#[derive(Clone, Copy)]
 struct Left {
     tallied: Tallied,
     nu: [f64; 2],

@@ -6,7 +6,7 @@ ghost use Rattle.std.specs.Prelude.{◌≡◌, max as nat_max};
 ghost use Rattle.report.specs.Joins as joins;
 
 // The counts and the residual of a solve, or of several added together.
-#[derive(Drop)]
+#[derive(Clone, Copy)]
 pub struct SolveReport {
     // Load increments solved.
     pub increments: u32,
@@ -33,7 +33,7 @@ pub struct SolveReport {
 }
 
 // What a join answers: the report of both together, or document 01's number.
-#[derive(Drop)]
+#[derive(Clone, Copy)]
 pub enum Joined {
     Report(SolveReport),
     Refused(u32),

@@ -16,7 +16,7 @@ use report::{Joined, SolveReport};
 pub mod triangles;
 
 // The tally that a solve leaves, and its answer.
-#[derive(Drop)]
+#[derive(Clone, Copy)]
 pub struct Tallied {
     pub tally: SolveReport,
     pub answer: BoxAnswer,

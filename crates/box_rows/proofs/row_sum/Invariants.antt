@@ -1,0 +1,13 @@
+use Prim.Native.Nat.{◌≤◌, ◌-◌}
+use lib.ListN.{length}
+use Rattle.box_rows.specs.Private.{Fewer}
+use Rattle.box_rows.proofs.Sums.{Summing, sum-start, sum_again, sum_done}
+use borrow.Author.Rules.{rules}
+use native.Mathlib.Omega.{arith}
+use Rattle.box_rows.proofs.row_sum.Given as goal
+
+abbrev pub invariant-loop-j : goal.invariant-loop-j
+invariant-loop-j l = (l.j ≤ l.n) × Fewer (length l.row) (length l.nu) l.n × Summing l.row l.u l.nu l.j l.s
+
+abbrev pub decreases-loop-j : goal.decreases-loop-j
+decreases-loop-j l = l.n - l.j
