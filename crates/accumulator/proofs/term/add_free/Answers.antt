@@ -1,0 +1,7 @@
+use Rattle.std.proofs.Common.{ap, ◌∙◌, arith, rules}
+use Rattle.accumulator.specs.Accumulators.{added}
+use Rattle.accumulator.proofs.Signs.{free-is, product_is}
+use Rattle.accumulator.proofs.term.add_free.Goals as goal
+
+pub returns : goal.returns
+returns c = c.add.ensures ∙ ap (added _) (free-is c.args.u _ _ _ c.units-x.ensures)

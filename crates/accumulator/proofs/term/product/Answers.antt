@@ -1,0 +1,6 @@
+use Rattle.std.proofs.Common.{arith, rules}
+use Rattle.accumulator.proofs.Products.{halved-above}
+use Rattle.accumulator.proofs.term.product.Goals as goal
+
+pub returns : goal.returns
+returns c = search (halved-above, rules)

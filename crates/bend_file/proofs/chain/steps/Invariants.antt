@@ -1,0 +1,11 @@
+use Prim.Native.Nat.{◌-◌}
+use Rattle.bend_file.proofs.Walks.{Walking, walk_start, walk_refused, walk_kept, walk_again, walk_done, walk-over}
+use borrow.Author.Rules.{rules}
+use Rattle.bend_file.proofs.chain.steps.Given as goal
+
+-- `bend_file::chain::steps` meets its contract. Assumes nothing.
+abbrev pub invariant-loop-count : goal.invariant-loop-count
+invariant-loop-count l = Walking l.file l.count l.end l.ends
+
+abbrev pub decreases-loop-count : goal.decreases-loop-count
+decreases-loop-count l = 40 - l.count

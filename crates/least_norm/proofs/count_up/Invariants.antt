@@ -1,0 +1,16 @@
+use Prim.Native.Nat.{ℕ, ◌-◌, ◌≤◌}
+use borrow.Author.Rules.{rules}
+use lib.ListN.{length, length-set, drop}
+use mathlib.Core.List.{◌++◌}
+use mathlib.Core.Path.{◌≡◌, refl}
+use native.Mathlib.Omega.{arith}
+use Rattle.loops.proofs.Fill.{tab-start, tab_again, tab_done}
+use Rattle.loops.specs.Loops.{tab}
+use Rattle.least_norm.proofs.count_up.Given as goal
+
+-- `least_norm::count_up` meets its contract. Assumes nothing.
+abbrev pub invariant-loop-i : goal.invariant-loop-i
+invariant-loop-i l = (l.i ≤ length l.initial.perm) × (length l.perm ≡ length l.initial.perm) × (l.perm ≡ tab (λ (i : ℕ). i) l.i ++ drop l.i l.initial.perm)
+
+abbrev pub decreases-loop-i : goal.decreases-loop-i
+decreases-loop-i l = length l.initial.perm - l.i
