@@ -1,0 +1,11 @@
+use native.Mathlib.Omega.{arith}
+use lib.ListN.{length-set}
+use borrow.Author.Rules.{rules}
+use Rattle.bend_writer.proofs.Laying.{laid16}
+use Rattle.bend_writer.proofs.put.put_u16.Goals as goal
+
+pub bounds-out-at-2 : goal.bounds-out-at-2
+bounds-out-at-2 c = simp length-set (omega arith)
+
+pub returns : goal.returns
+returns c = laid16 _ _ _

@@ -1,0 +1,14 @@
+use Prim.Native.Nat.{◌≤◌, ◌-◌}
+use mathlib.Core.Path.{◌≡◌}
+use native.Mathlib.Omega.{arith}
+use lib.ListN.{length}
+use borrow.Author.Rules.{rules}
+use Rattle.bend_writer.proofs.Passes.{Placed, placed-start, placed-inside, placed-fits, placed-room, placed_again, placed_done}
+use Rattle.bend_writer.proofs.steps.put_steps.Given as goal
+
+-- `bend_writer::steps::put_steps` meets its contract. Assumes nothing.
+abbrev pub invariant-loop-i : goal.invariant-loop-i
+invariant-loop-i l = (l.i ≤ l.steps) × (length l.out ≡ length l.initial.out) × Placed l.rows l.coords l.counts l.values l.initial.out l.i l.at l.from l.out
+
+abbrev pub decreases-loop-i : goal.decreases-loop-i
+decreases-loop-i l = l.steps - l.i
