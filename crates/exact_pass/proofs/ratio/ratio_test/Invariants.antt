@@ -1,0 +1,12 @@
+use Rattle.loops.proofs.Common.{ℕ, ◌-◌, ◌≤◌, ◌<◌, ◌≡◌, refl, sym, arith, length, rules}
+use Rattle.loops.proofs.Turns.{turns-from, turns_done}
+use Rattle.exact_pass.specs.Pass as pass
+use Rattle.exact_pass.proofs.Rows.{free-row}
+use Rattle.exact_pass.proofs.Stepping.{ratio_again}
+use Rattle.exact_pass.proofs.ratio.ratio_test.Given as goal
+
+abbrev pub invariant-loop-i : goal.invariant-loop-i
+invariant-loop-i l = (l.i ≤ l.k) × (l.k ≡ length l.free) × (l.r ≡ pass.ratio_test l.lo l.hi l.free l.nu l.y l.alpha l.i)
+
+abbrev pub decreases-loop-i : goal.decreases-loop-i
+decreases-loop-i l = l.k - l.i

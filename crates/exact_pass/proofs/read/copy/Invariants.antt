@@ -1,0 +1,10 @@
+use Rattle.loops.proofs.Common.{◌-◌, ◌≤◌, ◌≡◌, arith, length, nan, rules}
+use Rattle.box_rows.proofs.Matrix.{copy_start, copy_again, copy-part, copy-after}
+use lib.Seq.{paste}
+use Rattle.exact_pass.proofs.read.copy.Given as goal
+
+abbrev pub invariant-loop-i : goal.invariant-loop-i
+invariant-loop-i l = (l.i ≤ l.n) × (l.n ≡ length l.from) × (length l.to ≡ length l.initial.to) × (l.to ≡ paste l.initial.to l.a l.from l.i)
+
+abbrev pub decreases-loop-i : goal.decreases-loop-i
+decreases-loop-i l = l.n - l.i

@@ -1,0 +1,12 @@
+use Rattle.loops.proofs.Common.{◌-◌, ◌≤◌, ◌≡◌, refl, ap, ◌∙◌, arith, length, rules, eq-eqb, ne_eqb}
+use Rattle.loops.proofs.Updates.{updated-start, updated_again, updated_done}
+use Rattle.box_rows.proofs.Matrix.{row-length}
+use Rattle.exact_pass.specs.Private.{column_taken}
+use Rattle.exact_pass.proofs.Rows.{free-row}
+use Rattle.exact_pass.proofs.system.bound_column.Given as goal
+
+abbrev pub invariant-loop-i : goal.invariant-loop-i
+invariant-loop-i l = (l.i ≤ l.k) × (l.k ≡ length l.free) × (length l.rhs ≡ length l.initial.rhs) × (l.rhs ≡ column_taken l.w l.n l.free l.j l.v l.i l.initial.rhs)
+
+abbrev pub decreases-loop-i : goal.decreases-loop-i
+decreases-loop-i l = l.k - l.i
