@@ -1,0 +1,6 @@
+use mathlib.Core.Path.{refl}
+use borrow.Author.Rules.{rules}
+use Rattle.capi_chains.proofs.chain_writer.leave.Goals as goal
+
+pub returns-in-Bytes : goal.returns-in-Bytes
+returns-in-Bytes c = rw c.in-Bytes.is (refl, refl)

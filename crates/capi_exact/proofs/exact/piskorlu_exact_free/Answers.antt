@@ -1,0 +1,21 @@
+use native.Mathlib.Omega.{arith}
+use borrow.Author.Rules.{rules}
+use mathlib.Core.Path.{◌≡◌, sym, ap, ◌∙◌}
+use Rattle.capi_exact.proofs.Sums.{room, left-short, free-left}
+use Rattle.capi_exact.proofs.exact.piskorlu_exact_free.Goals as goal
+
+pub state-requires : goal.state-requires
+state-requires c = room _ _ (sym c.taken.ensures ∙ c.if-taken.true)
+
+pub leave-requires : goal.leave-requires
+leave-requires c = room _ _ (sym c.taken.ensures ∙ c.if-taken.true)
+
+pub returns-then-taken : goal.returns-then-taken
+returns-then-taken c =    free-left _ _ _ _ _ _ _
+    (sym c.taken.ensures ∙ c.if-taken.true)
+    c.leave.ensures _ _
+    c.state.ensures
+    c.add_free-added.ensures
+
+pub returns : goal.returns
+returns c = left-short _ _ _ _ (sym c.taken.ensures ∙ c.if-taken.false)

@@ -1,0 +1,17 @@
+use native.Mathlib.Omega.{arith}
+use borrow.Author.Rules.{rules}
+use mathlib.Core.Path.{◌≡◌, sym, ap, ◌∙◌}
+use Rattle.capi_exact.proofs.Sums.{room, left-short, row-left}
+use Rattle.capi_exact.proofs.exact.piskorlu_exact_row.Goals as goal
+
+pub leave-requires : goal.leave-requires
+leave-requires c = room _ _ (sym c.taken.ensures ∙ c.if-taken.true)
+
+pub returns-then-taken : goal.returns-then-taken
+returns-then-taken c =    row-left _ _ _ _ _ _ _
+    (sym c.taken.ensures ∙ c.if-taken.true)
+    c.leave.ensures _ _ _
+    c.row-added.ensures
+
+pub returns : goal.returns
+returns c = left-short _ _ _ _ (sym c.taken.ensures ∙ c.if-taken.false)
