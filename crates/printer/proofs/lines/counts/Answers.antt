@@ -1,0 +1,10 @@
+use Rattle.printer.proofs.Laws.{then}
+use borrow.Author.Rules.{rules}
+use Rattle.printer.proofs.lines.counts.Goals as goal
+
+-- TODO unknown goal slice-aggregate-count
+
+-- TODO unknown goal slice-aggregate-count-2
+
+pub returns : goal.returns
+returns c = then c.count-a.ensures c.count.ensures

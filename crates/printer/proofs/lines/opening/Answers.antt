@@ -1,0 +1,8 @@
+use Rattle.printer.proofs.Laws.{then}
+use borrow.Author.Rules.{rules}
+use Rattle.printer.proofs.lines.opening.Goals as goal
+
+-- TODO unknown goal slice-aggregate-text
+
+pub returns : goal.returns
+returns c = then c.text-a.ensures (then c.cause_word-b.ensures c.put.ensures)

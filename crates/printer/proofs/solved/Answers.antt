@@ -1,0 +1,10 @@
+use Rattle.printer.specs.Output as print
+use Rattle.printer.proofs.Laws.{then}
+use borrow.Author.Rules.{rules}
+use Rattle.printer.proofs.solved.Goals as goal
+
+-- TODO unknown goal slice-aggregate-text
+
+pub returns : goal.returns
+unfolding print.solved
+returns c = then c.text-a.ensures c.body.ensures

@@ -1,0 +1,6 @@
+use Rattle.printer.proofs.Laws.{then}
+use borrow.Author.Rules.{rules}
+use Rattle.printer.proofs.write.count.Goals as goal
+
+pub returns : goal.returns
+returns c = then c.text-next.ensures c.decimal.ensures
