@@ -36,7 +36,7 @@ impl Accumulator {
         free: false,
     };
 
-    // A free motion is added: 18 if there is one already, then 17 if u is nan_bits or infinite.
+    // A free motion is added: 18 if there is one already, then 17 if u is NaN or infinite.
     pub fn add_free(self, u: f64) -> Added
         ensures { result ≡ acc.add_free self u }
     {
@@ -64,7 +64,7 @@ impl Accumulator {
         }
     }
 
-    // A product is added: 18 if there are 32 already, then 17 if w or nu is nan_bits or infinite.
+    // A product is added: 18 if there are 32 already, then 17 if w or nu is NaN or infinite.
     pub fn add_product(self, w: f64, nu: f64) -> Added
         ensures { result ≡ acc.add_product self w nu }
     {
@@ -111,7 +111,7 @@ fn refused(number: u32) -> Added
 }
 
 // A whole row at once, as from EMPTY by add_free of u and add_product of w[j] and nu[j] for j rising, over the shorter of the two: 18 for more than 32
-// products, then 17 for a value that is nan_bits or infinite; a refused row answers EMPTY.
+// products, then 17 for a value that is NaN or infinite; a refused row answers EMPTY.
 pub fn row(u: f64, w: &[f64], nu: &[f64]) -> Added
     ensures { result ≡ acc.row u w.now nu.now }
 {

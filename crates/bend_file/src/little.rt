@@ -30,7 +30,7 @@ pub fn u64_at(file: &[u8], at: usize) -> u64
     u32_at(file, at) + 4294967296 * u32_at(file, at + 4)
 }
 
-// The f64 of these 8 bytes. `from_bits` is not defined at the pattern of a nan_bits, and 0.0 / 0.0 is the nan_bits.
+// The f64 of these 8 bytes. `from_bits` is not defined at the pattern of a NaN, and 0.0 / 0.0 is the NaN.
 pub fn f64_at(file: &[u8], at: usize) -> f64
     requires { at + 8 ≤ length file.now }
     ensures { result ≡ little.value file.now at }

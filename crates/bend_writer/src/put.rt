@@ -27,7 +27,7 @@ pub fn put_u64(out: &mut [u8], at: usize, x: u64)
     put_u32(out, at + 4, x / 4294967296);
 }
 
-// The 8 bytes of v. `to_bits` is not defined at a nan_bits, and every nan_bits is written as one.
+// The 8 bytes of v. `to_bits` is not defined at a NaN, and every NaN is written as one.
 pub fn put_f64(out: &mut [u8], at: usize, v: f64)
     requires { at + 8 ≤ length out.old }
     ensures { Laid out.old at out.new (bytes.pattern v) }

@@ -80,7 +80,7 @@ pub fn state_of(lo: f64, hi: f64, s: f64, v: f64) -> u8
     INSIDE
 }
 
-// Whether a row cannot act: its diagonal is nan_bits or at most 0.
+// Whether a row cannot act: its diagonal is NaN or at most 0.
 pub fn is_idle(d: f64) -> bool
     ensures { result ≡ box.is_idle d }
 {

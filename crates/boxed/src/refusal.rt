@@ -51,7 +51,7 @@ fn good_scale(s: f64) -> bool
     false
 }
 
-// 8 is answered where this is false: a scale that is nan_bits, infinite or not above 0.
+// 8 is answered where this is false: a scale that is NaN, infinite or not above 0.
 fn good_scales(scale: &[f64], n: usize) -> bool
     requires { length scale.now ≡ n }
     ensures { result ≡ loops.every (private.good_scale_at scale.now) n }

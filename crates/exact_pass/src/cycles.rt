@@ -7,7 +7,7 @@ ghost use Rattle.exact_pass.specs.Private as private;
 
 use crate::{Cycle, read};
 
-// Whether two multipliers are one value, every nan_bits as one.
+// Whether two multipliers are one value, every NaN as one.
 fn same(x: f64, y: f64) -> bool
     ensures { result ≡ true → x ≡ y }
 {

@@ -22,7 +22,7 @@ pub struct Clamped {
     pub side: u8,
 }
 
-// lo if v < lo, else hi if v > hi, else v: also for bounds that are nan_bits, infinite or inverted. Only a value that is
+// lo if v < lo, else hi if v > hi, else v: also for bounds that are NaN, infinite or inverted. Only a value that is
 // replaced by a bound is stopped: one that equals a bound is not.
 pub fn clamp(v: f64, lo: f64, hi: f64) -> Clamped
     ensures { (result.value ≡ helpers.clamp v lo hi) × (result.side ≡ helpers.side v lo hi) }
@@ -45,7 +45,7 @@ pub fn clamp(v: f64, lo: f64, hi: f64) -> Clamped
     }
 }
 
-// The larger of two: the one that isn't nan_bits, nan_bits if both are, and of +0 and -0 +0.
+// The larger of two: the one that isn't NaN, NaN if both are, and of +0 and -0 +0.
 pub fn larger(x: f64, y: f64) -> f64
     ensures { result ≡ helpers.larger x y }
 {
@@ -86,7 +86,7 @@ pub fn is_nan(v: f64) -> bool
     v != v
 }
 
-// Neither nan_bits nor an infinity. (An infinity is no constant of the language; 1.0 / 0.0 is one.)
+// Neither NaN nor an infinity. (An infinity is no constant of the language; 1.0 / 0.0 is one.)
 pub fn is_finite(v: f64) -> bool
     ensures { result ≡ helpers.is_finite v }
 {
@@ -113,7 +113,7 @@ fn sqrt_guessed(v: f64, near: u64) -> f64
     0.0 / 0.0
 }
 
-// The square root of v, rounded to nearest: of ±0 and +∞ that number, of nan_bits and negatives nan_bits.
+// The square root of v, rounded to nearest: of ±0 and +∞ that number, of NaN and negatives NaN.
 pub fn sqrt(v: f64) -> f64
     ensures { result ≡ root.sqrt v }
 {

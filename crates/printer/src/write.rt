@@ -61,7 +61,7 @@ pub fn hex(out: &mut [u8], at: usize, places: usize, x: u64) -> usize
     put(out, next, digit(x % 16))
 }
 
-// The bits of v. `to_bits` is not defined at a nan_bits, and every nan_bits is printed as one.
+// The bits of v. `to_bits` is not defined at a NaN, and every NaN is printed as one.
 pub fn pattern(out: &mut [u8], at: usize, v: f64) -> usize
     requires { at ≤ length out.old }
     ensures { Wrote out.old at out.new result (print.pattern v) }

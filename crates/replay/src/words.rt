@@ -37,7 +37,7 @@ pub fn u64_of(s: &[u8]) -> u64 {
     half(s, 0) + 0x1_0000_0000 * half(s, 4)
 }
 
-// The f64 whose bits stand there; `from_bits` is not defined at a NaN's pattern, and 0.0 / 0.0 is the nan_bits.
+// The f64 whose bits stand there; `from_bits` is not defined at a NaN's pattern, and 0.0 / 0.0 is the NaN.
 pub fn f64_of(s: &[u8]) -> f64 {
     let bits = u64_of(s);
     if bits % 0x8000_0000_0000_0000 > 0x7ff0_0000_0000_0000 {
@@ -46,7 +46,7 @@ pub fn f64_of(s: &[u8]) -> f64 {
     f64::from_bits(bits)
 }
 
-// Whether v is the value whose bits stand there, every nan_bits as one.
+// Whether v is the value whose bits stand there, every NaN as one.
 pub fn is_stored(v: f64, s: &[u8]) -> bool {
     let bits = u64_of(s);
     if v != v {

@@ -1,7 +1,7 @@
 // A check sum of a step's values, in which each bit of each value counts.
 ghost use Rattle.std.specs.Prelude.{◌<◌};
 
-// The bits of v. `to_bits` is not defined at a nan_bits, and there is one nan_bits.
+// The bits of v. `to_bits` is not defined at a NaN, and there is one NaN.
 fn bits(v: f64) -> u64 {
     if v != v {
         return 0x7ff8_0000_0000_0000;

@@ -3,7 +3,7 @@ use boxed::{BoxAnswer, BoxReport, Cause};
 use libc::STDOUT_FILENO;
 use report::{Joined, SolveReport};
 
-// Whether two floats are the same number, or both nan_bits.
+// Whether two floats are the same number, or both NaN.
 fn float(a: f64, b: f64) -> bool {
     if a != a {
         return b != b;

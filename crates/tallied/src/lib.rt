@@ -38,7 +38,7 @@ pub fn full(tally: SolveReport) -> bool
     tally.stopped > 4294967263
 }
 
-// Whether no multiplier is nan_bits.
+// Whether no multiplier is NaN.
 pub fn no_nan(nu: &[f64]) -> bool
     ensures { result ≡ def.no_nan nu.now }
 {
@@ -53,7 +53,7 @@ pub fn no_nan(nu: &[f64]) -> bool
 }
 
 // The SolveReport that a report is turned into: converged, or exact, only if the report says so and none of the
-// multipliers left is nan_bits.
+// multipliers left is NaN.
 fn turned(report: BoxReport, none: bool) -> SolveReport
     ensures { result ≡ def.turned report none }
 {
@@ -90,7 +90,7 @@ fn kept(tally: SolveReport, joined: Joined) -> SolveReport
     }
 }
 
-// A solve's report joined to the tally. It is told whether no multiplier left is nan_bits, and does not look for itself:
+// A solve's report joined to the tally. It is told whether no multiplier left is NaN, and does not look for itself:
 // with the loop in it, it would be called and not inlined, some 20 ns a solve.
 fn added(tally: SolveReport, report: BoxReport, none: bool) -> SolveReport
     ensures { result ≡ private.added tally report none }
@@ -98,7 +98,7 @@ fn added(tally: SolveReport, report: BoxReport, none: bool) -> SolveReport
     kept(tally, tally.and(turned(report, none)))
 }
 
-// The tally after such an answer, none of whose multipliers is nan_bits, or some.
+// The tally after such an answer, none of whose multipliers is NaN, or some.
 fn joined_by(tally: SolveReport, answer: BoxAnswer, none: bool) -> SolveReport
     ensures { result ≡ private.joined_by tally answer none }
 {
@@ -120,7 +120,7 @@ fn or_eleven(number: u32) -> u32
 }
 
 // BoxSolver::solve on a tally, which goes in and comes back with the solve's report joined to it, not converged and
-// not exact where a multiplier is left nan_bits. The answer has the report as `solve` gives it. 5 to 10 are tested first,
+// not exact where a multiplier is left NaN. The answer has the report as `solve` gives it. 5 to 10 are tested first,
 // then 11; a refused solve joins nothing and changes nothing.
 pub fn tallied_solve(
     tally: SolveReport,
