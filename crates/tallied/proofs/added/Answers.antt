@@ -1,0 +1,8 @@
+use Rattle.tallied.specs.Private as private
+use borrow.Author.Rules.{rules}
+use Rattle.tallied.proofs.added.Goals as goal
+
+-- `tallied::added` meets its contract. Assumes nothing.
+pub returns : goal.returns
+unfolding private.added
+returns c = rw (c.kept.ensures, c.and.ensures, c.turned.ensures)
