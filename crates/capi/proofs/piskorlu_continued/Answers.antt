@@ -1,0 +1,27 @@
+use Rattle.capi.proofs.Room.{room}
+use Rattle.capi.specs.Reports as report
+use mathlib.Core.Path.{sym, ◌∙◌, refl}
+use borrow.Author.Rules.{rules}
+use Rattle.capi.proofs.piskorlu_continued.Goals as goal
+
+pub read-requires : goal.read-requires
+read-requires c = (room _ _ _ _ (sym c.taken.ensures ∙ c.if-taken.true)).first
+
+pub read-requires-then-taken : goal.read-requires-then-taken
+read-requires-then-taken c = (room _ _ _ _ (sym c.taken.ensures ∙ c.if-taken.true)).second
+
+pub leave-requires : goal.leave-requires
+leave-requires c = ((room _ _ _ _ (sym c.taken.ensures ∙ c.if-taken.true)).joined, (room _ _ _ _ (sym c.taken.ensures ∙ c.if-taken.true)).one)
+
+pub returns-then-taken : goal.returns-then-taken
+returns-then-taken c =    rw (
+      ← c.taken.ensures,
+      c.if-taken.true,
+      ← c.read.ensures,
+      ← c.read-then-taken.ensures,
+      ← c.continued-joined.ensures,
+    )
+    c.leave.ensures
+
+pub returns : goal.returns
+returns c = rw (← c.taken.ensures, c.if-taken.false) (record { number_is = refl; counts_are = refl; residual-is = refl })
