@@ -1,15 +1,15 @@
 -- What the calls answer is what the definitions say, branch by branch. Assumes nothing.
-use Rattle.std.proofs.Common.{◌≡◌, ℕ, zero, suc, ◌+◌, ◌<◌, ◌≤◌, Bool, true, false, cond, ◌&&◌, ltb, leb, List, [], ◌∷◌, length, replicate, sym, refl, ap, ◌∙◌, subst, add-one, arith, le-ltb, lt-ltb, le-leb}
+use Rattle.std.proofs.Common.{◌≡◌, ℕ, zero, suc, ◌+◌, ◌<◌, ◌≤◌, Bool, true, false, ◌&&◌, List, length, replicate, sym, refl, ap, ◌∙◌, add-one, arith, le-ltb, lt-ltb, le-leb}
 use borrow.Author.Tests.{lt-leb}
 use lib.Ieee.{Float}
 use Rattle.loops.specs.Loops.{turns, every}
-use Rattle.loops.proofs.Turns.{turns-start, turns-step, turns_again, turns_done, turns-from}
+use Rattle.loops.proofs.Turns.{turns-from}
 use Rattle.loops.proofs.Every.{both_true, every-at}
 use Rattle.floats.specs.Helpers.{is_finite}
 use Rattle.floats.specs.Ops.{at}
 use Rattle.accumulator.specs.declared.Accumulator.{Accumulator}
 use Rattle.accumulator.specs.declared.Added.{Added}
-use Rattle.accumulator.specs.Accumulators.{base, digits_in, words, added, free_term, product_term, EMPTY, with_free, with_product, taken, refused, add_free, add_product, shorter, both_finite, row_sum, row}
+use Rattle.accumulator.specs.Accumulators.{digits_in, words, added, free_term, product_term, EMPTY, with_free, with_product, taken, refused, add_free, add_product, shorter, both_finite, row_sum, row}
 use Rattle.accumulator.specs.Steps.{products}
 
 abbrev made : ℕ → List ℕ → ℕ → Bool → Added

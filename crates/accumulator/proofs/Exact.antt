@@ -1,10 +1,9 @@
 -- The words of an accumulator mean the exact sum of the terms that it took, and a row is its single calls. Assumes nothing.
-use Rattle.std.proofs.Common.{◌≡◌, ℕ, zero, suc, ◌+◌, ◌-◌, ◌*◌, ◌/◌, ◌%◌, ◌^◌, ◌<◌, ◌≤◌, Bool, true, false, cond, ◌&&◌, T, eqb, ltb, leb, List, [], ◌∷◌, ℤ, pos, negsuc, ◌+ℤ◌, ◌*ℤ◌, neg_ℤ, nat_abs, sym, refl, ap, ◌∙◌, subst, true≢false, le_trans, le_refl, lt_of_le_of_lt, mul-le-mul_right, mod-lt, mod-eq_of_lt, mul_comm, div-lt_iff_lt-mul, mul-le-mul, div-add-mod', zero-mul, add-one, arith, ltb→lt, pow_pos, pow_mono, pow-add, ltb-false, ltb-true, le-ltb, lt-ltb, le-leb, leb-true}
+use Rattle.std.proofs.Common.{◌≡◌, ℕ, zero, suc, ◌+◌, ◌-◌, ◌*◌, ◌/◌, ◌%◌, ◌^◌, ◌<◌, ◌≤◌, Bool, true, false, cond, ◌&&◌, T, eqb, ltb, leb, List, [], ◌∷◌, ℤ, pos, negsuc, ◌+ℤ◌, ◌*ℤ◌, neg_ℤ, nat_abs, sym, refl, ap, ◌∙◌, subst, le_trans, le_refl, lt_of_le_of_lt, mul-le-mul_right, mod-lt, mod-eq_of_lt, mul_comm, div-lt_iff_lt-mul, mul-le-mul, div-add-mod', zero-mul, arith, ltb→lt, pow_mono, ltb-false, ltb-true, le-ltb, lt-ltb, leb-true}
 use native.Mathlib.Nat.{pow-succ', pow-zero, mod-eq-sub-mod, mul-mod_left, add-mul-mod_self_right, mod-add-div, div-le_of_le-mul}
-use borrow.Author.Tests.{lt-leb}
 use lib.IntN.{sub_ℕ}
 use lib.Ieee.{Float, nan, inf, fin, binary64, fits, up, down}
-use lib.Ieee.Fits.{and_l, and_r, down_pos}
+use lib.Ieee.Fits.{and_r}
 use Rattle.loops.specs.Loops.{turns, every}
 use Rattle.loops.proofs.Every.{both_true, every-at}
 use Rattle.floats.specs.Helpers.{is_finite}
@@ -13,7 +12,7 @@ use Rattle.floats.specs.Sqrt.{unit_count}
 use Rattle.accumulator.specs.declared.Accumulator.{Accumulator}
 use Rattle.accumulator.specs.declared.Added.{Added}
 use Rattle.accumulator.specs.Accumulators.{value_in, digits_in, base, value, words, size, half, meaning, residue, signed, units, free_term, product_term, added, EMPTY, with_free, with_product, taken, refused, add_free, add_product, shorter, both_finite, row_sum, row}
-use Rattle.accumulator.specs.Meaning.{Term, free, product, Held, AllHeld, term, add, after, sum, Exact, singles, RowIsSingles}
+use Rattle.accumulator.specs.Meaning.{Term, free, product, Held, AllHeld, term, after, sum, Exact, singles, RowIsSingles}
 use Rattle.accumulator.proofs.Values.{size_is, size_pos}
 use Rattle.accumulator.proofs.Calls.{row-state}
 

@@ -1,5 +1,5 @@
 -- A number of two words shifted by up to 63 bits into three words, and further by whole words. Assumes nothing.
-use Rattle.std.proofs.Common.{◌≡◌, ℕ, zero, suc, ◌+◌, ◌-◌, ◌*◌, ◌/◌, ◌%◌, ◌^◌, ◌<◌, ◌≤◌, sym, refl, ap, ◌∙◌, subst, mul-le-mul_right, mod-lt, mul_assoc, mul_comm, div-add-mod', arith, pow_pos, pow-add, shr-shr, shr_lt}
+use Rattle.std.proofs.Common.{◌≡◌, ℕ, zero, suc, ◌+◌, ◌-◌, ◌*◌, ◌/◌, ◌%◌, ◌^◌, ◌<◌, ◌≤◌, sym, refl, ap, ◌∙◌, subst, mul-le-mul_right, mod-lt, mul_assoc, div-add-mod', arith, pow_pos, pow-add, shr-shr, shr_lt}
 use native.Mathlib.Nat.{mul-div-mul_right, pow-succ'}
 use Rattle.accumulator.specs.Accumulators.{base}
 

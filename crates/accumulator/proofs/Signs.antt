@@ -1,5 +1,5 @@
 -- Terms by sign and magnitude. Assumes nothing.
-use Rattle.std.proofs.Common.{◌≡◌, ℕ, zero, suc, ◌+◌, ◌*◌, ◌^◌, Bool, true, false, List, ℤ, pos, negsuc, ◌*ℤ◌, neg_ℤ, sym, refl, ap, ◌∙◌, mul-zero, zero-mul, arith, pow-add}
+use Rattle.std.proofs.Common.{◌≡◌, ℕ, zero, suc, ◌+◌, ◌*◌, ◌^◌, Bool, true, false, List, ℤ, pos, ◌*ℤ◌, neg_ℤ, sym, refl, ap, ◌∙◌, mul-zero, zero-mul, arith, pow-add}
 use lib.Ieee.{Float, unlike}
 use Rattle.accumulator.specs.Accumulators.{base, signed, units, free_term, product_term, added}
 use Rattle.accumulator.specs.Steps.{Scales}

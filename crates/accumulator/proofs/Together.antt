@@ -1,5 +1,5 @@
 -- Two numbers in words added word by word, the lowest first. Assumes nothing.
-use Rattle.std.proofs.Common.{◌≡◌, ℕ, zero, suc, ◌+◌, ◌-◌, ◌*◌, ◌%◌, ◌^◌, ◌<◌, ◌≤◌, Bool, true, false, not, ◌&&◌, leb, List, [], ◌∷◌, length, get_or, take, sym, refl, ap, ◌∙◌, subst, mul_comm, pow-suc, add-one, arith, le-leb, leb-false, leb-true}
+use Rattle.std.proofs.Common.{◌≡◌, ℕ, zero, suc, ◌+◌, ◌-◌, ◌*◌, ◌%◌, ◌^◌, ◌<◌, ◌≤◌, Bool, true, false, not, ◌&&◌, leb, List, [], ◌∷◌, length, get_or, take, sym, refl, ap, ◌∙◌, mul_comm, pow-suc, add-one, arith, le-leb, leb-false, leb-true}
 use native.Mathlib.Nat.{pow-zero}
 use lib.Seq.{take-length}
 use borrow.Author.Tests.{lt-leb}

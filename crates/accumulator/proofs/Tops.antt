@@ -1,5 +1,5 @@
 -- The top word, and the sign of the whole number that 67 words mean. Assumes nothing.
-use Rattle.std.proofs.Common.{◌≡◌, ℕ, zero, suc, ◌+◌, ◌-◌, ◌*◌, ◌^◌, ◌<◌, ◌≤◌, Bool, true, false, cond, T, eqb, ltb, List, [], ◌∷◌, length, get_or, ℤ, pos, negsuc, neg_ℤ, sym, refl, ap, ◌∙◌, subst, le_trans, lt_of_lt_of_le, mul-le-mul_right, mul-le-mul_left, arith, eqb→eq, le-ltb, lt-ltb}
+use Rattle.std.proofs.Common.{◌≡◌, ℕ, zero, suc, ◌+◌, ◌-◌, ◌*◌, ◌^◌, ◌<◌, ◌≤◌, true, false, T, eqb, List, [], ◌∷◌, length, get_or, pos, negsuc, neg_ℤ, sym, refl, subst, le_trans, lt_of_lt_of_le, mul-le-mul_right, mul-le-mul_left, arith, eqb→eq, le-ltb, lt-ltb}
 use native.Mathlib.Nat.{pow-succ', pow-zero}
 use lib.Dec.{not_T}
 use lib.Ieee.Bits.{is_true, is_false}

@@ -1,6 +1,6 @@
 -- Numbers in words: what a stored word does to the number, and that a number below size has one list of 67 words. Assumes nothing.
-use Rattle.std.proofs.Common.{◌≡◌, ℕ, zero, suc, ◌+◌, ◌-◌, ◌*◌, ◌/◌, ◌%◌, ◌^◌, ◌<◌, ◌≤◌, Bool, true, false, List, [], ◌∷◌, length, get_or, set, pos, negsuc, sym, refl, ap, ◌∙◌, subst, mod-lt, mod-eq_of_lt, mul_comm, mul-le-mul_left, pow-suc, div-add-mod', zero-add, add-one, arith, pow_pos, w64, Fits}
-use native.Mathlib.Nat.{pow-zero, div-eq_of_lt, mod-mod, add-mod, add-mod-mod, zero-mod, add-mul-mod_self_left, add-mul-mod_self_right, add-mul-div_left}
+use Rattle.std.proofs.Common.{◌≡◌, ℕ, zero, suc, ◌+◌, ◌-◌, ◌*◌, ◌/◌, ◌%◌, ◌^◌, ◌<◌, ◌≤◌, true, false, List, [], ◌∷◌, length, get_or, set, sym, refl, ap, ◌∙◌, subst, mod-lt, mod-eq_of_lt, mul_comm, mul-le-mul_left, pow-suc, div-add-mod', zero-add, add-one, arith, pow_pos, w64, Fits}
+use native.Mathlib.Nat.{pow-zero, div-eq_of_lt, zero-mod, add-mul-mod_self_left, add-mul-mod_self_right, add-mul-div_left}
 use Rattle.accumulator.specs.Accumulators.{value_in, digits_in, base, value, words, size, residue, signed, added}
 
 -- ---- a word stored, over any base b

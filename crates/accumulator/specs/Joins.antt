@@ -1,5 +1,5 @@
 -- Two accumulators joined into one: the words add modulo 2 ^ 4288. Definitions only.
-use Rattle.std.specs.Prelude.{ℕ, ◌+◌, ◌%◌, Bool, cond, not, ◌&&◌, ◌||◌, nat_le}
+use Rattle.std.specs.Prelude.{◌+◌, ◌%◌, Bool, cond, not, ◌&&◌, ◌||◌, nat_le}
 use Rattle.accumulator.specs.Accumulators.{value, words, size, taken, refused}
 use Rattle.accumulator.specs.declared.Accumulator.{Accumulator}
 use Rattle.accumulator.specs.declared.Added.{Added}

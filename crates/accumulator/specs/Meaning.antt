@@ -1,6 +1,6 @@
 -- What is claimed of the accumulator: its words mean the exact sum of the terms that it took, a whole number of 2 ^ -2148; and a row is its single calls.
 -- Definitions only. proofs/Exact.antt has the theorems.
-use Rattle.std.specs.Prelude.{◌≡◌, ℕ, ◌+◌, true, cond, ◌&&◌, List, [], ◌∷◌, ℤ, pos, ◌+ℤ◌, ◌==◌, Float}
+use Rattle.std.specs.Prelude.{◌≡◌, ℕ, cond, List, [], ◌∷◌, ℤ, pos, ◌+ℤ◌, ◌==◌, Float}
 use Rattle.loops.specs.Loops.{turns}
 use Rattle.floats.specs.Ops.{Fits, at}
 use Rattle.accumulator.specs.declared.Accumulator.{Accumulator}

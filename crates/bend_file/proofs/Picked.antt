@@ -10,7 +10,7 @@ use lib.ListN.{length, get_or, drop, replicate, get_or-append}
 use borrow.Author.Tests.{le-leb, lt-leb, leb-true, leb-false}
 use Rattle.loops.proofs.Every.{both_true}
 use Rattle.bend_file.specs.Trailer.{start, rows, coords, wanted}
-use Rattle.bend_file.specs.Read.{Problem, problem, accepted, Lent, filled, Room}
+use Rattle.bend_file.specs.Read.{problem, accepted, Lent, filled, Room}
 use Rattle.bend_file.specs.Chain as chain
 use Rattle.bend_file.specs.Chain.{Verdict, refused, taken, told, Step, past, found, ReadsStep}
 use Rattle.bend_file.specs.Private.{Kept, placed, place}

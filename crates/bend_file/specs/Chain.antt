@@ -1,7 +1,7 @@
 -- Document 02's chained bend file: the rules of one step, the walk from step to step, and the steps that a file holds.
 -- Definitions only. A step is the bytes from the linked offset to `end`, where its trailer ends; the fields and the
 -- rules 2, 3 and 4's count rule are those of Trailer.antt.
-use Rattle.std.specs.Prelude.{ℕ, zero, suc, ◌+◌, ◌-◌, ◌*◌, ◌≤◌, ◌≡◌, Bool, not, cond, ◌&&◌, List, [], ◌∷◌, ◌++◌, map, leb, eqb, length, replicate}
+use Rattle.std.specs.Prelude.{ℕ, zero, suc, ◌+◌, ◌-◌, ◌*◌, ◌≡◌, Bool, not, cond, ◌&&◌, List, [], ◌∷◌, ◌++◌, map, leb, eqb, length, replicate}
 use Rattle.loops.specs.Loops.{turns}
 use Rattle.bend_file.specs.Little.{u32, over}
 use Rattle.bend_file.specs.Trailer.{start, rows, coords, count, marked, small, counted}

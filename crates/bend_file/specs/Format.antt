@@ -3,7 +3,6 @@
 -- proofs/Chained.antt.
 use Rattle.std.specs.Prelude.{ℕ, ◌+◌, ◌-◌, ◌*◌, ◌≤◌, ◌≡◌, List, [], ◌∷◌, length, take, drop}
 use Rattle.bend_file.specs.Little.{u16, u32}
-use Rattle.bend_file.specs.Trailer.{wanted}
 use Rattle.bend_file.specs.Read.{Problem, problem}
 
 -- start, rows, coords, count: the trailer's first 12 bytes

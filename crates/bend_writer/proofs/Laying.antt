@@ -1,12 +1,12 @@
 -- Bytes laid into a list: one run after another, and how long each is.
-use Prim.Native.Nat.{ℕ, zero, suc, ◌+◌, ◌*◌, ◌/◌, ◌%◌, ◌≤◌, ◌<◌}
-use mathlib.Core.Path.{◌≡◌, refl, sym, ◌∙◌, ap}
+use Prim.Native.Nat.{ℕ, suc, ◌+◌, ◌*◌, ◌/◌, ◌%◌, ◌≤◌, ◌<◌}
+use mathlib.Core.Path.{◌≡◌, refl, sym, ◌∙◌}
 use mathlib.Core.Bool.{true}
 use mathlib.Core.List.{List, [], ◌∷◌, ◌++◌, append-nil, append_assoc}
 use native.Mathlib.Omega.{arith}
 use native.Mathlib.Nat.{add-zero}
 use native.Mathlib.Numerals.{add-one}
-use lib.Ieee.{Float, nan, ne, is_nan, to_bits}
+use lib.Ieee.{Float, nan, ne, to_bits}
 use lib.ListN.{length, get_or, set, take, drop, length-append, length-drop}
 use lib.Seq.{sets, take-suc, get_or-drop, length-take-le}
 use Rattle.floats.specs.Helpers.{nan_test}

@@ -1,15 +1,15 @@
 -- The two walks over the steps of a pull: the one that looks at the rules and the one that writes. What each knows after i steps, and after one more.
 use Prim.Native.Nat.{ℕ, zero, suc, ◌+◌, ◌-◌, ◌*◌, ◌≤◌, ◌<◌}
-use mathlib.Core.Path.{◌≡◌, refl, sym, ◌∙◌, ap}
+use mathlib.Core.Path.{◌≡◌, refl, sym, ◌∙◌}
 use mathlib.Core.Bool.{Bool, true, false, cond}
-use mathlib.Core.List.{List, [], ◌∷◌, ◌++◌}
+use mathlib.Core.List.{List, []}
 use native.Mathlib.Omega.{arith}
 use native.Mathlib.Nat.{zero-add}
 use native.Mathlib.Numerals.{add-one}
 use lib.Dec.{leb, eqb}
 use lib.Ieee.{Float}
 use lib.ListN.{length, get_or, take, drop}
-use lib.Seq.{sets, sets-eq}
+use lib.Seq.{sets-eq}
 use borrow.Author.Tests.{le-leb, lt-leb, leb-true, leb-false, ne_eqb}
 use Rattle.loops.specs.Loops.{tab, turns}
 use Rattle.loops.proofs.Fill.{tab-length}
@@ -17,7 +17,6 @@ use Rattle.bend_file.specs.Little.{over}
 use Rattle.bend_writer.specs.Private.{Laid, had, checked, Room}
 use Rattle.bend_writer.specs.Steps.{Step, step_bytes, chained, file, ruled, step_number, steps_number}
 use Rattle.bend_writer.specs.Write.{part, before, step_at, lent}
-use Rattle.bend_writer.specs.declared.Written.{Written}
 use Rattle.bend_writer.specs.declared.Written.TheVariants.{Refused, Bytes}
 use Rattle.bend_writer.proofs.Laying.{then, whole_length}
 use Rattle.bend_writer.proofs.Chained.{tab-suc, file_snoc, number-suc, length-suc, found, first-none, step_kept, front_length}

@@ -1,28 +1,24 @@
 -- What the writer writes reads back as the same steps. The walk of the reader goes from the newest step of the file down, and stands at the end of step m where m steps are left.
 use Prim.Native.Nat.{ℕ, zero, suc, ◌+◌, ◌-◌, ◌*◌, ◌≤◌, ◌<◌}
 use mathlib.Core.Path.{◌≡◌, refl, sym, ◌∙◌, ap}
-use mathlib.Core.Bool.{Bool, true, false, not, cond}
-use mathlib.Core.List.{List, [], ◌∷◌, ◌++◌, append-nil, map, reverse, reverse-append}
+use mathlib.Core.Bool.{Bool, true, false, cond}
+use mathlib.Core.List.{List, [], ◌∷◌, ◌++◌, map, reverse, reverse-append}
 use native.Mathlib.Omega.{arith}
 use native.Mathlib.Nat.{add-zero, add-suc}
-use lib.Dec.{leb, eqb}
+use lib.Dec.{leb}
 use lib.Ieee.{Float, nan, fits}
 use lib.ListN.{length, get_or, take, drop, take-append-drop}
 use lib.Seq.{append_snoc, take-append-le, take_all, take_at, get_or-drop}
-use borrow.Author.Tests.{ne_eqb, eqb-true, leb-true}
+use borrow.Author.Tests.{ne_eqb, leb-true}
 use Rattle.floats.specs.Ops.{Fits}
 use Rattle.loops.specs.Loops.{tab, turns}
 use Rattle.loops.proofs.Every.{both_true}
-use Rattle.loops.proofs.Fill.{tab-length}
-use Rattle.bend_file.specs.Little.{over}
 use Rattle.bend_file.specs.Read.{Problem}
 use Rattle.bend_file.specs.Chain as chain
 use Rattle.bend_writer.specs.RoundTrip.{problem_of, nothing, Held, ReadsBack, WrittenReadsBack, LentReadsBack}
-use Rattle.bend_writer.specs.Steps.{Step, step_bytes, chained, file, step_number, steps_number, several, number}
-use Rattle.bend_writer.specs.Write.{part, before, step_at, lent, Answer, refused, written, answer, result, left, Writes}
-use Rattle.bend_writer.specs.declared.Written.{Written}
-use Rattle.bend_writer.specs.declared.Written.TheVariants.{Refused, Bytes}
-use Rattle.bend_writer.proofs.Chained.{tab-suc, file_snoc, length-suc, front_length, step_kept, both-none}
+use Rattle.bend_writer.specs.Steps.{Step, step_bytes, chained, file, step_number, steps_number, several}
+use Rattle.bend_writer.specs.Write.{part, before, step_at, lent}
+use Rattle.bend_writer.proofs.Chained.{tab-suc, file_snoc, length-suc, front_length, step_kept}
 use Rattle.bend_writer.proofs.Rules.{Kept, rules-kept, square-fits, accepted, written_is, taken, bytes_are, left-written}
 use Rattle.bend_writer.proofs.StepBack.{number_is, link-is, problem-is}
 use Rattle.bend_writer.proofs.Within.{tab-take}

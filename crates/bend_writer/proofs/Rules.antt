@@ -1,6 +1,6 @@
 -- What the writer's tests, one after another, say of a step and of a pull.
-use Prim.Native.Nat.{ℕ, zero, suc, ◌+◌, ◌-◌, ◌*◌, ◌≤◌, ◌<◌}
-use mathlib.Core.Path.{◌≡◌, refl, sym, ◌∙◌, ap}
+use Prim.Native.Nat.{ℕ, zero, suc, ◌*◌, ◌≤◌, ◌<◌}
+use mathlib.Core.Path.{◌≡◌, refl, sym, ◌∙◌}
 use mathlib.Core.Bool.{Bool, true, false, not, cond, ◌&&◌, and-false}
 use mathlib.Core.List.{List}
 use native.Mathlib.Omega.{arith}
@@ -14,7 +14,6 @@ use Rattle.bend_file.specs.Trailer.{small, wanted}
 use Rattle.bend_writer.specs.Private.{checked, Room}
 use Rattle.bend_writer.specs.Steps.{Step, file, fair, ruled, first, steps_number, several, number}
 use Rattle.bend_writer.specs.Write.{Answer, refused, written, answer, result, left, Writes}
-use Rattle.bend_writer.specs.declared.Written.{Written}
 use Rattle.bend_writer.specs.declared.Written.TheVariants.{Refused, Bytes}
 use Rattle.bend_writer.proofs.Chained.{first_some, first-none, both-none}
 

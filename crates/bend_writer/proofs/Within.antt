@@ -1,19 +1,18 @@
 -- Numbers read inside a list of bytes: those of a part are read in the whole, and a number laid as bytes is read as itself.
 use Prim.Native.Nat.{ℕ, zero, suc, ◌+◌, ◌*◌, ◌/◌, ◌%◌, ◌≤◌, ◌<◌}
-use mathlib.Core.Path.{◌≡◌, refl, sym, ◌∙◌, ap}
+use mathlib.Core.Path.{◌≡◌, refl, ◌∙◌, ap}
 use mathlib.Core.List.{List, [], ◌∷◌, ◌++◌, append-nil}
 use native.Mathlib.Omega.{arith}
-use native.Mathlib.Nat.{add-zero, add_assoc}
-use lib.Dec.{T}
-use lib.Ieee.{Float, nan, binary64, of_bits, to_bits, top}
+use native.Mathlib.Nat.{add_assoc}
+use lib.Ieee.{Float, nan, binary64, of_bits, to_bits}
 use lib.Ieee.Bits.{of_bits-to_bits, to_bits-lt}
-use lib.ListN.{length, get_or, take, drop, length-append, get_or-append}
+use lib.ListN.{length, get_or, take, length-append, get_or-append}
 use lib.Seq.{get_or-append-add, take-suc}
 use Rattle.floats.specs.Ops.{Fits}
 use Rattle.loops.specs.Loops.{tab, turns}
 use Rattle.bend_file.specs.Little.{byte, u16, u32, u64, value}
 use Rattle.bend_writer.specs.Bytes.{bytes16, bytes32, bytes64, pattern, patterns}
-use Rattle.bend_writer.proofs.Laying.{length64, length-pattern, length-patterns}
+use Rattle.bend_writer.proofs.Laying.{length-pattern, length-patterns}
 
 -- ---- a part q, with p before it and r after it
 

@@ -1,11 +1,11 @@
 -- The claim that what the writer writes reads back as the same steps, by the reader's definitions, which are those of bend_file/specs/Chain.antt. Proved in proofs/RoundTrip.antt.
-use Rattle.std.specs.Prelude.{ℕ, ◌+◌, ◌*◌, ◌≡◌, List, [], map, reverse, Float, length, get_or, take, drop}
+use Rattle.std.specs.Prelude.{ℕ, ◌+◌, ◌*◌, ◌≡◌, List, [], map, reverse, Float, get_or, take, drop}
 use Rattle.std.specs.Float.{nan}
 use Rattle.floats.specs.Ops.{Fits}
 use Rattle.bend_file.specs.Read.{Problem}
 use Rattle.bend_file.specs.Chain.{taken, pull}
 use Rattle.bend_writer.specs.Steps.{Step}
-use Rattle.bend_writer.specs.Write.{lent, Answer, written, answer, Writes}
+use Rattle.bend_writer.specs.Write.{lent, written, answer, Writes}
 use Rattle.bend_writer.specs.declared.Written.TheVariants.{Bytes}
 
 -- `count` values of a step from number `first` on

@@ -1,6 +1,6 @@
 -- Sums over a list of terms: of two lists in a row, and of a list in any order. Assumes nothing.
 use Prim.Native.Nat.{ℕ, ◌+◌}
-use mathlib.Core.Path.{◌≡◌, refl, sym, ◌∙◌, ap}
+use mathlib.Core.Path.{◌≡◌, refl, ◌∙◌, ap}
 use mathlib.Core.List.{List, [], ◌∷◌, ◌++◌, Permᴰ}
 use native.Mathlib.Omega.{arith}
 use Rattle.exact_law.specs.Law.{Term, total}

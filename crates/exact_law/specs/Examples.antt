@@ -1,11 +1,11 @@
 -- A row of three terms, 2 ^ 53, 1 and -2 ^ 53, in its six orders. Rounded one after another they come to 0 in two orders and to 1 in the others, so rounded row sums have no law like
 -- that of Law.antt. Summed exactly they come to 1 in every order and grouping.
-use Rattle.std.specs.Prelude.{ℕ, ◌≡◌, refl, Bool, true, ◌&&◌, List, [], ◌∷◌, eqb, ltb, leb, Float}
+use Rattle.std.specs.Prelude.{ℕ, ◌≡◌, refl, Bool, true, ◌&&◌, List, [], ◌∷◌, eqb, Float}
 use Rattle.std.specs.Float.{binary64}
 use Rattle.std.specs.Float.Ieee.{round, add, eq, lt, of_bits, to_bits}
 use Rattle.floats.specs.Ops.{◌⊕◌, 0ᶠ, 1ᶠ}
 use Rattle.floats.specs.Helpers.{is_finite}
-use Rattle.accumulator.specs.Accumulators.{value_in, digits_in, size, half, meaning, residue, units, free_term, product_term, added, EMPTY, with_product, taken, add_product}
+use Rattle.accumulator.specs.Accumulators.{value_in, digits_in, size, half, meaning, residue, units, product_term, added, EMPTY, with_product, taken, add_product}
 use Rattle.accumulator.specs.Joins.{joinable, joined, join}
 use Rattle.nearest.specs.ToNearest.{plus_zero, nearest}
 use Rattle.exact_law.specs.Law as law

@@ -1,7 +1,7 @@
 -- The law of document 02's accumulators: any order and any grouping of the same terms gives the same words, counts, sign and rounded value, and no call on the way is refused where
 -- the terms are within the limits. Definitions only; the theorem is `any_order` in proofs/Orders.antt. Rounded row sums have no such law: Examples.antt computes a row of three
 -- terms whose rounded sum depends on the order.
-use Rattle.std.specs.Prelude.{ℕ, zero, suc, ◌+◌, ◌≤◌, ◌≡◌, Bool, true, false, cond, ◌&&◌, eqb, Float}
+use Rattle.std.specs.Prelude.{ℕ, ◌+◌, ◌≤◌, ◌≡◌, Bool, true, false, cond, ◌&&◌, eqb, Float}
 use mathlib.Core.List.{List, [], ◌∷◌, ◌++◌, Permᴰ}
 use Rattle.floats.specs.Helpers.{is_finite}
 use Rattle.accumulator.specs.Accumulators.{EMPTY, add_free, add_product, taken, meaning, sign_of}

@@ -1,6 +1,6 @@
 -- What LeastNorm::solve promises: document 01's answers and number. Words of private contracts are in Private.antt.
 -- Definitions only.
-use Rattle.std.specs.Prelude.{ℕ, ◌*◌, ◌≤◌, ◌≡◌, Bool, true, false, cond, ◌&&◌, List, leb, eqb, length, drop, Float}
+use Rattle.std.specs.Prelude.{ℕ, ◌*◌, ◌≤◌, ◌≡◌, Bool, cond, ◌&&◌, List, leb, eqb, length, drop, Float}
 use Rattle.least_norm.specs.declared.Outcome.{Outcome}
 use Rattle.least_norm.specs.declared.Outcome.TheVariants.{Rank, Refused}
 use Rattle.least_norm.specs.LeastNorm as least

@@ -1,7 +1,7 @@
 -- Laws of a list joined: a refusal stays, one list after another, and what each count of the whole comes to.
 use Prim.Native.Nat.{ℕ, ◌+◌}
 use mathlib.Core.Path.{◌≡◌, refl, sym, ◌∙◌, ap}
-use mathlib.Core.Bool.{Bool, true, false, cond}
+use mathlib.Core.Bool.{Bool, true, false}
 use mathlib.Core.List.{List, [], ◌∷◌, ◌++◌, Permᴰ}
 use native.Mathlib.Omega.{arith}
 use lib.Ieee.{binary64}

@@ -1,6 +1,6 @@
 -- Reports of solves and their joins, as report.rs gives them, with document 01's larger of two residuals. Definitions
 -- only; their laws are in proofs/.
-use Rattle.std.specs.Prelude.{ℕ, ◌+◌, ◌≤◌, max, Bool, true, false, cond, ◌&&◌, List, [], ◌∷◌, leb}
+use Rattle.std.specs.Prelude.{ℕ, ◌+◌, ◌≤◌, max, Bool, true, cond, ◌&&◌, List, [], ◌∷◌, leb}
 use Rattle.floats.specs.Ops.{0ᶠ}
 use Rattle.floats.specs.Helpers.{larger}
 use Rattle.report.specs.declared.SolveReport.{SolveReport}

@@ -1,23 +1,22 @@
 -- The mirrored matrix, over the index: row by row, each value of the triangle in its two places; and the solve of a triangle of the right length as the full solve of that matrix.
-use Prim.Native.Nat.{ℕ, zero, suc, ◌+◌, ◌*◌, ◌/◌, ◌≤◌, ◌<◌}
+use Prim.Native.Nat.{ℕ, zero, suc, ◌+◌, ◌*◌, ◌≤◌, ◌<◌}
 use mathlib.Core.Path.{◌≡◌, refl, sym, ap, ◌∙◌}
-use mathlib.Core.Bool.{Bool, true, false, not, cond, ◌&&◌, ◌||◌}
+use mathlib.Core.Bool.{Bool, true, false, not, cond, ◌&&◌}
 use mathlib.Core.List.{List}
 use mathlib.Core.Logic.{⊎_elim}
 use native.Mathlib.Omega.{arith}
 use native.Mathlib.Numerals.{add-one}
 use native.Mathlib.Nat.{not-suc-le-zero, le_of_suc-le-suc, add-mul-div_left, eq-or-lt_of_le}
-use lib.Dec.{leb, ltb, eqb}
-use lib.ListN.{length, get_or}
+use lib.Dec.{leb}
+use lib.ListN.{length}
 use lib.Ieee.{Float, nan}
-use borrow.Author.Tests.{le-leb, lt-leb, leb-true, leb-false, eq-eqb, eqb-true, eqb-false}
-use Rattle.loops.specs.Loops.{tab}
+use borrow.Author.Tests.{le-leb, lt-leb, leb-true, leb-false, eq-eqb}
 use Rattle.loops.proofs.Parts.{joined_length, joined_at}
 use Rattle.loops.proofs.Fill.{tab-length, tab-at}
 use Rattle.floats.specs.Ops.{at}
 use Rattle.box_rows.specs.Rows as box
-use Rattle.boxed.specs.Solve.{Watch, Result, refusal, solve_reply}
-use Rattle.triangle.specs.Triangle.{row_start, place, mirror, mirror_row, rows_mirrored, mirrored, Mirrors, problem, within_limits, wrong_length, triangle_refusal, triangle_reply, Sent, whole, triangle, refusal_of}
+use Rattle.boxed.specs.Solve.{Watch, refusal, solve_reply}
+use Rattle.triangle.specs.Triangle.{row_start, place, mirror, mirror_row, rows_mirrored, mirrored, Mirrors, within_limits, wrong_length, triangle_refusal, triangle_reply, Sent, whole, triangle, refusal_of}
 
 -- ---- where rows begin
 

@@ -1,4 +1,4 @@
-use Rattle.std.proofs.Common.{arith, rules}
+use Rattle.std.proofs.Common.{rules}
 use Rattle.accumulator.proofs.Calls.{refused-is}
 use Rattle.accumulator.proofs.refused.Goals as goal
 

@@ -1,4 +1,4 @@
-use Rattle.std.proofs.Common.{sym, ◌∙◌, arith, rules}
+use Rattle.std.proofs.Common.{sym, ◌∙◌, rules}
 use Rattle.accumulator.proofs.Calls.{usable-first, usable-second, within, row-many, row_unfit, row-taken}
 use Rattle.accumulator.proofs.row.Goals as goal
 
@@ -15,7 +15,7 @@ pub add_products-requires : goal.add_products-requires
 add_products-requires c = (search rules, (within _ _ _ c.shorter-n.ensures).0, (within _ _ _ c.shorter-n.ensures).1, usable-second _ _ _ _ (sym c.usable.ensures ∙ c.if-usable.true))
 
 pub returns-then-usable : goal.returns-then-usable
-returns-then-usable c =    row-taken _ _ _ _ _ _
+returns-then-usable c = row-taken _ _ _ _ _ _
     c.shorter-n.ensures
     c.if-n-gt32.false
     (sym c.usable.ensures ∙ c.if-usable.true)

@@ -1,5 +1,4 @@
 use mathlib.Core.Path.{sym, ◌∙◌}
-use borrow.Author.Rules.{rules}
 use Rattle.bend_writer.proofs.Rules.{has_room, refusal-written, file-written}
 use Rattle.bend_writer.proofs.write_steps.Goals as goal
 

@@ -1,6 +1,5 @@
 use mathlib.Core.Path.{sym, ◌∙◌}
 use Rattle.box_rows.specs.Rows as box
-use borrow.Author.Rules.{rules}
 use Rattle.box_rows.proofs.is_idle.Goals as goal
 
 pub returns-then-is_nan : goal.returns-then-is_nan

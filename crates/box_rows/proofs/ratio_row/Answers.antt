@@ -1,6 +1,5 @@
 use Rattle.box_rows.specs.Rows as box
 use Rattle.box_rows.specs.Private as private
-use borrow.Author.Rules.{rules}
 use Rattle.box_rows.proofs.ratio_row.Goals as goal
 
 pub returns-then-y : goal.returns-then-y

@@ -1,7 +1,4 @@
-use Prim.Native.Nat.{◌≤◌, ◌-◌}
-use lib.ListN.{length}
-use Rattle.box_rows.specs.Private.{Fewer}
-use Rattle.box_rows.proofs.Sums.{Summing, sum-start, sum_again, sum_done}
+use Rattle.box_rows.proofs.Sums.{sum-start, sum_again, sum_done}
 use borrow.Author.Rules.{rules}
 use native.Mathlib.Omega.{arith}
 use Rattle.box_rows.proofs.row_sum.Goals as goal

@@ -1,9 +1,7 @@
 use Prim.Native.Nat.{◌≤◌, ◌-◌}
 use lib.ListN.{length}
 use Rattle.box_rows.specs.Private.{Fewer}
-use Rattle.box_rows.proofs.Sums.{Summing, sum-start, sum_again, sum_done}
-use borrow.Author.Rules.{rules}
-use native.Mathlib.Omega.{arith}
+use Rattle.box_rows.proofs.Sums.{Summing}
 use Rattle.box_rows.proofs.row_sum.Given as goal
 
 abbrev pub invariant-loop-j : goal.invariant-loop-j

@@ -1,6 +1,5 @@
 use mathlib.Core.Path.{sym, ◌∙◌}
 use Rattle.box_rows.specs.Rows as box
-use borrow.Author.Rules.{rules}
 use Rattle.box_rows.proofs.state_of.Goals as goal
 
 pub returns-then-on_bound : goal.returns-then-on_bound

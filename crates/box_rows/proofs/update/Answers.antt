@@ -1,5 +1,4 @@
 use Rattle.box_rows.specs.Rows as box
-use borrow.Author.Rules.{rules}
 use Rattle.box_rows.proofs.update.Goals as goal
 
 pub returns : goal.returns

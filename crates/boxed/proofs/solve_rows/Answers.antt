@@ -40,5 +40,5 @@ pub shape_of-work : goal.shape_of-work
 shape_of-work c = omega arith
 
 pub returns : goal.returns
-returns c =    some_act _ _ _ _ _ _ c.requires.lists.matrix.lower _ _ _ c.start-idle.ensures.start c.if-idle-n.false _ _ _ _ _ _ _ _ _
+returns c = some_act _ _ _ _ _ _ c.requires.lists.matrix.lower _ _ _ c.start-idle.ensures.start c.if-idle-n.false _ _ _ _ _ _ _ _ _
     c.run-p.ensures c.answer.ensures

@@ -1,6 +1,6 @@
-use mathlib.Core.Path.{◌≡◌, sym, ap, ◌∙◌, subst}
+use mathlib.Core.Path.{sym, ap, ◌∙◌, subst}
 use lib.Dec.{T}
-use lib.Ieee.{binary64, fits}
+use lib.Ieee.{binary64}
 use lib.Ieee.Bits.{of_bits-to_bits}
 use Rattle.floats.specs.Sqrt.{sqrt}
 use Rattle.floats.proofs.SquareRoot.Branches.{no_nan, bits_pos, from_inf, finite-bits, at_zero, neither}

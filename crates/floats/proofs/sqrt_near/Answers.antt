@@ -1,4 +1,3 @@
-use borrow.Author.Rules.{rules}
 use Rattle.floats.proofs.SquareRoot.Branches.{no_nan}
 use Rattle.floats.proofs.sqrt_near.Goals as goal
 

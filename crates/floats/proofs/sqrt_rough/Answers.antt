@@ -1,8 +1,6 @@
 use borrow.Author.Tests.{lt-ltb, le-ltb}
 use Rattle.floats.specs.Rough as rough
 use Rattle.floats.proofs.SquareRoot.Branches.{no_nan}
-use native.Mathlib.Omega.{arith}
-use borrow.Author.Rules.{rules}
 use Rattle.floats.proofs.sqrt_rough.Goals as goal
 
 pub float_to_bits-b : goal.float_to_bits-b

@@ -1,11 +1,9 @@
-use Prim.Native.Nat.{ℕ, ◌-◌, ◌≤◌}
+use Prim.Native.Nat.{ℕ}
 use borrow.Author.Rules.{rules}
-use lib.ListN.{length, length-set, drop}
-use mathlib.Core.List.{◌++◌}
-use mathlib.Core.Path.{◌≡◌, refl}
+use lib.ListN.{length-set}
+use mathlib.Core.Path.{refl}
 use native.Mathlib.Omega.{arith}
 use Rattle.loops.proofs.Fill.{tab-start, tab_again, tab_done}
-use Rattle.loops.specs.Loops.{tab}
 use Rattle.least_norm.proofs.count_up.Goals as goal
 
 pub loop-i-init : goal.loop-i-init
@@ -24,11 +22,11 @@ pub loop-i-smaller : goal.loop-i-smaller
 loop-i-smaller c = omega arith
 
 pub loop-i-preserved : goal.loop-i-preserved
-loop-i-preserved c =    (
-      omega arith,
-      simp length-set c.loop-i.invariant.1,
-      tab_again (λ (i : ℕ). i) _ _ _ c.loop-i.invariant.2 c.loop-i.invariant.1 (omega arith),
-    )
+loop-i-preserved c = (
+  omega arith,
+  simp length-set c.loop-i.invariant.1,
+  tab_again (λ (i : ℕ). i) _ _ _ c.loop-i.invariant.2 c.loop-i.invariant.1 (omega arith),
+)
 
 pub returns : goal.returns
 returns c = search (tab_done, rules)

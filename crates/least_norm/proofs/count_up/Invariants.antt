@@ -1,10 +1,7 @@
 use Prim.Native.Nat.{ℕ, ◌-◌, ◌≤◌}
-use borrow.Author.Rules.{rules}
-use lib.ListN.{length, length-set, drop}
+use lib.ListN.{length, drop}
 use mathlib.Core.List.{◌++◌}
-use mathlib.Core.Path.{◌≡◌, refl}
-use native.Mathlib.Omega.{arith}
-use Rattle.loops.proofs.Fill.{tab-start, tab_again, tab_done}
+use mathlib.Core.Path.{◌≡◌}
 use Rattle.loops.specs.Loops.{tab}
 use Rattle.least_norm.proofs.count_up.Given as goal
 

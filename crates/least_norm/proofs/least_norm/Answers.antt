@@ -20,11 +20,11 @@ pub slice_bounds-solve_at-end : goal.slice_bounds-solve_at-end
 slice_bounds-solve_at-end c = omega arith
 
 pub slice_bounds-solve_at-end-2 : goal.slice_bounds-solve_at-end-2
-slice_bounds-solve_at-end-2 c =    let pre = c.requires in
+slice_bounds-solve_at-end-2 c = let pre = c.requires in
     sym (length-take-le _ _ (omega (arith, pre.2, c.reduce_columns-columns.auto.v)))
 
 pub solve_at-requires : goal.solve_at-requires
-solve_at-requires c =    let pre = c.requires in
+solve_at-requires c = let pre = c.requires in
     let same_perm = c.count_up.auto.perm in
     let at-most-columns = c.leading-rank.ensures.1 in
     let at-most-fewer = c.reduce_columns-columns.ensures.most in
@@ -41,7 +41,7 @@ solve_at-requires c =    let pre = c.requires in
     )
 
 pub returns : goal.returns
-returns c =    let pre = c.requires in
+returns c = let pre = c.requires in
     let leading-is = c.leading-rank.ensures in
     let stopped = c.reduce_columns-columns.ensures in
     let fewer-is = c.fewer-k.ensures in (

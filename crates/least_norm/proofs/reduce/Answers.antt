@@ -17,5 +17,5 @@ eliminate-requires c = omega arith
 
 -- `least_norm::reduce` meets its contract. Assumes nothing.
 pub returns : goal.returns
-returns c =    reduce-run _ _ _ _ _ _ _ _ _ _ _ c.eliminate.ensures c.bring.ensures c.if-p.false
+returns c = reduce-run _ _ _ _ _ _ _ _ _ _ _ c.eliminate.ensures c.bring.ensures c.if-p.false
     c.find_pivot-p.ensures.0

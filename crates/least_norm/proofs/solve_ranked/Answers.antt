@@ -1,4 +1,3 @@
-use borrow.Author.Rules.{rules}
 use native.Mathlib.Omega.{arith}
 use Rattle.least_norm.proofs.Runs.{solved-run}
 use Rattle.least_norm.proofs.Starts.{zeros-substituted, order-run}
@@ -15,7 +14,7 @@ unpermute-requires c = omega arith
 
 -- `least_norm::solve_ranked` meets its contract. Assumes nothing.
 pub returns : goal.returns
-returns c =    solved-run _ _ _ _ _ _ _ _ _ _
+returns c = solved-run _ _ _ _ _ _ _ _ _ _
     (order-run _ _ _ _ _ c.unpermute.ensures c.requires.3 c.requires.6 c.requires.7)
     c.requires.3 c.turn_back.ensures
     (zeros-substituted _ _ _ _ _ _ c.substitute.ensures c.requires.5) c.clear.ensures

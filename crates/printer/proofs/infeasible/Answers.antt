@@ -1,6 +1,5 @@
 use Rattle.printer.specs.Output as print
 use Rattle.printer.proofs.Laws.{then}
-use borrow.Author.Rules.{rules}
 use Rattle.printer.proofs.infeasible.Goals as goal
 
 pub returns : goal.returns

@@ -1,5 +1,4 @@
 use Rattle.report.specs.Joins as joins
-use borrow.Author.Rules.{rules}
 use Rattle.report.proofs.all_sums_fit.Goals as goal
 
 -- `report::all_sums_fit` meets its contract. Assumes nothing.

@@ -1,5 +1,4 @@
 use native.Mathlib.Omega.{arith}
-use borrow.Author.Rules.{rules}
 use Rattle.report.proofs.both.Goals as goal
 
 -- `report::both` meets its contract. Assumes nothing.

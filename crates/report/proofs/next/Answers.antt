@@ -1,5 +1,4 @@
 use mathlib.Core.Path.{◌∙◌}
-use borrow.Author.Rules.{rules}
 use Rattle.report.proofs.next.Goals as goal
 
 pub returns-in-Refused : goal.returns-in-Refused

@@ -1,5 +1,4 @@
 use native.Mathlib.Omega.{arith}
-use borrow.Author.Rules.{rules}
 use Rattle.report.proofs.onward.Goals as goal
 
 -- `report::onward` meets its contract. Assumes nothing.

@@ -1,6 +1,5 @@
 use lib.ListN.{length}
 use Rattle.triangle.proofs.Refusing.{few-rows, right, is_5, is_16, refused, taken}
-use borrow.Author.Rules.{rules}
 use Rattle.triangle.proofs.solve.Goals as goal
 
 pub returns-then-too_large : goal.returns-then-too_large

@@ -2,7 +2,6 @@ use mathlib.Core.Path.{sym}
 use lib.ListN.{length}
 use lib.Seq.{length-take-le}
 use Rattle.triangle.proofs.Scratch.{front_length, solved-front}
-use borrow.Author.Rules.{rules}
 use Rattle.triangle.proofs.solve_in.Goals as goal
 
 pub slice_bounds-mirror-end-2 : goal.slice_bounds-mirror-end-2

@@ -1,5 +1,4 @@
 use native.Mathlib.Nat.{mul-le-mul}
-use borrow.Author.Rules.{rules}
 use Rattle.triangle.proofs.solve_rows.Goals as goal
 
 pub solve_in-requires : goal.solve_in-requires

@@ -1,4 +1,4 @@
-use Rattle.std.proofs.Common.{sym, ◌∙◌, arith, rules}
+use Rattle.std.proofs.Common.{sym, ◌∙◌, rules}
 use Rattle.accumulator.proofs.Calls.{free_again, free-taken, free_unfit}
 use Rattle.accumulator.proofs.Accumulator.add_free.Goals as goal
 

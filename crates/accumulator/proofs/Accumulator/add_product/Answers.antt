@@ -1,4 +1,4 @@
-use Rattle.std.proofs.Common.{sym, ◌∙◌, arith, rules}
+use Rattle.std.proofs.Common.{sym, ◌∙◌, rules}
 use Rattle.accumulator.proofs.Calls.{first-finite, second-finite, product_again, product-taken, product_unfit}
 use Rattle.accumulator.proofs.Accumulator.add_product.Goals as goal
 

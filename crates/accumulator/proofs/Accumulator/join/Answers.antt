@@ -1,4 +1,4 @@
-use Rattle.std.proofs.Common.{sym, refl, ◌∙◌, arith, rules}
+use Rattle.std.proofs.Common.{sym, refl, ◌∙◌}
 use Rattle.accumulator.specs.Accumulators as acc
 use Rattle.accumulator.specs.Joins as joins
 use Rattle.accumulator.proofs.Accumulator.join.Goals as goal

@@ -1,6 +1,5 @@
-use Rattle.std.proofs.Common.{◌-◌, refl, arith, rules}
-use Rattle.accumulator.proofs.Values.{Words}
-use Rattle.accumulator.proofs.Together.{Joins, joins-start, joins_again, joins_done}
+use Rattle.std.proofs.Common.{refl, rules}
+use Rattle.accumulator.proofs.Together.{joins-start, joins_again, joins_done}
 use Rattle.accumulator.proofs.joining.add_words.Goals as goal
 
 -- src/joining.rt:19:5
@@ -9,7 +8,7 @@ loop-i-init c = joins-start _ _ (record { all = search rules; each = c.slice_kno
 
 -- src/joining.rt:19:5
 pub loop-i-preserved : goal.loop-i-preserved
-loop-i-preserved c =    joins_again _ _ _ _ _ _ _ _ c.loop-i.invariant c.loop-i-test.true refl
+loop-i-preserved c = joins_again _ _ _ _ _ _ _ _ c.loop-i.invariant c.loop-i-test.true refl
     (record { all = search rules; each = c.slice_known-in-loop-i-1.given }) c.add_word-carry.ensures
 
 -- src/joining.rt:12:1

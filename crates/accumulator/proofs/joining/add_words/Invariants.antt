@@ -1,6 +1,5 @@
-use Rattle.std.proofs.Common.{◌-◌, refl, arith, rules}
-use Rattle.accumulator.proofs.Values.{Words}
-use Rattle.accumulator.proofs.Together.{Joins, joins-start, joins_again, joins_done}
+use Rattle.std.proofs.Common.{◌-◌}
+use Rattle.accumulator.proofs.Together.{Joins}
 use Rattle.accumulator.proofs.joining.add_words.Given as goal
 
 abbrev pub invariant-loop-i : goal.invariant-loop-i

@@ -1,4 +1,4 @@
-use Rattle.std.proofs.Common.{arith, rules}
+use Rattle.std.proofs.Common.{rules}
 use Rattle.accumulator.proofs.Together.{past, within}
 use Rattle.accumulator.proofs.joining.few.Goals as goal
 

@@ -1,4 +1,4 @@
-use Rattle.std.proofs.Common.{sym, ◌∙◌, arith, rules}
+use Rattle.std.proofs.Common.{sym, ◌∙◌}
 use Rattle.accumulator.specs.Joins as joins
 use Rattle.accumulator.proofs.Together.{test-few, test-one, test-many}
 use Rattle.accumulator.proofs.joining.joinable.Goals as goal

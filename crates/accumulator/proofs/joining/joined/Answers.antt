@@ -1,4 +1,4 @@
-use Rattle.std.proofs.Common.{refl, arith, rules}
+use Rattle.std.proofs.Common.{refl, arith}
 use Rattle.accumulator.specs.Joins as joins
 use Rattle.accumulator.proofs.Together.{joinable-few}
 use Rattle.accumulator.proofs.joining.joined.Goals as goal

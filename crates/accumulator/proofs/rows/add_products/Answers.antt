@@ -1,7 +1,4 @@
-use Rattle.std.proofs.Common.{◌≡◌, ℕ, ◌-◌, ◌<◌, ◌≤◌, true, length, sym, ◌∙◌, arith, rules}
-use Rattle.loops.specs.Loops.{every}
-use Rattle.accumulator.specs.Accumulators as acc
-use Rattle.accumulator.specs.Steps as steps
+use Rattle.std.proofs.Common.{rules}
 use Rattle.accumulator.proofs.Calls.{first-finite, second-finite, finite-at, products-first, products_again, products_done}
 use Rattle.accumulator.proofs.rows.add_products.Goals as goal
 

@@ -1,12 +1,11 @@
-use Rattle.std.proofs.Common.{◌≡◌, ℕ, ◌-◌, ◌<◌, ◌≤◌, true, length, sym, ◌∙◌, arith, rules}
+use Rattle.std.proofs.Common.{◌≡◌, ◌-◌, ◌≤◌, true, length}
 use Rattle.loops.specs.Loops.{every}
 use Rattle.accumulator.specs.Accumulators as acc
 use Rattle.accumulator.specs.Steps as steps
-use Rattle.accumulator.proofs.Calls.{first-finite, second-finite, finite-at, products-first, products_again, products_done}
 use Rattle.accumulator.proofs.rows.add_products.Given as goal
 
 abbrev pub invariant-loop-j : goal.invariant-loop-j
-invariant-loop-j l =    (l.j ≤ l.n)
+invariant-loop-j l = (l.j ≤ l.n)
     × (length l.initial.words ≡ 67)
     × (length l.words ≡ length l.initial.words)
     × (l.n ≤ length l.w)

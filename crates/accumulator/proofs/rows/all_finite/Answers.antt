@@ -1,6 +1,4 @@
-use Rattle.std.proofs.Common.{◌≡◌, ℕ, ◌-◌, ◌<◌, ◌≤◌, true, length, sym, ◌∙◌, arith, rules}
-use Rattle.loops.specs.Loops.{every}
-use Rattle.accumulator.specs.Accumulators as acc
+use Rattle.std.proofs.Common.{sym, ◌∙◌, rules}
 use Rattle.accumulator.proofs.Calls.{finite-first, finite_again, finite_done, finite-not}
 use Rattle.accumulator.proofs.rows.all_finite.Goals as goal
 

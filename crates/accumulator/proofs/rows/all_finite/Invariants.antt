@@ -1,7 +1,6 @@
-use Rattle.std.proofs.Common.{◌≡◌, ℕ, ◌-◌, ◌<◌, ◌≤◌, true, length, sym, ◌∙◌, arith, rules}
+use Rattle.std.proofs.Common.{◌≡◌, ◌-◌, ◌≤◌, true, length}
 use Rattle.loops.specs.Loops.{every}
 use Rattle.accumulator.specs.Accumulators as acc
-use Rattle.accumulator.proofs.Calls.{finite-first, finite_again, finite_done, finite-not}
 use Rattle.accumulator.proofs.rows.all_finite.Given as goal
 
 abbrev pub invariant-loop-j : goal.invariant-loop-j

@@ -1,4 +1,3 @@
-use Rattle.std.proofs.Common.{arith, rules}
 use Rattle.accumulator.proofs.Calls.{and_then, and-not}
 use Rattle.accumulator.proofs.rows.both_finite.Goals as goal
 

@@ -1,4 +1,4 @@
-use Rattle.std.proofs.Common.{arith, rules}
+use Rattle.std.proofs.Common.{rules}
 use Rattle.accumulator.proofs.Calls.{shorter-first, shorter-second}
 use Rattle.accumulator.proofs.rows.shorter.Goals as goal
 

@@ -1,4 +1,4 @@
-use Rattle.std.proofs.Common.{◌≡◌, ℕ, ◌-◌, ◌<◌, ◌≤◌, length, get_or, arith, rules, below_more}
+use Rattle.std.proofs.Common.{arith, rules, below_more}
 use Rattle.accumulator.proofs.Tops.{some_word, no_word}
 use Rattle.accumulator.proofs.sign.is_zero.Goals as goal
 

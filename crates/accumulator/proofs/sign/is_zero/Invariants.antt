@@ -1,5 +1,4 @@
-use Rattle.std.proofs.Common.{◌≡◌, ℕ, ◌-◌, ◌<◌, ◌≤◌, length, get_or, arith, rules, below_more}
-use Rattle.accumulator.proofs.Tops.{some_word, no_word}
+use Rattle.std.proofs.Common.{◌≡◌, ℕ, ◌-◌, ◌<◌, ◌≤◌, length, get_or}
 use Rattle.accumulator.proofs.sign.is_zero.Given as goal
 
 abbrev pub invariant-loop-i : goal.invariant-loop-i

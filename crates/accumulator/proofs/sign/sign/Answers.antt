@@ -1,4 +1,4 @@
-use Rattle.std.proofs.Common.{sym, ◌∙◌, arith, rules}
+use Rattle.std.proofs.Common.{sym, ◌∙◌}
 use Rattle.accumulator.proofs.Tops.{sign_below, sign_zero, sign_above}
 use Rattle.accumulator.proofs.sign.sign.Goals as goal
 

@@ -1,4 +1,4 @@
-use Rattle.std.proofs.Common.{◌%◌, arith, rules}
+use Rattle.std.proofs.Common.{◌%◌, arith}
 use Rattle.accumulator.proofs.Shifts.{middle-fits, placed}
 use Rattle.accumulator.proofs.Signs.{as_said}
 use Rattle.accumulator.proofs.term.add.Goals as goal

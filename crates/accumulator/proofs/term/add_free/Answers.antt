@@ -1,6 +1,6 @@
-use Rattle.std.proofs.Common.{ap, ◌∙◌, arith, rules}
+use Rattle.std.proofs.Common.{ap, ◌∙◌}
 use Rattle.accumulator.specs.Accumulators.{added}
-use Rattle.accumulator.proofs.Signs.{free-is, product_is}
+use Rattle.accumulator.proofs.Signs.{free-is}
 use Rattle.accumulator.proofs.term.add_free.Goals as goal
 
 pub returns : goal.returns

@@ -1,10 +1,10 @@
-use Rattle.std.proofs.Common.{ap, ◌∙◌, arith, rules}
+use Rattle.std.proofs.Common.{ap, ◌∙◌}
 use Rattle.accumulator.specs.Accumulators.{added}
-use Rattle.accumulator.proofs.Signs.{free-is, product_is}
+use Rattle.accumulator.proofs.Signs.{product_is}
 use Rattle.accumulator.proofs.term.add_product.Goals as goal
 
 pub returns : goal.returns
-returns c =    c.add.ensures ∙ ap
+returns c = c.add.ensures ∙ ap
     (added _)
     (product_is
     c.args.w

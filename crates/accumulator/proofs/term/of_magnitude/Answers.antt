@@ -1,4 +1,4 @@
-use Rattle.std.proofs.Common.{arith, rules}
+use Rattle.std.proofs.Common.{rules}
 use Rattle.accumulator.proofs.Patterns.{small-scales, large-scales}
 use Rattle.accumulator.proofs.term.of_magnitude.Goals as goal
 

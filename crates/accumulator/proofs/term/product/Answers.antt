@@ -1,4 +1,4 @@
-use Rattle.std.proofs.Common.{arith, rules}
+use Rattle.std.proofs.Common.{rules}
 use Rattle.accumulator.proofs.Products.{halved-above}
 use Rattle.accumulator.proofs.term.product.Goals as goal
 

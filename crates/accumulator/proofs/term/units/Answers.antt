@@ -1,5 +1,4 @@
-use Rattle.std.proofs.Common.{◌≡◌, T, sym, subst, arith, rules}
-use lib.Ieee.{binary64, fits}
+use Rattle.std.proofs.Common.{T, sym, subst}
 use Rattle.accumulator.proofs.Patterns.{no_nan, plus-lt, minus-lt, of-plus, of_minus, scales-at}
 use Rattle.accumulator.proofs.term.units.Goals as goal
 

@@ -1,4 +1,4 @@
-use Rattle.std.proofs.Common.{arith, rules}
+use Rattle.std.proofs.Common.{rules}
 use Rattle.accumulator.proofs.Values.{steps-sum, steps_carry, carries-fit}
 use Rattle.accumulator.proofs.words.add_carry.Goals as goal
 

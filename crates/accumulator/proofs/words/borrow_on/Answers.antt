@@ -1,5 +1,4 @@
-use Rattle.std.proofs.Common.{◌≡◌, ◌+◌, ◌-◌, ◌*◌, ◌^◌, ◌≤◌, length, arith, rules}
-use Rattle.accumulator.specs.Accumulators as acc
+use Rattle.std.proofs.Common.{rules}
 use Rattle.accumulator.proofs.Values.{borrow-ends, borrow_goes_on, at_top}
 use Rattle.accumulator.proofs.words.borrow_on.Goals as goal
 

@@ -1,5 +1,4 @@
-use Rattle.std.proofs.Common.{◌≡◌, ◌+◌, ◌-◌, ◌*◌, ◌^◌, ◌≤◌, length, arith, rules}
-use Rattle.accumulator.specs.Accumulators as acc
+use Rattle.std.proofs.Common.{rules}
 use Rattle.accumulator.proofs.Values.{carry-ends, carry_goes_on, at_top}
 use Rattle.accumulator.proofs.words.carry_on.Goals as goal
 

@@ -1,6 +1,5 @@
-use Rattle.std.proofs.Common.{◌≡◌, ◌+◌, ◌-◌, ◌*◌, ◌^◌, ◌≤◌, length, arith, rules}
+use Rattle.std.proofs.Common.{◌≡◌, ◌+◌, ◌-◌, ◌^◌, ◌≤◌, length}
 use Rattle.accumulator.specs.Accumulators as acc
-use Rattle.accumulator.proofs.Values.{carry-ends, carry_goes_on, at_top}
 use Rattle.accumulator.proofs.words.carry_on.Given as goal
 
 abbrev pub invariant-loop-i : goal.invariant-loop-i

@@ -1,4 +1,4 @@
-use Rattle.std.proofs.Common.{arith, rules}
+use Rattle.std.proofs.Common.{rules}
 use Rattle.accumulator.proofs.Values.{word-taken}
 use Rattle.accumulator.proofs.words.sub_word.Goals as goal
 

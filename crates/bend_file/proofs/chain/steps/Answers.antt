@@ -1,5 +1,4 @@
-use Prim.Native.Nat.{◌-◌}
-use Rattle.bend_file.proofs.Walks.{Walking, walk_start, walk_refused, walk_kept, walk_again, walk_done, walk-over}
+use Rattle.bend_file.proofs.Walks.{walk_start, walk_refused, walk_kept, walk_again, walk_done, walk-over}
 use borrow.Author.Rules.{rules}
 use Rattle.bend_file.proofs.chain.steps.Goals as goal
 

@@ -1,6 +1,5 @@
 use Prim.Native.Nat.{◌-◌}
-use Rattle.bend_file.proofs.Walks.{Walking, walk_start, walk_refused, walk_kept, walk_again, walk_done, walk-over}
-use borrow.Author.Rules.{rules}
+use Rattle.bend_file.proofs.Walks.{Walking}
 use Rattle.bend_file.proofs.chain.steps.Given as goal
 
 -- `bend_file::chain::steps` meets its contract. Assumes nothing.

@@ -2,7 +2,6 @@ use mathlib.Core.Path.{sym, ◌∙◌, ap}
 use lib.Ieee.{binary64, of_bits, div}
 use Rattle.bend_file.specs.Little as little
 use Rattle.floats.proofs.Bits.{nan_pattern, number-pattern}
-use borrow.Author.Rules.{rules}
 use Rattle.bend_file.proofs.little.f64_at.Goals as goal
 
 -- `bend_file::little::f64_at` meets its contract. Assumes nothing.

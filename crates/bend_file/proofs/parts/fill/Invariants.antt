@@ -3,8 +3,6 @@ use mathlib.Core.Path.{◌≡◌}
 use mathlib.Core.List.{◌++◌}
 use lib.ListN.{length, drop}
 use Rattle.bend_file.specs.Little.{values}
-use Rattle.bend_file.proofs.Values.{values-start, values_again, values_done}
-use borrow.Author.Rules.{rules}
 use Rattle.bend_file.proofs.parts.fill.Given as goal
 
 -- `bend_file::parts::fill` meets its contract. Assumes nothing.

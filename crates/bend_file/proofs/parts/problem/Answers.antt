@@ -1,11 +1,10 @@
 use Rattle.bend_file.specs.Read as read
-use borrow.Author.Rules.{rules}
 use Rattle.bend_file.proofs.parts.problem.Goals as goal
 
 -- `bend_file::parts::problem` meets its contract. Assumes nothing.
 pub returns : goal.returns
 unfolding read.problem
-returns c =    let b = c.boxes.ensures in
+returns c = let b = c.boxes.ensures in
     let v = c.cells.ensures in
     record {
       tolerance = v.0;

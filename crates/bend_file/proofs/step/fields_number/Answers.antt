@@ -1,4 +1,4 @@
-use borrow.Author.Tests.{not-true, not-false}
+use borrow.Author.Tests.{not-true}
 use mathlib.Core.Path.{sym, ◌∙◌}
 use Rattle.bend_file.specs.Trailer as trailer
 use Rattle.bend_file.proofs.Rules.{small_is}
@@ -14,7 +14,7 @@ pub wanted-requires : goal.wanted-requires
 wanted-requires c = small_is _ _ (sym c.small.ensures ∙ c.if-not-small.false)
 
 pub returns-then-count-wanted : goal.returns-then-count-wanted
-returns-then-count-wanted c =    miscounted _ _ _ _ c.u16_at-rows.ensures.0 c.u16_at-coords.ensures.0 _ c.small.ensures
+returns-then-count-wanted c = miscounted _ _ _ _ c.u16_at-rows.ensures.0 c.u16_at-coords.ensures.0 _ c.small.ensures
     c.if-not-small.false _ c.u32_at-count.ensures.0
     (λ h. c.if-count-wanted.true (h ∙ sym c.wanted.ensures))
 
@@ -23,6 +23,6 @@ unfolding trailer.count
 link_number-requires c = search rules
 
 pub returns : goal.returns
-returns c =    as-link _ _ _ _ c.u16_at-rows.ensures.0 c.u16_at-coords.ensures.0 _ c.small.ensures
+returns c = as-link _ _ _ _ c.u16_at-rows.ensures.0 c.u16_at-coords.ensures.0 _ c.small.ensures
     c.if-not-small.false _ c.u32_at-count.ensures.0 (c.if-count-wanted.false ∙ c.wanted.ensures)
     _ c.link_number.ensures

@@ -1,6 +1,6 @@
 use borrow.Author.Tests.{not-true, not-false}
 use mathlib.Core.Path.{sym, ◌∙◌}
-use Rattle.bend_file.proofs.Rules.{Kept, short, long, unmarked, large, kept, miscounted, misplaced, shaped, small_is}
+use Rattle.bend_file.proofs.Rules.{short, long, unmarked, large, kept, miscounted, misplaced, shaped, small_is}
 use borrow.Author.Rules.{rules}
 use Rattle.bend_file.proofs.trailer.shape_of.Goals as goal
 
@@ -23,9 +23,9 @@ pub returns-then-count-wanted : goal.returns-then-count-wanted
 returns-then-count-wanted c = miscounted _ (kept _ c.if-end-lt16.false c.if-end-gt65536.false _ c.marked.ensures c.if-not-marked.false _ _ c.u16_at-rows.ensures.0 c.u16_at-coords.ensures.0 _ c.small.ensures c.if-not-small.false _ _ c.u32_at-start.ensures.0 c.u32_at-count.ensures.0) (λ h. c.if-count-wanted.true (h ∙ sym c.wanted.ensures))
 
 pub returns-then-start-count : goal.returns-then-start-count
-returns-then-start-count c =    misplaced _ (kept _ c.if-end-lt16.false c.if-end-gt65536.false _ c.marked.ensures c.if-not-marked.false _ _ c.u16_at-rows.ensures.0 c.u16_at-coords.ensures.0 _ c.small.ensures c.if-not-small.false _ _ c.u32_at-start.ensures.0 c.u32_at-count.ensures.0) c.if-start-count.true
+returns-then-start-count c = misplaced _ (kept _ c.if-end-lt16.false c.if-end-gt65536.false _ c.marked.ensures c.if-not-marked.false _ _ c.u16_at-rows.ensures.0 c.u16_at-coords.ensures.0 _ c.small.ensures c.if-not-small.false _ _ c.u32_at-start.ensures.0 c.u32_at-count.ensures.0) c.if-start-count.true
     (c.if-count-wanted.false ∙ c.wanted.ensures)
 
 pub returns : goal.returns
-returns c =    shaped _ (kept _ c.if-end-lt16.false c.if-end-gt65536.false _ c.marked.ensures c.if-not-marked.false _ _ c.u16_at-rows.ensures.0 c.u16_at-coords.ensures.0 _ c.small.ensures c.if-not-small.false _ _ c.u32_at-start.ensures.0 c.u32_at-count.ensures.0) c.if-start-count.false
+returns c = shaped _ (kept _ c.if-end-lt16.false c.if-end-gt65536.false _ c.marked.ensures c.if-not-marked.false _ _ c.u16_at-rows.ensures.0 c.u16_at-coords.ensures.0 _ c.small.ensures c.if-not-small.false _ _ c.u32_at-start.ensures.0 c.u32_at-count.ensures.0) c.if-start-count.false
     (c.if-count-wanted.false ∙ c.wanted.ensures)

@@ -1,5 +1,4 @@
 use mathlib.Core.Path.{sym, ◌∙◌}
-use borrow.Author.Rules.{rules}
 use Rattle.bend_writer.proofs.Passes.{lent_length}
 use Rattle.bend_writer.proofs.Rules.{none, many, step-refused, short, enough}
 use Rattle.bend_writer.proofs.checks.checked.Goals as goal

@@ -1,5 +1,4 @@
 use native.Mathlib.Omega.{arith}
-use borrow.Author.Rules.{rules}
 use Rattle.bend_writer.proofs.Rules.{square-fits, moving-fits, many-rows, wide, much-motion, miscounted, kept}
 use Rattle.bend_writer.proofs.checks.step_number.Goals as goal
 

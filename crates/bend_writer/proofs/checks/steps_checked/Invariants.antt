@@ -1,7 +1,5 @@
 use Prim.Native.Nat.{◌≤◌, ◌-◌}
-use native.Mathlib.Omega.{arith}
-use borrow.Author.Rules.{rules}
-use Rattle.bend_writer.proofs.Passes.{Seen, seen_start, seen-refused, seen-inside, seen_again, seen_done}
+use Rattle.bend_writer.proofs.Passes.{Seen}
 use Rattle.bend_writer.proofs.checks.steps_checked.Given as goal
 
 -- `bend_writer::checks::steps_checked` meets its contract. Assumes nothing.

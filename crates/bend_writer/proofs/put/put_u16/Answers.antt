@@ -1,6 +1,5 @@
 use native.Mathlib.Omega.{arith}
 use lib.ListN.{length-set}
-use borrow.Author.Rules.{rules}
 use Rattle.bend_writer.proofs.Laying.{laid16}
 use Rattle.bend_writer.proofs.put.put_u16.Goals as goal
 

@@ -1,4 +1,3 @@
-use borrow.Author.Rules.{rules}
 use Rattle.bend_writer.specs.Bytes as bytes
 use Rattle.bend_writer.proofs.Laying.{then, length16}
 use Rattle.bend_writer.proofs.put.put_u32.Goals as goal

@@ -1,4 +1,3 @@
-use borrow.Author.Rules.{rules}
 use Rattle.bend_writer.proofs.Laying.{step-laid}
 use Rattle.bend_writer.proofs.steps.put_step.Goals as goal
 

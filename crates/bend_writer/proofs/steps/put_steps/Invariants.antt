@@ -1,9 +1,7 @@
 use Prim.Native.Nat.{◌≤◌, ◌-◌}
 use mathlib.Core.Path.{◌≡◌}
-use native.Mathlib.Omega.{arith}
 use lib.ListN.{length}
-use borrow.Author.Rules.{rules}
-use Rattle.bend_writer.proofs.Passes.{Placed, placed-start, placed-inside, placed-fits, placed-room, placed_again, placed_done}
+use Rattle.bend_writer.proofs.Passes.{Placed}
 use Rattle.bend_writer.proofs.steps.put_steps.Given as goal
 
 -- `bend_writer::steps::put_steps` meets its contract. Assumes nothing.

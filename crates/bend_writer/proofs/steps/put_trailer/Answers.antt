@@ -1,5 +1,4 @@
 use mathlib.Core.Path.{refl}
-use borrow.Author.Rules.{rules}
 use Rattle.bend_writer.specs.Bytes.{bytes16, bytes32}
 use Rattle.bend_writer.specs.Steps as def
 use Rattle.bend_writer.proofs.Laying.{then, reading, mark-bytes}
@@ -7,7 +6,7 @@ use Rattle.bend_writer.proofs.steps.put_trailer.Goals as goal
 
 pub returns : goal.returns
 unfolding def.trailer bytes32 bytes16
-returns c =    let a = c.put_u32.ensures in
+returns c = let a = c.put_u32.ensures in
     let b = c.put_u16.ensures in
     let d = c.put_u16-2.ensures in
     let e = c.put_u32-2.ensures in

@@ -1,10 +1,8 @@
 use Prim.Native.Nat.{◌≤◌, ◌-◌}
 use mathlib.Core.Path.{◌≡◌}
 use lib.ListN.{length, take, drop}
-use borrow.Author.Rules.{rules}
 use Rattle.bend_writer.specs.Bytes.{patterns}
 use Rattle.bend_writer.specs.Private.{Laid}
-use Rattle.bend_writer.proofs.Laying.{values-start, values_again, values_done}
 use Rattle.bend_writer.proofs.steps.put_values.Given as goal
 
 -- `bend_writer::steps::put_values` meets its contract. Assumes nothing.

@@ -1,6 +1,5 @@
 use Rattle.boxed.proofs.Checks.{attempted}
 use native.Mathlib.Omega.{arith}
-use borrow.Author.Rules.{rules}
 use Rattle.boxed.proofs.checkpoints.attempt.Goals as goal
 
 pub overflow_add-e : goal.overflow_add-e
@@ -40,5 +39,5 @@ pub shape_of-rows : goal.shape_of-rows
 shape_of-rows c = omega arith
 
 pub returns : goal.returns
-returns c =    attempted _ _ _ _ c.args.work.now c.requires _ _ _ _ _ c.copy.new.to _ _
+returns c = attempted _ _ _ _ c.args.work.now c.requires _ _ _ _ _ c.copy.new.to _ _
     c.copy.ensures c.exact_pass-found.ensures c.settle.ensures

@@ -1,10 +1,7 @@
 use native.Mathlib.Omega.{arith}
 use Rattle.boxed.proofs.Checks.{member_skip, member_hit, member-end}
 use Rattle.boxed.specs.Solve as solve
-use lib.ListN.{length, drop}
-use mathlib.Core.List.{[], ◌∷◌, ◌++◌}
-use mathlib.Core.Path.{◌≡◌, refl}
-use Prim.Native.Nat.{◌≤◌, ◌-◌}
+use mathlib.Core.Path.{refl}
 use borrow.Author.Rules.{rules}
 use Rattle.boxed.proofs.checkpoints.checkpoint.Goals as goal
 

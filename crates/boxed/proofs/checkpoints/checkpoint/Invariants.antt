@@ -1,11 +1,8 @@
-use native.Mathlib.Omega.{arith}
-use Rattle.boxed.proofs.Checks.{member_skip, member_hit, member-end}
 use Rattle.boxed.specs.Solve as solve
 use lib.ListN.{length, drop}
 use mathlib.Core.List.{[], ◌∷◌, ◌++◌}
-use mathlib.Core.Path.{◌≡◌, refl}
+use mathlib.Core.Path.{◌≡◌}
 use Prim.Native.Nat.{◌≤◌, ◌-◌}
-use borrow.Author.Rules.{rules}
 use Rattle.boxed.proofs.checkpoints.checkpoint.Given as goal
 
 abbrev pub invariant-loop-i : goal.invariant-loop-i

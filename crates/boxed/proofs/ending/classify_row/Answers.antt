@@ -34,12 +34,12 @@ shape_of-states c = omega arith
 
 pub returns : goal.returns
 unfolding private.classify_row
-returns c =    rw (
-      row-acts _ _ _ c.state.ensures c.if-state-eq-IDLE.false,
-      c.put_state.ensures,
-      c.state_of-s.ensures,
-      c.at-4.ensures,
-      c.at-3.ensures,
-      c.at-2.ensures,
-      c.at.ensures,
-    )
+returns c = rw (
+  row-acts _ _ _ c.state.ensures c.if-state-eq-IDLE.false,
+  c.put_state.ensures,
+  c.state_of-s.ensures,
+  c.at-4.ensures,
+  c.at-3.ensures,
+  c.at-2.ensures,
+  c.at.ensures,
+)

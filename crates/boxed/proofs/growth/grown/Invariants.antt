@@ -1,10 +1,7 @@
 use Prim.Native.Nat.{◌≤◌, ◌-◌}
 use mathlib.Core.Path.{◌≡◌}
-use native.Mathlib.Omega.{arith}
 use lib.ListN.{length}
-use borrow.Author.Rules.{rules}
 use Rattle.boxed.specs.Private as private
-use Rattle.loops.proofs.Gather.{gather-start, gather_again, gather_done, gather-le}
 use Rattle.loops.specs.Gathering.{Gathering}
 use Rattle.boxed.proofs.growth.grown.Given as goal
 

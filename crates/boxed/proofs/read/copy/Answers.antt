@@ -1,10 +1,7 @@
-use Prim.Native.Nat.{◌≤◌, ◌-◌}
-use mathlib.Core.Path.{◌≡◌, ◌∙◌}
+use mathlib.Core.Path.{◌∙◌}
 use native.Mathlib.Omega.{arith}
-use lib.ListN.{take, length}
 use lib.Ieee.{nan}
 use borrow.Author.Rules.{rules}
-use Rattle.loops.specs.Loops.{pasted}
 use Rattle.loops.proofs.Paste.{front-start, front_again, front_done, front-whole}
 use Rattle.boxed.proofs.read.copy.Goals as goal
 

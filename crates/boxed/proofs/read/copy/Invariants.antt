@@ -1,11 +1,7 @@
 use Prim.Native.Nat.{◌≤◌, ◌-◌}
-use mathlib.Core.Path.{◌≡◌, ◌∙◌}
-use native.Mathlib.Omega.{arith}
+use mathlib.Core.Path.{◌≡◌}
 use lib.ListN.{take, length}
-use lib.Ieee.{nan}
-use borrow.Author.Rules.{rules}
 use Rattle.loops.specs.Loops.{pasted}
-use Rattle.loops.proofs.Paste.{front-start, front_again, front_done, front-whole}
 use Rattle.boxed.proofs.read.copy.Given as goal
 
 abbrev pub invariant-loop-i : goal.invariant-loop-i

@@ -23,6 +23,6 @@ pub slice_bounds-result-end : goal.slice_bounds-result-end
 slice_bounds-result-end c = omega arith
 
 pub returns : goal.returns
-returns c =    let q : c.args.i * c.args.n + c.args.n - c.args.i * c.args.n ≡ c.args.n = omega arith in
+returns c = let q : c.args.i * c.args.n + c.args.n - c.args.i * c.args.n ≡ c.args.n = omega arith in
     let e = row-part c.args.w.now c.args.n c.args.i c.requires in
     record { row = rw q e; long = rw (q, e) (row-length _ _ _) }

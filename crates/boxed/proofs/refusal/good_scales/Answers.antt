@@ -1,9 +1,7 @@
-use Prim.Native.Nat.{◌≤◌, ◌-◌}
 use mathlib.Core.Path.{◌≡◌, refl}
 use native.Mathlib.Numerals.{add-one}
 use native.Mathlib.Omega.{arith}
 use borrow.Author.Rules.{rules}
-use Rattle.boxed.specs.Private as private
 use Rattle.loops.specs.Loops.{every}
 use Rattle.boxed.proofs.refusal.good_scales.Goals as goal
 

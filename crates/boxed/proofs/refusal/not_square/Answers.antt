@@ -1,5 +1,4 @@
 use native.Mathlib.Omega.{arith}
-use borrow.Author.Rules.{rules}
 use Rattle.loops.proofs.Index.{product}
 use Rattle.boxed.proofs.refusal.not_square.Goals as goal
 

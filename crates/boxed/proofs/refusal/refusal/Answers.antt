@@ -12,21 +12,16 @@ use Rattle.loops.proofs.Every.{both_true}
 use Rattle.boxed.proofs.refusal.refusal.Goals as goal
 
 module _ (q c : Bool) (k r : ℕ) (e : q ≡ c) where
-
   refuses : q ≡ true → k ≡ cond c k r
-
   refuses h = rw (← e, h)
 
   refuses-not : not q ≡ true → k ≡ cond (not c) k r
-
   refuses-not h = rw (← e, h)
 
   passes : (n : ℕ) → q ≡ false → n ≡ r → n ≡ cond c k r
-
   passes n h g = rw (← e, h) g
 
   passes-not : (n : ℕ) → not q ≡ false → n ≡ r → n ≡ cond (not c) k r
-
   passes-not n h g = rw (← e, h) g
 
 few : (q b : Bool) (n : ℕ) → q ≡ (ltb MAX_ROWS n || b) → q ≡ false → n ≤ MAX_ROWS
@@ -67,10 +62,10 @@ returns-then-uneven c = search (refuses, passes, refuses-not, passes-not, rules)
 
 pub returns-then-too_short : goal.returns-then-too_short
 unfolding solve.refusal private.good_scale
-returns-then-too_short c =    passes _ _ _ _ c.too_large.ensures _ c.if-too_large.false
+returns-then-too_short c = passes _ _ _ _ c.too_large.ensures _ c.if-too_large.false
     (passes _ _ _ _ c.not_square.ensures _ c.if-not_square.false (search (refuses, passes, refuses-not, passes-not, rules)))
 
 pub returns : goal.returns
 unfolding solve.refusal private.good_scale
-returns c =    passes _ _ _ _ c.too_large.ensures _ c.if-too_large.false
+returns c = passes _ _ _ _ c.too_large.ensures _ c.if-too_large.false
     (passes _ _ _ _ c.not_square.ensures _ c.if-not_square.false (search (refuses, passes, refuses-not, passes-not, rules)))

@@ -1,5 +1,4 @@
 use borrow.Author.Tests.{lt-ltb, le-ltb}
-use borrow.Author.Rules.{rules}
 use Rattle.boxed.proofs.refusal.uneven.Goals as goal
 
 pub returns-then-n-gt0 : goal.returns-then-n-gt0

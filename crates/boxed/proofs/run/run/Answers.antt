@@ -1,8 +1,5 @@
 use borrow.Author.Rules.{rules}
-use Rattle.boxed.proofs.Turns.{Kept, Reached, run-start, run_again, run-ended, run-over}
-use Rattle.box_rows.specs.Rows as box
-use Rattle.boxed.specs.Solve as solve
-use Prim.Native.Nat.{◌-◌}
+use Rattle.boxed.proofs.Turns.{run-start, run_again, run-ended, run-over}
 use native.Mathlib.Omega.{arith}
 use Rattle.boxed.proofs.run.run.Goals as goal
 

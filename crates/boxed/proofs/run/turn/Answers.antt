@@ -57,7 +57,7 @@ pub shape_of-work-then-not-going : goal.shape_of-work-then-not-going
 shape_of-work-then-not-going c = omega arith
 
 pub returns-then-not-going : goal.returns-then-not-going
-returns-then-not-going c =    turn-ended _ _ _ c.requires c.sweep-stopped.ensures c.grown-k.ensures c.if-k-ne0.false
+returns-then-not-going c = turn-ended _ _ _ c.requires c.sweep-stopped.ensures c.grown-k.ensures c.if-k-ne0.false
     c.check-p.ensures c.going.ensures (ap not c.if-not-going.true)
 
 pub slice_bounds-tests-count : goal.slice_bounds-tests-count
@@ -85,5 +85,5 @@ pub shape_of-work : goal.shape_of-work
 shape_of-work c = omega (arith, c, c)
 
 pub returns : goal.returns
-returns c =    turn-tested _ _ _ c.requires c.sweep-stopped.ensures c.grown-k.ensures c.if-k-ne0.false
+returns c = turn-tested _ _ _ c.requires c.sweep-stopped.ensures c.grown-k.ensures c.if-k-ne0.false
     c.check-p.ensures c.going.ensures (ap not c.if-not-going.false) _ _ c.tests.ensures

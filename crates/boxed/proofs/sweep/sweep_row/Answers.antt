@@ -38,7 +38,7 @@ pub shape_of-nu : goal.shape_of-nu
 shape_of-nu c = omega arith
 
 pub returns : goal.returns
-returns c =    let u = c.update-v.ensures in
+returns c = let u = c.update-v.ensures in
     row_moves _ _ _ _ _ _ _ _ _ c.state.ensures c.requires.count _ _ _ _ _ _ _ _ _ _ _
     c.if-state-eq-IDLE.false c.put.ensures c.count.ensures u.value u.side c.row_sum-u.ensures
     c.at.ensures c.at-2.ensures c.at-3.ensures c.at-4.ensures

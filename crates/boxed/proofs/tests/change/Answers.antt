@@ -1,11 +1,6 @@
-use Prim.Native.Nat.{◌≤◌, ◌-◌}
-use mathlib.Core.List.{◌++◌}
-use mathlib.Core.Path.{◌≡◌}
 use native.Mathlib.Omega.{arith}
-use lib.ListN.{drop, length}
 use borrow.Author.Rules.{rules}
 use Rattle.boxed.specs.Private as private
-use Rattle.loops.specs.Loops.{tab}
 use Rattle.box_rows.proofs.Matrix.{tab-filled}
 use Rattle.loops.proofs.Fill.{tab-start, tab_again}
 use Rattle.boxed.proofs.tests.change.Goals as goal

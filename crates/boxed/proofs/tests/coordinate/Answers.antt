@@ -1,7 +1,4 @@
-use Prim.Native.Nat.{◌≤◌, ◌-◌}
-use mathlib.Core.Path.{◌≡◌}
 use native.Mathlib.Omega.{arith}
-use lib.ListN.{length}
 use borrow.Author.Rules.{rules}
 use Rattle.boxed.specs.Private as private
 use Rattle.loops.proofs.Turns.{turns-from, turns_again, turns_done}

@@ -1,10 +1,7 @@
 use Prim.Native.Nat.{◌≤◌, ◌-◌}
 use mathlib.Core.Path.{◌≡◌}
-use native.Mathlib.Omega.{arith}
 use lib.ListN.{length}
-use borrow.Author.Rules.{rules}
 use Rattle.boxed.specs.Private as private
-use Rattle.loops.proofs.Turns.{turns-from, turns_again, turns_done}
 use Rattle.boxed.proofs.tests.coordinate.Given as goal
 
 abbrev pub invariant-loop-i : goal.invariant-loop-i

@@ -1,13 +1,7 @@
 use Prim.Native.Nat.{◌/◌, ◌≤◌, ◌-◌}
 use mathlib.Core.Path.{◌≡◌}
-use native.Mathlib.Nat.{div-le_self}
-use native.Mathlib.Omega.{arith}
 use lib.ListN.{length}
-use borrow.Author.Rules.{rules}
 use Rattle.boxed.specs.Sweep as sweep
-use Rattle.boxed.specs.Private as private
-use Rattle.boxed.proofs.Rows.{rows_fit}
-use Rattle.loops.proofs.Turns.{turns-from, turns_again, turns_done}
 use Rattle.boxed.proofs.tests.moved.Given as goal
 
 abbrev pub invariant-loop-c : goal.invariant-loop-c

@@ -1,11 +1,7 @@
-use Prim.Native.Nat.{◌≤◌, ◌-◌}
-use mathlib.Core.Path.{◌≡◌}
 use native.Mathlib.Omega.{arith}
-use lib.ListN.{length}
 use borrow.Author.Rules.{rules}
 use Rattle.boxed.specs.Sweep as sweep
 use Rattle.boxed.specs.Private as private
-use Rattle.box_rows.specs.Rows as box
 use Rattle.loops.proofs.Turns.{turns-from, turns_again, turns_done}
 use Rattle.boxed.proofs.tests.residual.Goals as goal
 

@@ -37,7 +37,7 @@ pub shape_of-marks : goal.shape_of-marks
 shape_of-marks c = omega arith
 
 pub returns : goal.returns
-returns c =    let p = c.requires in
+returns c = let p = c.requires in
     record {
       round = λ s h. marked_new s _ _ _ _ c.copy.ensures.part (rw p.lent.states at c.mark_states.ensures);
       remaining = c.remaining_after-remaining.ensures;

@@ -1,6 +1,5 @@
-use Rattle.loops.proofs.Common.{◌-◌, ◌≤◌, ◌≡◌, refl, arith, length, take, rules}
+use Rattle.loops.proofs.Common.{refl, arith, rules}
 use Rattle.loops.proofs.Paste.{front_read, front_again, front_done}
-use Rattle.loops.specs.Loops.{pasted}
 use Rattle.exact_pass.proofs.cycles.mark_states.Goals as goal
 
 pub state-requires : goal.state-requires

@@ -1,5 +1,4 @@
-use Rattle.loops.proofs.Common.{◌-◌, ◌≤◌, ◌≡◌, refl, arith, length, take, rules}
-use Rattle.loops.proofs.Paste.{front_read, front_again, front_done}
+use Rattle.loops.proofs.Common.{◌-◌, ◌≤◌, ◌≡◌, length, take}
 use Rattle.loops.specs.Loops.{pasted}
 use Rattle.exact_pass.proofs.cycles.mark_states.Given as goal
 

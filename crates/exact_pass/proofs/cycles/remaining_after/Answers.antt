@@ -1,4 +1,4 @@
-use Rattle.loops.proofs.Common.{refl, arith, rules}
+use Rattle.loops.proofs.Common.{refl, arith}
 use native.Mathlib.Nat.{mod-le}
 use Rattle.exact_pass.proofs.Periods.{rest-is}
 use Rattle.exact_pass.proofs.cycles.remaining_after.Goals as goal

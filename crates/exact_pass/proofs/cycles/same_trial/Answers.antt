@@ -1,4 +1,4 @@
-use Rattle.loops.proofs.Common.{ℕ, ◌-◌, ◌≤◌, ◌<◌, ◌≡◌, sym, ◌∙◌, arith, length, get_or, take, nan, rules, not-false}
+use Rattle.loops.proofs.Common.{sym, ◌∙◌, arith, length, take, nan, rules}
 use native.Mathlib.Nat.{not-suc-le-zero}
 use mathlib.Core.Bool.{true≢false}
 use lib.ListN.{length-drop}
@@ -39,7 +39,7 @@ pub loop-i-smaller : goal.loop-i-smaller
 loop-i-smaller c = omega arith
 
 pub loop-i-preserved : goal.loop-i-preserved
-loop-i-preserved c =    let n = length c.args.nu.now in
+loop-i-preserved c = let n = length c.args.nu.now in
     let i = c.loop-i.i in (
       search rules,
       search rules,

@@ -1,4 +1,4 @@
-use Rattle.loops.proofs.Common.{◌≡◌, ◌∙◌, arith, length, rules}
+use Rattle.loops.proofs.Common.{◌∙◌, arith}
 use Rattle.exact_pass.proofs.Lent.{direction-lent}
 use Rattle.exact_pass.proofs.Systems.{directed-run}
 use Rattle.exact_pass.proofs.direction.from_system.Goals as goal
@@ -14,12 +14,12 @@ solve-requires c = rw (c.right_hand_side.auto.rhs ∙ c.requires.direction) (rec
 
 pub residual-inconsistent-requires : goal.residual-inconsistent-requires
 residual-inconsistent-requires c = rw c.requires.system.scales (record {
-      square = c.requires.system.square;
-      listed = record { below = c.requires.system.below; long = c.solve.auto.z ∙ c.requires.solution };
-      few = c.requires.system.few;
-      direction = (c.solve.auto.b ∙ (c.right_hand_side.auto.rhs ∙ c.requires.direction));
-      workspace = omega (arith, (c.solve.auto.work ∙ c.copy.auto.to), c.requires.system.workspace);
-    })
+  square = c.requires.system.square;
+  listed = record { below = c.requires.system.below; long = c.solve.auto.z ∙ c.requires.solution };
+  few = c.requires.system.few;
+  direction = (c.solve.auto.b ∙ (c.right_hand_side.auto.rhs ∙ c.requires.direction));
+  workspace = omega (arith, (c.solve.auto.work ∙ c.copy.auto.to), c.requires.system.workspace);
+})
 
 pub direction-requires : goal.direction-requires
 direction-requires c = direction-lent c.requires (c.residual-inconsistent.auto.y ∙ (c.solve.auto.b ∙ (c.right_hand_side.auto.rhs ∙ c.requires.direction))) c.solve.auto.z

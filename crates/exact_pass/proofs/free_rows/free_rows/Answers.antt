@@ -1,8 +1,6 @@
-use Rattle.loops.proofs.Common.{◌-◌, ◌≤◌, ◌≡◌, arith, length, rules}
+use Rattle.loops.proofs.Common.{arith, rules}
 use Rattle.exact_pass.proofs.Rows.{free_done}
 use Rattle.loops.proofs.Gather.{gather-start, gather_again, gather-le}
-use Rattle.loops.specs.Gathering.{Gathering}
-use Rattle.exact_pass.specs.Private as private
 use Rattle.exact_pass.proofs.free_rows.free_rows.Goals as goal
 
 pub loop-i-init : goal.loop-i-init

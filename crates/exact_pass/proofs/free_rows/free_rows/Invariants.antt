@@ -1,6 +1,4 @@
-use Rattle.loops.proofs.Common.{◌-◌, ◌≤◌, ◌≡◌, arith, length, rules}
-use Rattle.exact_pass.proofs.Rows.{free_done}
-use Rattle.loops.proofs.Gather.{gather-start, gather_again, gather-le}
+use Rattle.loops.proofs.Common.{◌-◌, ◌≤◌, ◌≡◌, length}
 use Rattle.loops.specs.Gathering.{Gathering}
 use Rattle.exact_pass.specs.Private as private
 use Rattle.exact_pass.proofs.free_rows.free_rows.Given as goal

@@ -1,4 +1,4 @@
-use Rattle.loops.proofs.Common.{ℕ, ◌-◌, ◌≤◌, ◌<◌, ◌≡◌, refl, sym, arith, length, rules}
+use Rattle.loops.proofs.Common.{refl, sym, arith, rules}
 use Rattle.loops.proofs.Turns.{turns-from, turns_done}
 use Rattle.exact_pass.specs.Pass as pass
 use Rattle.exact_pass.proofs.Rows.{free-row}
@@ -46,7 +46,7 @@ unfolding pass.ratio_test
 loop-i-smaller c = omega arith
 
 pub loop-i-preserved : goal.loop-i-preserved
-loop-i-preserved c =    let i = c.loop-i.invariant in
+loop-i-preserved c = let i = c.loop-i.invariant in
     (omega arith, i.1, ratio_again _ _ _ _ _ _ _ i.2 c.row_number-a.ensures c.at.ensures c.at-in-loop-i.ensures c.at-in-loop-i-2.ensures c.at-in-loop-i-3.ensures c.ratio_row-r.ensures)
 
 pub returns : goal.returns

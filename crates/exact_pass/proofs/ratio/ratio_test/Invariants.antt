@@ -1,8 +1,5 @@
-use Rattle.loops.proofs.Common.{ℕ, ◌-◌, ◌≤◌, ◌<◌, ◌≡◌, refl, sym, arith, length, rules}
-use Rattle.loops.proofs.Turns.{turns-from, turns_done}
+use Rattle.loops.proofs.Common.{◌-◌, ◌≤◌, ◌≡◌, length}
 use Rattle.exact_pass.specs.Pass as pass
-use Rattle.exact_pass.proofs.Rows.{free-row}
-use Rattle.exact_pass.proofs.Stepping.{ratio_again}
 use Rattle.exact_pass.proofs.ratio.ratio_test.Given as goal
 
 abbrev pub invariant-loop-i : goal.invariant-loop-i

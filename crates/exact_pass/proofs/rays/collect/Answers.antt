@@ -1,6 +1,5 @@
-use Rattle.loops.proofs.Common.{◌-◌, ◌≤◌, ◌≡◌, ◌∙◌, arith, length}
-use Rattle.exact_pass.specs.Walk as walks
-use Rattle.exact_pass.proofs.Collecting.{Going, collect-start, collect_again, collect_stop, collect_done}
+use Rattle.loops.proofs.Common.{◌∙◌, arith}
+use Rattle.exact_pass.proofs.Collecting.{collect-start, collect_again, collect_stop, collect_done}
 use Rattle.exact_pass.proofs.rays.collect.Goals as goal
 
 pub loop-a-init : goal.loop-a-init
@@ -26,7 +25,7 @@ shape_of-list-then-v-eq-NO_RAY c = omega arith
 
 -- the facts of row a, where the verdict on it is known
 pub returns-then-v-eq-NO_RAY : goal.returns-then-v-eq-NO_RAY
-returns-then-v-eq-NO_RAY c =    collect_stop _ _ _ _ _ _ c.loop-a.invariant.4 c.verdict-v.ensures c.state.ensures c.size_of-row_size.ensures c.at-x.ensures c.at.ensures
+returns-then-v-eq-NO_RAY c = collect_stop _ _ _ _ _ _ c.loop-a.invariant.4 c.verdict-v.ensures c.state.ensures c.size_of-row_size.ensures c.at-x.ensures c.at.ensures
     c.at-in-loop-a.ensures c.at-in-loop-a-2.ensures c.if-v-eq-NO_RAY.true (omega arith)
 
 pub taken-k-requires : goal.taken-k-requires
@@ -39,14 +38,14 @@ pub loop-a-smaller : goal.loop-a-smaller
 loop-a-smaller c = omega arith
 
 pub loop-a-preserved : goal.loop-a-preserved
-loop-a-preserved c =    let i = c.loop-a.invariant in (
-      omega arith,
-      i.1,
-      omega arith,
-      c.taken-k.auto.list ∙ i.3,
-      collect_again _ _ _ _ _ _ i.4 c.verdict-v.ensures c.state.ensures c.size_of-row_size.ensures c.at-x.ensures c.at.ensures
-          c.at-in-loop-a.ensures c.at-in-loop-a-2.ensures c.loop-a-test.true i.2 c.if-v-eq-NO_RAY.false c.taken-k.ensures.count c.farther-far.ensures c.taken-k.ensures.listed,
-    )
+loop-a-preserved c = let i = c.loop-a.invariant in (
+  omega arith,
+  i.1,
+  omega arith,
+  c.taken-k.auto.list ∙ i.3,
+  collect_again _ _ _ _ _ _ i.4 c.verdict-v.ensures c.state.ensures c.size_of-row_size.ensures c.at-x.ensures c.at.ensures
+      c.at-in-loop-a.ensures c.at-in-loop-a-2.ensures c.loop-a-test.true i.2 c.if-v-eq-NO_RAY.false c.taken-k.ensures.count c.farther-far.ensures c.taken-k.ensures.listed,
+)
 
 pub shape_of-list : goal.shape_of-list
 shape_of-list c = omega arith

@@ -1,6 +1,6 @@
-use Rattle.loops.proofs.Common.{◌-◌, ◌≤◌, ◌≡◌, ◌∙◌, arith, length}
+use Rattle.loops.proofs.Common.{◌-◌, ◌≤◌, ◌≡◌, length}
 use Rattle.exact_pass.specs.Walk as walks
-use Rattle.exact_pass.proofs.Collecting.{Going, collect-start, collect_again, collect_stop, collect_done}
+use Rattle.exact_pass.proofs.Collecting.{Going}
 use Rattle.exact_pass.proofs.rays.collect.Given as goal
 
 abbrev pub invariant-loop-a : goal.invariant-loop-a

@@ -1,6 +1,5 @@
-use Rattle.loops.proofs.Common.{◌-◌, ◌≤◌, ◌≡◌, arith, length, take, rules}
+use Rattle.loops.proofs.Common.{arith, rules}
 use Rattle.loops.proofs.Paste.{front_again, front_done}
-use Rattle.loops.specs.Loops.{fronted}
 use Rattle.exact_pass.proofs.rays.front.Goals as goal
 
 pub number-requires : goal.number-requires

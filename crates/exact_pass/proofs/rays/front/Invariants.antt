@@ -1,5 +1,4 @@
-use Rattle.loops.proofs.Common.{◌-◌, ◌≤◌, ◌≡◌, arith, length, take, rules}
-use Rattle.loops.proofs.Paste.{front_again, front_done}
+use Rattle.loops.proofs.Common.{◌-◌, ◌≤◌, ◌≡◌, length, take}
 use Rattle.loops.specs.Loops.{fronted}
 use Rattle.exact_pass.proofs.rays.front.Given as goal
 

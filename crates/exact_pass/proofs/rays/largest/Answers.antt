@@ -1,4 +1,4 @@
-use Rattle.loops.proofs.Common.{◌-◌, ◌≤◌, ◌≡◌, arith, length, rules}
+use Rattle.loops.proofs.Common.{arith, rules}
 use Rattle.exact_pass.specs.Private as private
 use Rattle.loops.proofs.Turns.{turns-from, turns_again, turns_done}
 use Rattle.exact_pass.proofs.rays.largest.Goals as goal

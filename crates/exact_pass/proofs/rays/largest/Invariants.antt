@@ -1,6 +1,5 @@
-use Rattle.loops.proofs.Common.{◌-◌, ◌≤◌, ◌≡◌, arith, length, rules}
+use Rattle.loops.proofs.Common.{◌-◌, ◌≤◌, ◌≡◌, length}
 use Rattle.exact_pass.specs.Private as private
-use Rattle.loops.proofs.Turns.{turns-from, turns_again, turns_done}
 use Rattle.exact_pass.proofs.rays.largest.Given as goal
 
 abbrev pub invariant-loop-a : goal.invariant-loop-a

@@ -1,7 +1,5 @@
-use Rattle.loops.proofs.Common.{◌-◌, ◌≤◌, ◌≡◌, arith, length, rules}
+use Rattle.loops.proofs.Common.{◌-◌, ◌≤◌, ◌≡◌, length}
 use Rattle.exact_pass.specs.Private.{linear}
-use Rattle.exact_pass.proofs.Rows.{free-row}
-use Rattle.loops.proofs.Turns.{turns-from, turns_again, turns_done}
 use Rattle.exact_pass.proofs.rays.linear.Given as goal
 
 abbrev pub invariant-loop-i : goal.invariant-loop-i

@@ -1,4 +1,4 @@
-use Rattle.loops.proofs.Common.{◌-◌, ◌≤◌, ◌≡◌, ap, ◌∙◌, arith, length, rules}
+use Rattle.loops.proofs.Common.{ap, ◌∙◌, arith, length, rules}
 use Rattle.box_rows.proofs.Matrix.{row-length}
 use Rattle.exact_pass.specs.Private.{quadratic}
 use Rattle.exact_pass.proofs.Rows.{free-row}

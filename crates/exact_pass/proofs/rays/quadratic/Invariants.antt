@@ -1,8 +1,5 @@
-use Rattle.loops.proofs.Common.{◌-◌, ◌≤◌, ◌≡◌, ap, ◌∙◌, arith, length, rules}
-use Rattle.box_rows.proofs.Matrix.{row-length}
+use Rattle.loops.proofs.Common.{◌-◌, ◌≤◌, ◌≡◌, length}
 use Rattle.exact_pass.specs.Private.{quadratic}
-use Rattle.exact_pass.proofs.Rows.{free-row}
-use Rattle.loops.proofs.Turns.{turns-from, turns_again, turns_done}
 use Rattle.exact_pass.proofs.rays.quadratic.Given as goal
 
 abbrev pub invariant-loop-i : goal.invariant-loop-i

@@ -1,4 +1,4 @@
-use Rattle.loops.proofs.Common.{◌-◌, ◌≤◌, ◌≡◌, arith, length, rules}
+use Rattle.loops.proofs.Common.{arith, rules}
 use Rattle.exact_pass.specs.Private.{quadratic_row}
 use Rattle.exact_pass.proofs.Rows.{free-row}
 use Rattle.loops.proofs.Turns.{turns-from, turns_again, turns_done}

@@ -1,7 +1,5 @@
-use Rattle.loops.proofs.Common.{◌-◌, ◌≤◌, ◌≡◌, arith, length, rules}
+use Rattle.loops.proofs.Common.{◌-◌, ◌≤◌, ◌≡◌, length}
 use Rattle.exact_pass.specs.Private.{quadratic_row}
-use Rattle.exact_pass.proofs.Rows.{free-row}
-use Rattle.loops.proofs.Turns.{turns-from, turns_again, turns_done}
 use Rattle.exact_pass.proofs.rays.quadratic_row.Given as goal
 
 abbrev pub invariant-loop-j : goal.invariant-loop-j

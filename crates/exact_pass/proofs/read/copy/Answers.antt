@@ -1,6 +1,5 @@
-use Rattle.loops.proofs.Common.{◌-◌, ◌≤◌, ◌≡◌, arith, length, nan, rules}
+use Rattle.loops.proofs.Common.{arith, nan, rules}
 use Rattle.box_rows.proofs.Matrix.{copy_start, copy_again, copy-part, copy-after}
-use lib.Seq.{paste}
 use Rattle.exact_pass.proofs.read.copy.Goals as goal
 
 pub loop-i-init : goal.loop-i-init
@@ -29,7 +28,7 @@ shape_of-to c = omega arith
 
 pub returns : goal.returns
 returns c = record {
-      part = copy-part c.args.from.now c.args.a c.args.to.now c.loop-i.to c.loop-i.i c.loop-i.invariant.3 (omega arith) (omega arith) (omega arith);
-      after = copy-after c.args.from.now c.args.a c.args.to.now c.loop-i.to c.loop-i.i
-          c.loop-i.invariant.3 (omega arith) (omega arith) (omega arith);
-    }
+  part = copy-part c.args.from.now c.args.a c.args.to.now c.loop-i.to c.loop-i.i c.loop-i.invariant.3 (omega arith) (omega arith) (omega arith);
+  after = copy-after c.args.from.now c.args.a c.args.to.now c.loop-i.to c.loop-i.i
+      c.loop-i.invariant.3 (omega arith) (omega arith) (omega arith);
+}

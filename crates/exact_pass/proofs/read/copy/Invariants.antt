@@ -1,5 +1,4 @@
-use Rattle.loops.proofs.Common.{◌-◌, ◌≤◌, ◌≡◌, arith, length, nan, rules}
-use Rattle.box_rows.proofs.Matrix.{copy_start, copy_again, copy-part, copy-after}
+use Rattle.loops.proofs.Common.{◌-◌, ◌≤◌, ◌≡◌, length}
 use lib.Seq.{paste}
 use Rattle.exact_pass.proofs.read.copy.Given as goal
 

@@ -1,4 +1,4 @@
-use Rattle.loops.proofs.Common.{arith, rules}
+use Rattle.loops.proofs.Common.{arith}
 use Rattle.exact_pass.proofs.read.row_number.Goals as goal
 
 pub bounds-l-i : goal.bounds-l-i

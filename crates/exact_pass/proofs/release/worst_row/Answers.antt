@@ -1,7 +1,5 @@
-use Rattle.loops.proofs.Common.{◌-◌, ◌≤◌, ◌≡◌, ap, arith, length, rules}
-use Rattle.box_rows.specs.Rows as box
+use Rattle.loops.proofs.Common.{ap, arith, rules}
 use Rattle.exact_pass.specs.declared.Worst.{Worst}
-use Rattle.exact_pass.specs.Private as private
 use Rattle.loops.proofs.Turns.{turns-from, turns_again, turns_done}
 use Rattle.exact_pass.proofs.release.worst_row.Goals as goal
 

@@ -1,8 +1,6 @@
-use Rattle.loops.proofs.Common.{◌-◌, ◌≤◌, ◌≡◌, ap, arith, length, rules}
+use Rattle.loops.proofs.Common.{◌-◌, ◌≤◌, ◌≡◌, length}
 use Rattle.box_rows.specs.Rows as box
-use Rattle.exact_pass.specs.declared.Worst.{Worst}
 use Rattle.exact_pass.specs.Private as private
-use Rattle.loops.proofs.Turns.{turns-from, turns_again, turns_done}
 use Rattle.exact_pass.proofs.release.worst_row.Given as goal
 
 abbrev pub invariant-loop-i : goal.invariant-loop-i

@@ -1,5 +1,5 @@
-use Rattle.loops.proofs.Common.{◌-◌, ◌≤◌, ◌≡◌, refl, ◌∙◌, arith, length}
-use Rattle.exact_pass.proofs.Rows.{Begun, start-from, start_again, start_done}
+use Rattle.loops.proofs.Common.{refl, ◌∙◌, arith}
+use Rattle.exact_pass.proofs.Rows.{start-from, start_again, start_done}
 use Rattle.exact_pass.proofs.start.start.Goals as goal
 
 pub loop-i-init : goal.loop-i-init

@@ -1,5 +1,5 @@
-use Rattle.loops.proofs.Common.{◌-◌, ◌≤◌, ◌≡◌, refl, ◌∙◌, arith, length}
-use Rattle.exact_pass.proofs.Rows.{Begun, start-from, start_again, start_done}
+use Rattle.loops.proofs.Common.{◌-◌, ◌≤◌, ◌≡◌, length}
+use Rattle.exact_pass.proofs.Rows.{Begun}
 use Rattle.exact_pass.proofs.start.start.Given as goal
 
 abbrev pub invariant-loop-i : goal.invariant-loop-i

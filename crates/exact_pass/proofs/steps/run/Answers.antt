@@ -1,7 +1,6 @@
-use Rattle.loops.proofs.Common.{sym, ap, ◌∙◌, arith, length, rules}
-use Rattle.box_rows.specs.Rows as box
+use Rattle.loops.proofs.Common.{sym, ap, ◌∙◌, arith, length}
 use Rattle.exact_pass.proofs.Lent.{start-lent, most-steps, mark-fits, states-few}
-use Rattle.exact_pass.proofs.Running.{Going, now, going_start, going_again, going-ended, going-over, after-lent, less_remain, pass-ran}
+use Rattle.exact_pass.proofs.Running.{going_start, going_again, going-ended, going-over, after-lent, less_remain, pass-ran}
 use Rattle.exact_pass.proofs.steps.run.Goals as goal
 
 pub start-acting-requires : goal.start-acting-requires

@@ -1,8 +1,7 @@
-use Rattle.loops.proofs.Common.{◌-◌, ◌≤◌, ◌≡◌, arith, length, rules}
+use Rattle.loops.proofs.Common.{arith, rules}
 use Rattle.exact_pass.proofs.Rows.{free-row}
 use Rattle.exact_pass.specs.Pass as pass
 use Rattle.loops.proofs.Turns.{turns-from, turns_again, turns_done}
-use Rattle.exact_pass.proofs.steps.scatter as scatter
 use Rattle.exact_pass.proofs.steps.scatter.Goals as goal
 
 pub loop-i-init : goal.loop-i-init

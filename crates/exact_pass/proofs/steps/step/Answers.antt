@@ -1,4 +1,4 @@
-use Rattle.loops.proofs.Common.{refl, sym, arith, rules}
+use Rattle.loops.proofs.Common.{refl, sym, arith}
 use lib.Seq.{length-take-le}
 use Rattle.exact_pass.proofs.Stepping.{step_released, step-free}
 use Rattle.exact_pass.proofs.Lent.{free-few, system-lent, step-lent}

@@ -1,8 +1,6 @@
 use Rattle.loops.proofs.Same.{take-replicate}
 use lib.Seq.{length-take-le}
-use Rattle.loops.proofs.Common.{◌≡◌, sym, arith, length, take}
-use lib.ListN.{replicate}
-use Rattle.floats.specs.Ops.{0ᶠ}
+use Rattle.loops.proofs.Common.{sym, arith}
 use Rattle.exact_pass.proofs.Lent.{scatter-lent, scattered-lent}
 use Rattle.exact_pass.proofs.Stepping.{unbounded_failed, unbounded-ray}
 use Rattle.exact_pass.proofs.steps.unbounded.Goals as goal

@@ -1,8 +1,5 @@
-use Rattle.loops.proofs.Common.{◌-◌, ◌≤◌, ◌≡◌, refl, ap, ◌∙◌, arith, length, rules, eq-eqb, ne_eqb}
-use Rattle.loops.proofs.Updates.{updated-start, updated_again, updated_done}
-use Rattle.box_rows.proofs.Matrix.{row-length}
+use Rattle.loops.proofs.Common.{◌-◌, ◌≤◌, ◌≡◌, length}
 use Rattle.exact_pass.specs.Private.{column_taken}
-use Rattle.exact_pass.proofs.Rows.{free-row}
 use Rattle.exact_pass.proofs.system.bound_column.Given as goal
 
 abbrev pub invariant-loop-i : goal.invariant-loop-i

@@ -1,11 +1,5 @@
-use Rattle.loops.proofs.Common.{◌-◌, ◌*◌, ◌≤◌, ◌≡◌, ap, ◌∙◌, ◌++◌, arith, length, drop, rules}
-use native.Mathlib.Nat.{mul-le-mul_right, suc-mul}
-use Rattle.loops.proofs.Index.{product}
-use Rattle.loops.proofs.Parts.{part_length}
-use Rattle.box_rows.proofs.Matrix.{row-length}
+use Rattle.loops.proofs.Common.{◌-◌, ◌*◌, ◌≤◌, ◌≡◌, ◌++◌, length, drop}
 use Rattle.exact_pass.specs.Pass as pass
-use Rattle.exact_pass.proofs.Rows.{free-row}
-use Rattle.exact_pass.proofs.Systems.{matrix-start, matrix_again, matrix_done}
 use Rattle.exact_pass.proofs.system.matrix.Given as goal
 
 abbrev pub invariant-loop-i : goal.invariant-loop-i

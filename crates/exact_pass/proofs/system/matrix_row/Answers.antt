@@ -1,4 +1,4 @@
-use Rattle.loops.proofs.Common.{◌-◌, ◌≤◌, ◌≡◌, ◌++◌, arith, length, drop, rules}
+use Rattle.loops.proofs.Common.{arith, rules}
 use Rattle.box_rows.proofs.Matrix.{tab-filled}
 use Rattle.loops.proofs.Fill.{tab-start, tab_again}
 use Rattle.exact_pass.proofs.Rows.{free-row}

@@ -1,7 +1,4 @@
-use Rattle.loops.proofs.Common.{◌-◌, ◌≤◌, ◌≡◌, ◌++◌, arith, length, drop, rules}
-use Rattle.box_rows.proofs.Matrix.{tab-filled}
-use Rattle.loops.proofs.Fill.{tab-start, tab_again}
-use Rattle.exact_pass.proofs.Rows.{free-row}
+use Rattle.loops.proofs.Common.{◌-◌, ◌≤◌, ◌≡◌, ◌++◌, length, drop}
 use Rattle.exact_pass.specs.Private as private
 use Rattle.exact_pass.proofs.system.matrix_row.Given as goal
 

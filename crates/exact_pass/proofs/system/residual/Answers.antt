@@ -1,8 +1,7 @@
-use Rattle.loops.proofs.Common.{◌-◌, ◌≤◌, ◌≡◌, ◌∙◌, ◌++◌, arith, length, drop, rules}
+use Rattle.loops.proofs.Common.{◌∙◌, arith, rules}
 use Rattle.loops.proofs.Fill.{tab-start}
 use Rattle.loops.proofs.Turns.{turns-from, turns_done}
 use Rattle.box_rows.proofs.Matrix.{tab-filled}
-use Rattle.exact_pass.specs.Private as private
 use Rattle.exact_pass.proofs.Lent.{part-long}
 use Rattle.loops.proofs.Pairs.{tab-two, or-two}
 use Rattle.exact_pass.proofs.system.residual.Goals as goal
@@ -18,12 +17,12 @@ second_row-e-requires c = omega arith
 
 pub two_rows-inconsistent-requires : goal.two_rows-inconsistent-requires
 two_rows-inconsistent-requires c = record {
-      first = record { square = c.requires.square; below = c.requires.listed.below; row = omega arith };
-      second = record { square = c.requires.square; below = c.requires.listed.below; row = omega arith };
-      side = part-long 1056 _ c.args.work.now c.part-rhs.ensures (omega arith);
-      solution = c.requires.listed.long;
-      direction = omega arith;
-    }
+  first = record { square = c.requires.square; below = c.requires.listed.below; row = omega arith };
+  second = record { square = c.requires.square; below = c.requires.listed.below; row = omega arith };
+  side = part-long 1056 _ c.args.work.now c.part-rhs.ensures (omega arith);
+  solution = c.requires.listed.long;
+  direction = omega arith;
+}
 
 pub overflow_add-i : goal.overflow_add-i
 overflow_add-i c = omega (arith, c)

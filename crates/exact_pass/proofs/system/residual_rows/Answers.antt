@@ -1,4 +1,4 @@
-use Rattle.loops.proofs.Common.{ℕ, ◌-◌, ◌≤◌, ◌<◌, ◌≡◌, refl, sym, arith, length}
+use Rattle.loops.proofs.Common.{refl, sym, arith}
 use Rattle.loops.proofs.Turns.{turns-from, turns_done}
 use Rattle.exact_pass.specs.Private as private
 use Rattle.exact_pass.proofs.Rows.{free-row}
@@ -38,12 +38,12 @@ unfolding private.residual_row
 loop-j-smaller c = omega arith
 
 pub loop-j-preserved : goal.loop-j-preserved
-loop-j-preserved c =    let i = c.loop-j.invariant in
+loop-j-preserved c = let i = c.loop-j.invariant in
     let x = c.at-x.ensures in
     let a = c.row_number-c.ensures in
     (omega arith, i.1, residual_again _ _ _ _ _ _ i.2 a x c.at-v.ensures c.at.ensures, residual_again _ _ _ _ _ _ i.3 a x c.at-v.ensures c.at-in-loop-j.ensures)
 
 pub returns : goal.returns
 unfolding private.residual_row
-returns c =    let i = c.loop-j.invariant in
+returns c = let i = c.loop-j.invariant in
     record { first = turns_done _ _ _ _ _ (omega arith) (omega arith) i.2; second = turns_done _ _ _ _ _ (omega arith) (omega arith) i.3 }

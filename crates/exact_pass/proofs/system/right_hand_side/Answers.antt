@@ -1,5 +1,5 @@
-use Rattle.loops.proofs.Common.{◌-◌, ◌≤◌, ◌≡◌, arith, length, rules}
-use Rattle.exact_pass.proofs.Systems.{columns, columns-start, columns_again, columns_done}
+use Rattle.loops.proofs.Common.{arith, rules}
+use Rattle.exact_pass.proofs.Systems.{columns-start, columns_again, columns_done}
 use Rattle.exact_pass.proofs.system.right_hand_side.Goals as goal
 
 pub right_hand_start-requires : goal.right_hand_start-requires

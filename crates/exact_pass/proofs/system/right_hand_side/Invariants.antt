@@ -1,5 +1,5 @@
-use Rattle.loops.proofs.Common.{◌-◌, ◌≤◌, ◌≡◌, arith, length, rules}
-use Rattle.exact_pass.proofs.Systems.{columns, columns-start, columns_again, columns_done}
+use Rattle.loops.proofs.Common.{◌-◌, ◌≤◌, ◌≡◌, length}
+use Rattle.exact_pass.proofs.Systems.{columns}
 use Rattle.exact_pass.proofs.system.right_hand_side.Given as goal
 
 abbrev pub invariant-loop-j : goal.invariant-loop-j

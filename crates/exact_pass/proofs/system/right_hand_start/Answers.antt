@@ -1,8 +1,5 @@
-use Rattle.loops.proofs.Common.{ℕ, ◌-◌, ◌≤◌, ◌≡◌, ◌++◌, arith, length, get_or, drop, rules}
-use lib.Ieee.{neg}
-use Rattle.loops.specs.Loops.{tab}
+use Rattle.loops.proofs.Common.{arith, rules}
 use Rattle.loops.proofs.Fill.{tab-start, tab_again}
-use Rattle.floats.specs.Ops.{at}
 use Rattle.box_rows.proofs.Matrix.{tab-filled}
 use Rattle.exact_pass.proofs.Rows.{free-row}
 use Rattle.exact_pass.proofs.system.right_hand_start.Goals as goal

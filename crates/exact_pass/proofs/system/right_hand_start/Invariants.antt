@@ -1,10 +1,7 @@
-use Rattle.loops.proofs.Common.{ℕ, ◌-◌, ◌≤◌, ◌≡◌, ◌++◌, arith, length, get_or, drop, rules}
+use Rattle.loops.proofs.Common.{ℕ, ◌-◌, ◌≤◌, ◌≡◌, ◌++◌, length, get_or, drop}
 use lib.Ieee.{neg}
 use Rattle.loops.specs.Loops.{tab}
-use Rattle.loops.proofs.Fill.{tab-start, tab_again}
 use Rattle.floats.specs.Ops.{at}
-use Rattle.box_rows.proofs.Matrix.{tab-filled}
-use Rattle.exact_pass.proofs.Rows.{free-row}
 use Rattle.exact_pass.proofs.system.right_hand_start.Given as goal
 
 abbrev pub invariant-loop-i : goal.invariant-loop-i

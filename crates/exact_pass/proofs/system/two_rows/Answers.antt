@@ -1,4 +1,4 @@
-use Rattle.loops.proofs.Common.{◌<◌, ap, ◌∙◌, arith, length, rules}
+use Rattle.loops.proofs.Common.{ap, ◌∙◌, arith, length}
 use Rattle.box_rows.proofs.Matrix.{row-length}
 use Rattle.exact_pass.proofs.Rows.{row_in}
 use Rattle.exact_pass.proofs.Systems.{residual-is, too_large-is, two-tested}
@@ -29,7 +29,7 @@ pub shape_of-y : goal.shape_of-y
 shape_of-y c = omega arith
 
 pub returns : goal.returns
-returns c =    let n1 = c.row_number-a.ensures in
+returns c = let n1 = c.row_number-a.ensures in
     let n2 = c.row_number-b.ensures in
     let first = residual-is _ _ _ _ _ _ n1 c.row-first.ensures c.at.ensures c.residual_rows-r.ensures.first in
     let second = residual-is _ _ _ _ _ _ n2 c.row-second.ensures c.at-2.ensures c.residual_rows-r.ensures.second in

@@ -3,7 +3,6 @@ use Prim.Native.Nat.{◌-◌, ◌/◌}
 use Rattle.floats.specs.Rough as rough
 use Rattle.floats.proofs.SquareRoot.Branches.{finite-bits}
 use native.Mathlib.Omega.{arith}
-use borrow.Author.Rules.{rules}
 use Rattle.floats.proofs.root.approximate.Goals as goal
 
 pub float_from_bits-v : goal.float_from_bits-v

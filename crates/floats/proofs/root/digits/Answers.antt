@@ -1,7 +1,5 @@
-use Prim.Native.Nat.{◌-◌}
-use mathlib.Core.Logic.{⊎_elim}
 use native.Mathlib.Omega.{arith}
-use Rattle.floats.proofs.SquareRoot.Digit.{Inv, bound, first, taken, left_out, done, moved}
+use Rattle.floats.proofs.SquareRoot.Digit.{bound, first, taken, left_out, done, moved}
 use Rattle.floats.proofs.root.digits.Goals as goal
 use Rattle.floats.proofs.root.digits.Goals.{then-t-rest, else-t-rest}
 
@@ -31,8 +29,8 @@ loop-i-preserved c =
     let v = c.loop-i.invariant in
     let h = c.loop-i-test.true in
     elim c.if-t-rest.branch [
-      then-t-rest w ↦ moved w.rest-is w.r-is (taken v h w.if-t-rest.true)
-    | else-t-rest w ↦ moved w.rest-is w.r-is (left_out v h w.if-t-rest.false)
+      | then-t-rest w ↦ moved w.rest-is w.r-is (taken v h w.if-t-rest.true)
+      | else-t-rest w ↦ moved w.rest-is w.r-is (left_out v h w.if-t-rest.false)
     ]
 
 pub returns : goal.returns

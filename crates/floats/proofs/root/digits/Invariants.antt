@@ -1,7 +1,5 @@
 use Prim.Native.Nat.{◌-◌}
-use mathlib.Core.Logic.{⊎_elim}
-use native.Mathlib.Omega.{arith}
-use Rattle.floats.proofs.SquareRoot.Digit.{Inv, bound, first, taken, left_out, done, moved}
+use Rattle.floats.proofs.SquareRoot.Digit.{Inv}
 use Rattle.floats.proofs.root.digits.Given as goal
 
 -- `floats::root::digits` meets its contract. Assumes nothing.

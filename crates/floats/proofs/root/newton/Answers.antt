@@ -1,5 +1,4 @@
 use Rattle.floats.proofs.SquareRoot.Branches.{no_nan}
-use borrow.Author.Rules.{rules}
 use Rattle.floats.proofs.root.newton.Goals as goal
 
 pub float_to_bits-result : goal.float_to_bits-result

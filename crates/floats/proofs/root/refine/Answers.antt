@@ -1,7 +1,5 @@
-use Prim.Native.Nat.{◌-◌}
 use native.Mathlib.Omega.{arith}
-use Rattle.floats.proofs.SquareRoot.Halves.{Halved, square-lt, half, at_most, one_less}
-use borrow.Author.Rules.{rules}
+use Rattle.floats.proofs.SquareRoot.Halves.{square-lt, half, at_most, one_less}
 use Rattle.floats.proofs.root.refine.Goals as goal
 
 pub overflow_mul-m : goal.overflow_mul-m

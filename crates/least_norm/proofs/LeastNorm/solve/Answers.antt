@@ -30,7 +30,7 @@ pub returns-then-workspace-lt1056 : goal.returns-then-workspace-lt1056
 returns-then-workspace-lt1056 c = search (refuse, wrong-room, rules)
 
 pub solve-rank-requires : goal.solve-rank-requires
-solve-rank-requires c =    let o = one_by_one _ _ _ c.if-a-m.false c.if-a-eq1.true in
+solve-rank-requires c = let o = one_by_one _ _ _ c.if-a-m.false c.if-a-eq1.true in
     (c.if-a-eq1.true, c.if-b-m.false ∙ o.0, c.if-x-n.false ∙ o.1)
 
 pub returns-then-a-eq1 : goal.returns-then-a-eq1

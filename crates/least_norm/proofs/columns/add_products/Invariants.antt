@@ -1,8 +1,5 @@
 use Prim.Native.Nat.{◌-◌, ◌≤◌}
-use borrow.Author.Rules.{rules}
 use mathlib.Core.Path.{◌≡◌}
-use native.Mathlib.Omega.{arith}
-use Rattle.least_norm.proofs.Steps.{products-start, products_again, products_done}
 use Rattle.least_norm.specs.Blocks.{lanes, products}
 use Rattle.least_norm.proofs.columns.add_products.Given as goal
 

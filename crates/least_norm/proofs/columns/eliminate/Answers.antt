@@ -1,4 +1,3 @@
-use borrow.Author.Rules.{rules}
 use native.Mathlib.Omega.{arith}
 use Rattle.least_norm.proofs.Runs.{eliminated-run}
 use Rattle.least_norm.proofs.columns.eliminate.Goals as goal
@@ -23,7 +22,7 @@ pub zero_below-requires : goal.zero_below-requires
 zero_below-requires c = omega (arith, c.requires, c.put.auto.a, c.reflect_columns.auto.a)
 
 pub returns : goal.returns
-returns c =    λ p.
+returns c = λ p.
     eliminated-run _ _ _ _ _ _ _ c.householder-h.ensures c.requires.1 c.requires.2 p _ _ _ _
     c.zero_below.ensures c.put.ensures c.reflect.ensures
     c.reflect_columns.ensures

@@ -1,10 +1,7 @@
-use Prim.Native.Nat.{◌-◌, ◌≤◌}
 use borrow.Author.Rules.{rules}
-use lib.ListN.{length}
-use mathlib.Core.Path.{◌≡◌, refl}
+use mathlib.Core.Path.{refl}
 use native.Mathlib.Omega.{arith}
 use Rattle.least_norm.proofs.Steps.{less_rows-start, less_rows_again, less_rows_done}
-use Rattle.least_norm.specs.Blocks.{lanes, less_rows}
 use Rattle.least_norm.proofs.columns.less_rows.Goals as goal
 
 pub loop-row-init : goal.loop-row-init

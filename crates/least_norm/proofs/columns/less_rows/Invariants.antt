@@ -1,9 +1,6 @@
 use Prim.Native.Nat.{◌-◌, ◌≤◌}
-use borrow.Author.Rules.{rules}
 use lib.ListN.{length}
-use mathlib.Core.Path.{◌≡◌, refl}
-use native.Mathlib.Omega.{arith}
-use Rattle.least_norm.proofs.Steps.{less_rows-start, less_rows_again, less_rows_done}
+use mathlib.Core.Path.{◌≡◌}
 use Rattle.least_norm.specs.Blocks.{lanes, less_rows}
 use Rattle.least_norm.proofs.columns.less_rows.Given as goal
 

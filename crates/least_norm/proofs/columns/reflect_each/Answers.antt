@@ -1,12 +1,7 @@
-use Prim.Native.Nat.{ℕ, ◌-◌, ◌≤◌}
 use borrow.Author.Rules.{rules}
-use lib.ListN.{length}
-use mathlib.Core.Path.{◌≡◌, refl}
+use mathlib.Core.Path.{refl}
 use native.Mathlib.Omega.{arith}
-use Rattle.floats.specs.Ops.{at}
-use Rattle.least_norm.specs.Private.{reflect_column}
 use Rattle.loops.proofs.Turns.{between-from, between_again, between_done}
-use Rattle.loops.specs.Loops.{between}
 use Rattle.least_norm.proofs.columns.reflect_each.Goals as goal
 
 pub loop-next-init : goal.loop-next-init

@@ -1,12 +1,7 @@
-use Prim.Native.Nat.{ℕ, ◌-◌, ◌≤◌}
 use borrow.Author.Rules.{rules}
-use lib.ListN.{length}
-use mathlib.Core.Path.{◌≡◌, ◌∙◌, refl}
+use mathlib.Core.Path.{◌∙◌, refl}
 use native.Mathlib.Omega.{arith}
-use Rattle.floats.specs.Ops.{at}
-use Rattle.least_norm.specs.Private.{reflect_column}
 use Rattle.loops.proofs.Turns.{between-from, between_more}
-use Rattle.loops.specs.Loops.{between}
 use Rattle.least_norm.proofs.columns.reflect_fours.Goals as goal
 
 pub loop-next-init : goal.loop-next-init
@@ -25,10 +20,10 @@ pub loop-next-smaller : goal.loop-next-smaller
 loop-next-smaller c = omega arith
 
 pub loop-next-preserved : goal.loop-next-preserved
-loop-next-preserved c =    (
-      omega arith,
-      omega arith,
-      c.reflect_four.auto.a ∙ c.loop-next.invariant.2,
-      between_more _ _ _ _ _ _ _ c.reflect_four.ensures c.loop-next.invariant.3 c.loop-next.invariant.0
-          (omega arith),
-    )
+loop-next-preserved c = (
+  omega arith,
+  omega arith,
+  c.reflect_four.auto.a ∙ c.loop-next.invariant.2,
+  between_more _ _ _ _ _ _ _ c.reflect_four.ensures c.loop-next.invariant.3 c.loop-next.invariant.0
+      (omega arith),
+)

@@ -1,10 +1,7 @@
 use native.Mathlib.Omega.{arith}
-use Prim.Native.Nat.{suc, ◌-◌, ◌≤◌}
 use borrow.Author.Rules.{rules}
-use lib.ListN.{length}
-use mathlib.Core.Path.{◌≡◌, refl}
+use mathlib.Core.Path.{refl}
 use Rattle.least_norm.proofs.Steps.{zero_below-start, zero_below_again, zero_below_done}
-use Rattle.least_norm.specs.Private.{zero_below}
 use Rattle.least_norm.proofs.columns.zero_below.Goals as goal
 
 pub overflow_add-row : goal.overflow_add-row

@@ -1,9 +1,6 @@
-use native.Mathlib.Omega.{arith}
 use Prim.Native.Nat.{suc, ◌-◌, ◌≤◌}
-use borrow.Author.Rules.{rules}
 use lib.ListN.{length}
-use mathlib.Core.Path.{◌≡◌, refl}
-use Rattle.least_norm.proofs.Steps.{zero_below-start, zero_below_again, zero_below_done}
+use mathlib.Core.Path.{◌≡◌}
 use Rattle.least_norm.specs.Private.{zero_below}
 use Rattle.least_norm.proofs.columns.zero_below.Given as goal
 

@@ -1,4 +1,3 @@
-use borrow.Author.Rules.{rules}
 use native.Mathlib.Omega.{arith}
 use native.Mathlib.Nat.{add-zero}
 use Rattle.least_norm.specs.Private.{less}
@@ -30,10 +29,10 @@ less_at-requires-4 c = omega arith
 -- `least_norm::lanes::less_lanes` meets its contract. Assumes nothing.
 pub returns : goal.returns
 unfolding less updated between turns
-returns c =    rw (
-      add-zero c.args.p,
-      c.less_at-4.ensures,
-      c.less_at-3.ensures,
-      c.less_at-2.ensures,
-      c.less_at.ensures,
-    )
+returns c = rw (
+  add-zero c.args.p,
+  c.less_at-4.ensures,
+  c.less_at-3.ensures,
+  c.less_at-2.ensures,
+  c.less_at.ensures,
+)

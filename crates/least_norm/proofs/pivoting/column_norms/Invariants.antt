@@ -1,8 +1,5 @@
 use Prim.Native.Nat.{◌-◌, ◌≤◌}
-use borrow.Author.Rules.{rules}
 use mathlib.Core.Path.{◌≡◌}
-use native.Mathlib.Omega.{arith}
-use Rattle.least_norm.proofs.Steps.{squares-from, squares_again, squares_done}
 use Rattle.least_norm.specs.Blocks.{lanes, zeros, squares}
 use Rattle.least_norm.proofs.pivoting.column_norms.Given as goal
 

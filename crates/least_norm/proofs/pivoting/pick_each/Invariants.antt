@@ -1,10 +1,6 @@
 use Prim.Native.Nat.{◌-◌, ◌≤◌, ◌<◌}
-use borrow.Author.Rules.{rules}
 use mathlib.Core.Path.{◌≡◌}
-use native.Mathlib.Omega.{arith}
-use Rattle.least_norm.proofs.Runs.{one-picked}
 use Rattle.least_norm.specs.Private.{better}
-use Rattle.loops.proofs.Turns.{between-from, between_done}
 use Rattle.loops.specs.Loops.{between}
 use Rattle.least_norm.proofs.pivoting.pick_each.Given as goal
 

@@ -1,11 +1,7 @@
-use Prim.Native.Nat.{◌-◌, ◌≤◌, ◌<◌}
 use borrow.Author.Rules.{rules}
-use mathlib.Core.Path.{◌≡◌}
 use native.Mathlib.Omega.{arith}
 use Rattle.least_norm.proofs.Runs.{four-picked}
-use Rattle.least_norm.specs.Private.{better}
 use Rattle.loops.proofs.Turns.{between-from, between_more}
-use Rattle.loops.specs.Loops.{between}
 use Rattle.least_norm.proofs.pivoting.pick_fours.Goals as goal
 
 pub loop-next-init : goal.loop-next-init
@@ -27,11 +23,11 @@ pub loop-next-smaller : goal.loop-next-smaller
 loop-next-smaller c = omega arith
 
 pub loop-next-preserved : goal.loop-next-preserved
-loop-next-preserved c =    (
-      omega arith,
-      omega arith,
-      c.pick_lanes-p.ensures.1,
-      between_more _ _ _ _ _ _ _
-          (four-picked _ _ _ _ _ _ _ _ c.pick_lanes-p.ensures.0 c.column_norms-s.ensures
-          c.requires.1) c.loop-next.invariant.3 c.loop-next.invariant.0 (omega arith),
-    )
+loop-next-preserved c = (
+  omega arith,
+  omega arith,
+  c.pick_lanes-p.ensures.1,
+  between_more _ _ _ _ _ _ _
+      (four-picked _ _ _ _ _ _ _ _ c.pick_lanes-p.ensures.0 c.column_norms-s.ensures
+      c.requires.1) c.loop-next.invariant.3 c.loop-next.invariant.0 (omega arith),
+)

@@ -27,13 +27,13 @@ picked-requires c = omega arith
 -- `least_norm::pivoting::pick_lanes` meets its contract. Assumes nothing.
 pub returns : goal.returns
 unfolding between turns
-returns c =    (
-      rw (
-        add-zero c.args.c,
-        c.picked.ensures.0,
-        c.picked-r.ensures.0,
-        c.picked-q.ensures.0,
-        c.picked-p.ensures.0,
-      ),
-      omega arith,
-    )
+returns c = (
+  rw (
+    add-zero c.args.c,
+    c.picked.ensures.0,
+    c.picked-r.ensures.0,
+    c.picked-q.ensures.0,
+    c.picked-p.ensures.0,
+  ),
+  omega arith,
+)

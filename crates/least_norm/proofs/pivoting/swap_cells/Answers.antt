@@ -1,4 +1,3 @@
-use borrow.Author.Rules.{rules}
 use native.Mathlib.Omega.{arith}
 use Rattle.loops.specs.Loops.{swap}
 use Rattle.least_norm.proofs.pivoting.swap_cells.Goals as goal

@@ -1,8 +1,6 @@
 use native.Mathlib.Omega.{arith}
-use Prim.Native.Nat.{◌-◌, ◌≤◌}
 use borrow.Author.Rules.{rules}
-use lib.ListN.{length}
-use mathlib.Core.Path.{◌≡◌, refl}
+use mathlib.Core.Path.{refl}
 use Rattle.least_norm.specs.Private.{swap_columns}
 use Rattle.loops.proofs.Turns.{turns-from, turns_again, turns_done}
 use Rattle.least_norm.proofs.pivoting.swap_columns.Goals as goal

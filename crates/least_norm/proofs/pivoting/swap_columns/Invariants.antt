@@ -1,10 +1,7 @@
-use native.Mathlib.Omega.{arith}
 use Prim.Native.Nat.{◌-◌, ◌≤◌}
-use borrow.Author.Rules.{rules}
 use lib.ListN.{length}
-use mathlib.Core.Path.{◌≡◌, refl}
+use mathlib.Core.Path.{◌≡◌}
 use Rattle.least_norm.specs.Private.{swap_columns}
-use Rattle.loops.proofs.Turns.{turns-from, turns_again, turns_done}
 use Rattle.least_norm.proofs.pivoting.swap_columns.Given as goal
 
 -- `least_norm::pivoting::swap_columns` meets its contract. Assumes nothing.

@@ -1,5 +1,4 @@
 use native.Mathlib.Omega.{arith}
-use borrow.Author.Rules.{rules}
 use Rattle.least_norm.proofs.place.put.Goals as goal
 
 pub place-p-requires : goal.place-p-requires

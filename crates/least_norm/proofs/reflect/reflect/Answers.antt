@@ -1,4 +1,3 @@
-use borrow.Author.Rules.{rules}
 use native.Mathlib.Omega.{arith}
 use Rattle.least_norm.proofs.Runs.{reflect-run}
 use Rattle.least_norm.proofs.reflect.reflect.Goals as goal
@@ -20,5 +19,5 @@ less_scaled-requires c = omega arith
 
 -- `least_norm::reflect::reflect` meets its contract. Assumes nothing.
 pub returns : goal.returns
-returns c =    reflect-run _ _ _ _ c.args.u.now c.args.q _ _ _ c.args.z.now _ _ _
+returns c = reflect-run _ _ _ _ c.args.u.now c.args.q _ _ _ c.args.z.now _ _ _
     c.less_scaled.ensures c.less_at.ensures c.dot.ensures c.requires.1.0

@@ -1,10 +1,7 @@
 use native.Mathlib.Omega.{arith}
-use Prim.Native.Nat.{◌≤◌}
 use borrow.Author.Rules.{rules}
-use lib.ListN.{length}
-use mathlib.Core.Path.{◌≡◌, refl}
+use mathlib.Core.Path.{refl}
 use Rattle.least_norm.proofs.Steps.{substituted-from, substituted_again, substituted_done}
-use Rattle.least_norm.specs.Starts.{substituted}
 use Rattle.least_norm.proofs.solution.substitute.Goals as goal
 
 pub loop-i-init : goal.loop-i-init

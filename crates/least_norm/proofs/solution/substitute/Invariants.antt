@@ -1,9 +1,6 @@
-use native.Mathlib.Omega.{arith}
 use Prim.Native.Nat.{◌≤◌}
-use borrow.Author.Rules.{rules}
 use lib.ListN.{length}
-use mathlib.Core.Path.{◌≡◌, refl}
-use Rattle.least_norm.proofs.Steps.{substituted-from, substituted_again, substituted_done}
+use mathlib.Core.Path.{◌≡◌}
 use Rattle.least_norm.specs.Starts.{substituted}
 use Rattle.least_norm.proofs.solution.substitute.Given as goal
 

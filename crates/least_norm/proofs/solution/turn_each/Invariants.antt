@@ -1,11 +1,7 @@
-use native.Mathlib.Omega.{arith}
 use Prim.Native.Nat.{◌-◌, ◌≤◌}
-use borrow.Author.Rules.{rules}
 use lib.ListN.{length}
-use mathlib.Core.Path.{◌≡◌, refl}
+use mathlib.Core.Path.{◌≡◌}
 use Rattle.least_norm.specs.LeastNorm.{turned}
-use Rattle.least_norm.specs.Private.{turn, row_norm2}
-use Rattle.loops.proofs.Turns.{turns-from, turns_again, turns_done}
 use Rattle.least_norm.proofs.solution.turn_each.Given as goal
 
 -- `least_norm::solution::turn_each` meets its contract. Assumes nothing.

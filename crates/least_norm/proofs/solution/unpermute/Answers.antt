@@ -1,10 +1,7 @@
-use Prim.Native.Nat.{◌-◌, ◌≤◌}
 use borrow.Author.Rules.{rules}
-use lib.ListN.{length}
-use mathlib.Core.Path.{◌≡◌, refl}
+use mathlib.Core.Path.{refl}
 use native.Mathlib.Omega.{arith}
 use Rattle.least_norm.proofs.Steps.{unpermuted-from, unpermuted_again, unpermuted_done}
-use Rattle.least_norm.specs.Starts.{unpermuted}
 use Rattle.least_norm.proofs.solution.unpermute.Goals as goal
 
 pub loop-j-init : goal.loop-j-init
@@ -26,12 +23,12 @@ pub loop-j-smaller : goal.loop-j-smaller
 loop-j-smaller c = omega arith
 
 pub loop-j-preserved : goal.loop-j-preserved
-loop-j-preserved c =    (
-      omega arith,
-      c.loop-j.invariant.1,
-      omega arith,
-      unpermuted_again _ _ _ _ _ _ _ c.put_at.ensures c.wide.ensures c.loop-j.invariant.3,
-    )
+loop-j-preserved c = (
+  omega arith,
+  c.loop-j.invariant.1,
+  omega arith,
+  unpermuted_again _ _ _ _ _ _ _ c.put_at.ensures c.wide.ensures c.loop-j.invariant.3,
+)
 
 pub returns : goal.returns
 returns c = search (unpermuted_done, rules)

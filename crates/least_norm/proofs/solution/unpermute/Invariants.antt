@@ -1,9 +1,6 @@
 use Prim.Native.Nat.{◌-◌, ◌≤◌}
-use borrow.Author.Rules.{rules}
 use lib.ListN.{length}
-use mathlib.Core.Path.{◌≡◌, refl}
-use native.Mathlib.Omega.{arith}
-use Rattle.least_norm.proofs.Steps.{unpermuted-from, unpermuted_again, unpermuted_done}
+use mathlib.Core.Path.{◌≡◌}
 use Rattle.least_norm.specs.Starts.{unpermuted}
 use Rattle.least_norm.proofs.solution.unpermute.Given as goal
 

@@ -1,4 +1,3 @@
-use borrow.Author.Rules.{rules}
 use native.Mathlib.Omega.{arith}
 use mathlib.Core.Path.{refl}
 use Rattle.least_norm.proofs.Runs.{clear_still, clear-run}
@@ -27,6 +26,6 @@ pub reflect_rows-requires : goal.reflect_rows-requires
 reflect_rows-requires c = omega arith
 
 pub returns : goal.returns
-returns c =    clear-run _ _ _ _ _ _ _ c.row_norm2-sigma.ensures _ _ _ _ c.reflect_rows.ensures
+returns c = clear-run _ _ _ _ _ _ _ c.row_norm2-sigma.ensures _ _ _ _ c.reflect_rows.ensures
     c.keep_row.ensures c.put.ensures c.beta.ensures c.if-sigma.false
     c.cell-alpha.ensures

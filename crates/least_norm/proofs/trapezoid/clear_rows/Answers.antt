@@ -1,10 +1,8 @@
 use native.Mathlib.Omega.{arith}
-use Prim.Native.Nat.{◌≤◌}
 use borrow.Author.Rules.{rules}
-use lib.ListN.{length}
-use mathlib.Core.Path.{◌≡◌, refl}
+use mathlib.Core.Path.{refl}
 use Rattle.least_norm.proofs.Steps.{cleared-from}
-use Rattle.least_norm.specs.LeastNorm.{trapezoid, cleared}
+use Rattle.least_norm.specs.LeastNorm.{cleared}
 use Rattle.least_norm.specs.Private.{row_norm2, kept_row, reflect_row, reflect_rows, clear}
 use Rattle.loops.proofs.Turns.{downward_again, downward_done}
 use Rattle.least_norm.proofs.trapezoid.clear_rows.Goals as goal

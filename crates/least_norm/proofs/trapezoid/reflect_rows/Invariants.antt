@@ -1,10 +1,7 @@
-use native.Mathlib.Omega.{arith}
 use Prim.Native.Nat.{suc, ◌-◌, ◌≤◌}
-use borrow.Author.Rules.{rules}
 use lib.ListN.{length}
-use mathlib.Core.Path.{◌≡◌, refl}
+use mathlib.Core.Path.{◌≡◌}
 use Rattle.least_norm.specs.Private.{reflect_rows}
-use Rattle.loops.proofs.Turns.{turns-from, turns_again, turns_done}
 use Rattle.least_norm.proofs.trapezoid.reflect_rows.Given as goal
 
 -- `least_norm::trapezoid::reflect_rows` meets its contract. Assumes nothing.

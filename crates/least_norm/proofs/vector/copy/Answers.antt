@@ -1,12 +1,7 @@
 use native.Mathlib.Omega.{arith}
-use Prim.Native.Nat.{ℕ, ◌+◌, ◌-◌, ◌≤◌}
 use borrow.Author.Rules.{rules}
-use lib.Ieee.{Float, nan}
-use lib.ListN.{length}
-use mathlib.Core.Path.{◌≡◌, refl}
-use Rattle.floats.specs.Ops.{at}
+use mathlib.Core.Path.{refl}
 use Rattle.loops.proofs.Updates.{updated-start, updated_again, updated_done}
-use Rattle.loops.specs.Updates.{updated}
 use Rattle.least_norm.proofs.vector.copy.Goals as goal
 
 pub loop-t-init : goal.loop-t-init

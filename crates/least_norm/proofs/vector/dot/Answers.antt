@@ -1,10 +1,6 @@
-use Prim.Native.Nat.{ℕ, ◌+◌, ◌*◌, ◌-◌, ◌≤◌}
 use borrow.Author.Rules.{rules}
-use mathlib.Core.Path.{◌≡◌}
 use native.Mathlib.Omega.{arith}
 use Rattle.floats.proofs.Sums.{gathered-start, sum_again, gathered_done}
-use Rattle.floats.specs.Ops.{at, ◌⊗◌}
-use Rattle.floats.specs.Sums.{sum}
 use Rattle.loops.proofs.Index.{row-end}
 use Rattle.least_norm.proofs.vector.dot.Goals as goal
 
@@ -24,25 +20,25 @@ pub bounds-x-p : goal.bounds-x-p
 bounds-x-p c = omega (arith, row-end c.args.hi c.args.k c.loop-t.t (omega arith))
 
 pub overflow_mul-r-in-loop-t : goal.overflow_mul-r-in-loop-t
-overflow_mul-r-in-loop-t c =    omega (
-      arith,
-      row-end c.args.hi c.args.l
-          c.loop-t.t (omega arith),
-    )
+overflow_mul-r-in-loop-t c = omega (
+  arith,
+  row-end c.args.hi c.args.l
+      c.loop-t.t (omega arith),
+)
 
 pub overflow_add-r-in-loop-t : goal.overflow_add-r-in-loop-t
-overflow_add-r-in-loop-t c =    omega (
-      arith,
-      row-end c.args.hi c.args.l
-          c.loop-t.t (omega arith),
-    )
+overflow_add-r-in-loop-t c = omega (
+  arith,
+  row-end c.args.hi c.args.l
+      c.loop-t.t (omega arith),
+)
 
 pub offset_bounds-y-q : goal.offset_bounds-y-q
-offset_bounds-y-q c =    omega (
-      arith,
-      row-end c.args.hi c.args.l
-          c.loop-t.t (omega arith),
-    )
+offset_bounds-y-q c = omega (
+  arith,
+  row-end c.args.hi c.args.l
+      c.loop-t.t (omega arith),
+)
 
 pub bounds-y-q : goal.bounds-y-q
 bounds-y-q c = omega (arith, row-end c.args.hi c.args.l c.loop-t.t (omega arith))

@@ -1,11 +1,7 @@
 use Prim.Native.Nat.{ℕ, ◌+◌, ◌*◌, ◌-◌, ◌≤◌}
-use borrow.Author.Rules.{rules}
 use mathlib.Core.Path.{◌≡◌}
-use native.Mathlib.Omega.{arith}
-use Rattle.floats.proofs.Sums.{gathered-start, sum_again, gathered_done}
 use Rattle.floats.specs.Ops.{at, ◌⊗◌}
 use Rattle.floats.specs.Sums.{sum}
-use Rattle.loops.proofs.Index.{row-end}
 use Rattle.least_norm.proofs.vector.dot.Given as goal
 
 -- `least_norm::vector::dot` meets its contract. Assumes nothing.

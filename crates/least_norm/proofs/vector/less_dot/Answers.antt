@@ -1,10 +1,6 @@
 use native.Mathlib.Omega.{arith}
-use Prim.Native.Nat.{ℕ, ◌+◌, ◌-◌, ◌≤◌}
 use borrow.Author.Rules.{rules}
-use mathlib.Core.Path.{◌≡◌}
 use Rattle.floats.proofs.Sums.{gathered-start, difference_again, gathered_done}
-use Rattle.floats.specs.Ops.{at, ◌⊗◌}
-use Rattle.floats.specs.Sums.{difference}
 use Rattle.least_norm.proofs.vector.less_dot.Goals as goal
 
 pub loop-t-init : goal.loop-t-init

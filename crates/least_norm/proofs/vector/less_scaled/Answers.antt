@@ -1,14 +1,9 @@
-use Prim.Native.Nat.{ℕ, ◌+◌, ◌*◌, ◌-◌, ◌≤◌}
 use borrow.Author.Rules.{rules}
-use lib.Ieee.{Float, nan}
-use lib.ListN.{length}
-use mathlib.Core.Path.{◌≡◌, refl}
+use mathlib.Core.Path.{refl}
 use native.Mathlib.Omega.{arith}
-use Rattle.floats.specs.Ops.{at, ◌⊖◌, ◌⊗◌}
 use Rattle.least_norm.specs.Private.{less}
 use Rattle.loops.proofs.Index.{row-end}
 use Rattle.loops.proofs.Updates.{updated-start, updated_again, updated_done}
-use Rattle.loops.specs.Updates.{updated}
 use Rattle.least_norm.proofs.vector.less_scaled.Goals as goal
 
 pub loop-t-init : goal.loop-t-init
@@ -24,11 +19,11 @@ pub offset_bounds-x-p : goal.offset_bounds-x-p
 offset_bounds-x-p c = omega (arith, row-end c.args.hi c.args.k c.loop-t.t (omega arith))
 
 pub bounds-x-p : goal.bounds-x-p
-bounds-x-p c =    omega (
-      arith,
-      row-end c.args.hi c.args.k
-          c.loop-t.t (omega arith),
-    )
+bounds-x-p c = omega (
+  arith,
+  row-end c.args.hi c.args.k
+      c.loop-t.t (omega arith),
+)
 
 pub overflow_add-x-in-loop-t : goal.overflow_add-x-in-loop-t
 overflow_add-x-in-loop-t c = omega arith

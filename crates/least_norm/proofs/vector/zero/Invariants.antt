@@ -1,11 +1,8 @@
-use native.Mathlib.Omega.{arith}
 use Prim.Native.Nat.{◌-◌, ◌≤◌}
-use borrow.Author.Rules.{rules}
 use lib.ListN.{length, replicate, drop}
 use mathlib.Core.List.{◌++◌}
 use mathlib.Core.Path.{◌≡◌}
 use Rattle.floats.specs.Ops.{0ᶠ}
-use Rattle.loops.proofs.Fill.{fill_again, fill_done}
 use Rattle.least_norm.proofs.vector.zero.Given as goal
 
 -- `least_norm::vector::zero` meets its contract. Assumes nothing.

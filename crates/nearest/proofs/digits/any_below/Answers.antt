@@ -1,7 +1,3 @@
-use Prim.Native.Nat.{◌-◌, ◌≤◌}
-use mathlib.Core.Path.{◌≡◌}
-use lib.ListN.{take}
-use Rattle.accumulator.specs.Accumulators.{value}
 use Rattle.nearest.proofs.Scans.{front-start, front_again, front-found, front-none}
 use borrow.Author.Rules.{rules}
 use native.Mathlib.Omega.{arith}

@@ -3,7 +3,6 @@ use Prim.Native.Nat.{◌^◌}
 use mathlib.Core.Path.{◌∙◌}
 use native.Mathlib.Nat.{one-mul}
 use lib.Pow.{shl_exact}
-use borrow.Author.Rules.{rules}
 use Rattle.nearest.proofs.digits.power.Goals as goal
 
 pub returns : goal.returns

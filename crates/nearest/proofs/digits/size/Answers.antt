@@ -2,7 +2,6 @@ use lib.Count.{leading_le}
 use lib.ListN.{get_or}
 use Rattle.nearest.proofs.Sizes.{sized}
 use native.Mathlib.Omega.{arith}
-use borrow.Author.Rules.{rules}
 use Rattle.nearest.proofs.digits.size.Goals as goal
 
 pub overflow_cast-result : goal.overflow_cast-result

@@ -1,7 +1,3 @@
-use Prim.Native.Nat.{◌+◌, ◌≤◌}
-use mathlib.Core.Path.{◌≡◌}
-use lib.ListN.{drop}
-use Rattle.accumulator.specs.Accumulators.{value}
 use Rattle.nearest.proofs.Scans.{top_start, top_again}
 use borrow.Author.Rules.{rules}
 use Rattle.nearest.proofs.digits.top.Goals as goal

@@ -2,8 +2,6 @@ use Prim.Native.Nat.{◌+◌, ◌≤◌}
 use mathlib.Core.Path.{◌≡◌}
 use lib.ListN.{drop}
 use Rattle.accumulator.specs.Accumulators.{value}
-use Rattle.nearest.proofs.Scans.{top_start, top_again}
-use borrow.Author.Rules.{rules}
 use Rattle.nearest.proofs.digits.top.Given as goal
 
 -- `nearest::digits::top` meets its contract. Assumes nothing.

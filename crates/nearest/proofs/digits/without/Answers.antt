@@ -1,11 +1,7 @@
 use lib.Pow.{pow_pos}
-use Prim.Native.Nat.{◌+◌, ◌*◌, ◌/◌, ◌%◌, ◌^◌}
-use mathlib.Core.Path.{◌≡◌}
-use lib.ListN.{get_or}
-use Rattle.accumulator.specs.Accumulators.{value}
+use Prim.Native.Nat.{◌%◌}
 use Rattle.nearest.proofs.Steps.{joined}
 use native.Mathlib.Omega.{arith}
-use borrow.Author.Rules.{rules}
 use Rattle.nearest.proofs.digits.without.Goals as goal
 
 pub nonzero_div-result : goal.nonzero_div-result

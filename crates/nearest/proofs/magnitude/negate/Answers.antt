@@ -1,7 +1,4 @@
-use Prim.Native.Nat.{◌+◌, ◌-◌, ◌*◌, ◌^◌, ◌<◌, ◌≤◌}
-use mathlib.Core.Path.{◌≡◌}
-use lib.ListN.{length, take, length-set}
-use Rattle.accumulator.specs.Accumulators.{value, base}
+use lib.ListN.{length-set}
 use Rattle.nearest.proofs.Negation.{neg-start, neg_again, neg_done}
 use borrow.Author.Rules.{rules}
 use native.Mathlib.Omega.{arith}
@@ -11,7 +8,7 @@ pub loop-i-init : goal.loop-i-init
 loop-i-init c = search (neg-start, rules)
 
 pub loop-i-preserved : goal.loop-i-preserved
-loop-i-preserved c =    let a = c.loop-i in
+loop-i-preserved c = let a = c.loop-i in
     let r = c.complement-next.result in (
       omega arith,
       simp length-set (omega arith),

@@ -1,10 +1,7 @@
 use Prim.Native.Nat.{◌+◌, ◌-◌, ◌*◌, ◌^◌, ◌<◌, ◌≤◌}
 use mathlib.Core.Path.{◌≡◌}
-use lib.ListN.{length, take, length-set}
+use lib.ListN.{length, take}
 use Rattle.accumulator.specs.Accumulators.{value, base}
-use Rattle.nearest.proofs.Negation.{neg-start, neg_again, neg_done}
-use borrow.Author.Rules.{rules}
-use native.Mathlib.Omega.{arith}
 use Rattle.nearest.proofs.magnitude.negate.Given as goal
 
 -- `nearest::magnitude::negate` meets its contract. Assumes nothing.

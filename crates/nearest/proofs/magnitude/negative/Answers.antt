@@ -1,6 +1,5 @@
 use Rattle.nearest.proofs.Negation.{not_negative, is_negative}
 use native.Mathlib.Omega.{arith}
-use borrow.Author.Rules.{rules}
 use Rattle.nearest.proofs.magnitude.negative.Goals as goal
 
 pub returns-then-words-lt9223372036854775808 : goal.returns-then-words-lt9223372036854775808

@@ -1,7 +1,6 @@
 use Rattle.accumulator.specs.Accumulators.{value}
 use Rattle.nearest.proofs.Steps.{bits-over, ask_normal, ask-low, bits_normal, bits-low}
 use native.Mathlib.Omega.{arith}
-use borrow.Author.Rules.{rules}
 use Rattle.nearest.proofs.pattern.bits.Goals as goal
 
 pub returns-then-n-gt3172 : goal.returns-then-n-gt3172

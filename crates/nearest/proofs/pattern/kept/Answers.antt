@@ -1,6 +1,5 @@
 use Rattle.accumulator.specs.Accumulators.{value}
 use Rattle.nearest.proofs.Steps.{kept_down, kept_up, kept_even}
-use borrow.Author.Rules.{rules}
 use Rattle.nearest.proofs.pattern.kept.Goals as goal
 
 pub returns-then-h-eq0 : goal.returns-then-h-eq0

@@ -1,5 +1,4 @@
 use Rattle.nearest.proofs.Steps.{no_nan}
-use borrow.Author.Rules.{rules}
 use Rattle.nearest.proofs.pattern.rounded.Goals as goal
 
 pub float_from_bits-result : goal.float_from_bits-result

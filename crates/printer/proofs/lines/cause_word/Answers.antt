@@ -1,6 +1,5 @@
 use Rattle.printer.specs.Output as print
 use Rattle.printer.proofs.Laws.{reading}
-use borrow.Author.Rules.{rules}
 use Rattle.printer.proofs.lines.cause_word.Goals as goal
 
 -- TODO unknown goal slice-aggregate-text

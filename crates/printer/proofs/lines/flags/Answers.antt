@@ -1,5 +1,4 @@
 use Rattle.printer.proofs.Laws.{then}
-use borrow.Author.Rules.{rules}
 use Rattle.printer.proofs.lines.flags.Goals as goal
 
 -- TODO unknown goal slice-aggregate-flag

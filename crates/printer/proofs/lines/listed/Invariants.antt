@@ -3,8 +3,6 @@ use mathlib.Core.Path.{◌≡◌}
 use lib.ListN.{length}
 use Rattle.printer.specs.Output as print
 use Rattle.printer.specs.Writing.{Wrote}
-use Rattle.printer.proofs.Laws.{listed_start, listed_again, listed_done}
-use borrow.Author.Rules.{rules}
 use Rattle.printer.proofs.lines.listed.Given as goal
 
 -- `printer::lines::listed` meets its contract. Assumes nothing.

@@ -1,5 +1,4 @@
 use Rattle.printer.proofs.Laws.{then}
-use borrow.Author.Rules.{rules}
 use Rattle.printer.proofs.lines.remains.Goals as goal
 
 -- TODO unknown goal slice-aggregate-count

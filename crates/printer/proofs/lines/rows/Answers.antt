@@ -1,8 +1,3 @@
-use Prim.Native.Nat.{◌≤◌, ◌-◌}
-use mathlib.Core.Path.{◌≡◌}
-use lib.ListN.{length}
-use Rattle.printer.specs.Output as print
-use Rattle.printer.specs.Writing.{Wrote}
 use Rattle.printer.proofs.Laws.{rows_start, rows_again, rows_done}
 use borrow.Author.Rules.{rules}
 use Rattle.printer.proofs.lines.rows.Goals as goal

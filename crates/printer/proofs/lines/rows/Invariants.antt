@@ -3,8 +3,6 @@ use mathlib.Core.Path.{◌≡◌}
 use lib.ListN.{length}
 use Rattle.printer.specs.Output as print
 use Rattle.printer.specs.Writing.{Wrote}
-use Rattle.printer.proofs.Laws.{rows_start, rows_again, rows_done}
-use borrow.Author.Rules.{rules}
 use Rattle.printer.proofs.lines.rows.Given as goal
 
 -- `printer::lines::rows` meets its contract. Assumes nothing.

@@ -1,5 +1,4 @@
 use Rattle.printer.proofs.Laws.{past_end}
-use borrow.Author.Rules.{rules}
 use Rattle.printer.proofs.lines.state_of.Goals as goal
 
 pub returns : goal.returns

@@ -1,5 +1,4 @@
 use Rattle.printer.proofs.Laws.{then}
-use borrow.Author.Rules.{rules}
 use Rattle.printer.proofs.write.count.Goals as goal
 
 pub returns : goal.returns

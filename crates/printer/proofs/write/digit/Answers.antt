@@ -1,5 +1,4 @@
 use Rattle.printer.proofs.Laws.{digit_low, digit-high}
-use borrow.Author.Rules.{rules}
 use Rattle.printer.proofs.write.digit.Goals as goal
 
 pub returns-then-d-lt10 : goal.returns-then-d-lt10

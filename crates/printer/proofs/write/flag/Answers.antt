@@ -1,6 +1,5 @@
 use Rattle.printer.specs.Output as print
 use Rattle.printer.proofs.Laws.{then, reading}
-use borrow.Author.Rules.{rules}
 use Rattle.printer.proofs.write.flag.Goals as goal
 
 pub returns-then-on : goal.returns-then-on

@@ -1,7 +1,3 @@
-use Prim.Native.Nat.{◌≤◌, ◌-◌}
-use mathlib.Core.Path.{◌≡◌}
-use lib.ListN.{length, take}
-use Rattle.printer.specs.Writing.{Wrote}
 use Rattle.printer.proofs.Laws.{nothing-wrote, word_again, word_done}
 use borrow.Author.Rules.{rules}
 use Rattle.printer.proofs.write.text.Goals as goal

@@ -2,8 +2,6 @@ use Prim.Native.Nat.{◌≤◌, ◌-◌}
 use mathlib.Core.Path.{◌≡◌}
 use lib.ListN.{length, take}
 use Rattle.printer.specs.Writing.{Wrote}
-use Rattle.printer.proofs.Laws.{nothing-wrote, word_again, word_done}
-use borrow.Author.Rules.{rules}
 use Rattle.printer.proofs.write.text.Given as goal
 
 -- `printer::write::text` meets its contract. Assumes nothing.

@@ -1,7 +1,6 @@
 use mathlib.Core.Path.{sym, ◌∙◌}
 use Rattle.report.specs.Joins as joins
 use Rattle.report.proofs.Sums.{all_summable}
-use borrow.Author.Rules.{rules}
 use Rattle.report.proofs.SolveReport.and.Goals as goal
 
 pub both-requires : goal.both-requires

@@ -1,7 +1,6 @@
 use mathlib.Core.Path.{sym, ◌∙◌}
 use Rattle.report.specs.Joins as joins
 use Rattle.report.proofs.Sums.{summable}
-use borrow.Author.Rules.{rules}
 use Rattle.report.proofs.SolveReport.continued.Goals as goal
 
 pub onward-requires : goal.onward-requires

@@ -1,8 +1,6 @@
-use Prim.Native.Nat.{◌+◌, ◌*◌, ◌-◌, ◌≤◌, ◌<◌}
-use mathlib.Core.Path.{◌≡◌, refl, sym, ap, ◌∙◌}
-use mathlib.Core.List.{◌++◌}
+use Prim.Native.Nat.{◌<◌}
+use mathlib.Core.Path.{◌∙◌}
 use native.Mathlib.Nat.{mul-le-mul_right, suc-mul}
-use lib.ListN.{length, drop}
 use Rattle.loops.proofs.Index.{product}
 use Rattle.loops.proofs.Parts.{parts-start, parts_again, parts_done, part_length}
 use Rattle.triangle.specs.Triangle as triangle
@@ -28,17 +26,17 @@ pub slice_bounds-mirror_row-end : goal.slice_bounds-mirror_row-end
 slice_bounds-mirror_row-end c = omega (arith, mul-le-mul_right c.args.n c.loop-i-test.true, suc-mul c.loop-i.i c.args.n)
 
 pub mirror_row-requires : goal.mirror_row-requires
-mirror_row-requires c =    let more : c.loop-i.i < c.args.n = omega (arith, c.loop-i-test.true) in
+mirror_row-requires c = let more : c.loop-i.i < c.args.n = omega (arith, c.loop-i-test.true) in
     (c.requires.0, c.requires.1, more, part_length _ _ _ (c.loop-i.invariant.1 ∙ c.requires.2) more)
 
 pub loop-i-preserved : goal.loop-i-preserved
 unfolding triangle.rows_mirrored
-loop-i-preserved c =    (
-      search rules,
-      search rules,
-      parts_again (triangle.mirror_row c.args.t.now c.args.n) c.args.n (mirror-row-length c.args.t.now c.args.n)
-          _ c.loop-i.i c.loop-i.w c.mirror_row.new.out c.loop-i.invariant.2 c.mirror_row.ensures,
-    )
+loop-i-preserved c = (
+  search rules,
+  search rules,
+  parts_again (triangle.mirror_row c.args.t.now c.args.n) c.args.n (mirror-row-length c.args.t.now c.args.n)
+      _ c.loop-i.i c.loop-i.w c.mirror_row.new.out c.loop-i.invariant.2 c.mirror_row.ensures,
+)
 
 pub returns : goal.returns
 unfolding triangle.mirrored triangle.rows_mirrored

@@ -1,14 +1,8 @@
-use Prim.Native.Nat.{◌+◌, ◌*◌, ◌-◌, ◌≤◌, ◌<◌}
-use mathlib.Core.Path.{◌≡◌, refl, sym, ap, ◌∙◌}
+use Prim.Native.Nat.{◌*◌, ◌-◌, ◌≤◌}
+use mathlib.Core.Path.{◌≡◌}
 use mathlib.Core.List.{◌++◌}
-use native.Mathlib.Nat.{mul-le-mul_right, suc-mul}
 use lib.ListN.{length, drop}
-use Rattle.loops.proofs.Index.{product}
-use Rattle.loops.proofs.Parts.{parts-start, parts_again, parts_done, part_length}
 use Rattle.triangle.specs.Triangle as triangle
-use Rattle.triangle.proofs.Mirrored.{mirror-row-length}
-use borrow.Author.Rules.{rules}
-use native.Mathlib.Omega.{arith}
 use Rattle.triangle.proofs.mirror.mirror.Given as goal
 
 abbrev pub invariant-loop-i : goal.invariant-loop-i

@@ -1,7 +1,4 @@
-use Prim.Native.Nat.{◌+◌, ◌-◌, ◌≤◌, ◌<◌}
-use mathlib.Core.Path.{◌≡◌, sym, ap, ◌∙◌}
-use mathlib.Core.List.{◌++◌}
-use lib.ListN.{length, drop}
+use mathlib.Core.Path.{◌∙◌}
 use Rattle.loops.proofs.Fill.{tab-start, tab_again}
 use Rattle.box_rows.proofs.Matrix.{tab-filled}
 use Rattle.triangle.specs.Triangle as triangle
@@ -22,12 +19,12 @@ next-place-requires c = (omega (arith, c.requires.0, c.requires.2), omega (arith
 
 pub loop-j-preserved : goal.loop-j-preserved
 unfolding triangle.mirror_row
-loop-j-preserved c =    (
-      search rules,
-      c.next-place.ensures,
-      search rules,
-      rw (c.put.ensures, c.at.ensures, c.loop-j.invariant.1) (tab_again _ _ _ _ c.loop-j.invariant.3 c.loop-j.invariant.2 (omega (arith, c.requires.3, c.loop-j.invariant.2))),
-    )
+loop-j-preserved c = (
+  search rules,
+  c.next-place.ensures,
+  search rules,
+  rw (c.put.ensures, c.at.ensures, c.loop-j.invariant.1) (tab_again _ _ _ _ c.loop-j.invariant.3 c.loop-j.invariant.2 (omega (arith, c.requires.3, c.loop-j.invariant.2))),
+)
 
 pub returns : goal.returns
 unfolding triangle.mirror_row

@@ -1,13 +1,8 @@
-use Prim.Native.Nat.{◌+◌, ◌-◌, ◌≤◌, ◌<◌}
-use mathlib.Core.Path.{◌≡◌, sym, ap, ◌∙◌}
+use Prim.Native.Nat.{◌-◌, ◌≤◌}
+use mathlib.Core.Path.{◌≡◌}
 use mathlib.Core.List.{◌++◌}
 use lib.ListN.{length, drop}
-use Rattle.loops.proofs.Fill.{tab-start, tab_again}
-use Rattle.box_rows.proofs.Matrix.{tab-filled}
 use Rattle.triangle.specs.Triangle as triangle
-use Rattle.triangle.proofs.Mirrored.{place-start, place-within}
-use borrow.Author.Rules.{rules}
-use native.Mathlib.Omega.{arith}
 use Rattle.triangle.proofs.mirror.mirror_row.Given as goal
 
 abbrev pub invariant-loop-j : goal.invariant-loop-j

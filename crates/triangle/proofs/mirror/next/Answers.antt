@@ -1,7 +1,6 @@
 use Prim.Native.Nat.{ℕ, ◌+◌}
 use mathlib.Core.Path.{ap, ◌∙◌}
 use Rattle.triangle.proofs.Mirrored.{place-few, next-below, next-above}
-use borrow.Author.Rules.{rules}
 use native.Mathlib.Omega.{arith}
 use Rattle.triangle.proofs.mirror.next.Goals as goal
 
