@@ -1,11 +1,14 @@
 // Replays the stored answers of the original, so that they are held against the port with no Rust at hand. data/README.md says how they were made.
 #![tactic(auto)]
 
+mod input;
 mod roots;
 mod systems;
 mod words;
 
-fn main() {
-    roots::replay();
-    systems::replay();
+use std::io;
+
+fn main(rt: HostRuntime) -> io::Result<()> {
+    roots::replay(&rt)?;
+    systems::replay(&rt)
 }

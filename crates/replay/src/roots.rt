@@ -1,7 +1,9 @@
 // Square roots: records of 16 bytes, a value and its root.
 ghost use Rattle.std.specs.Prelude.{◌≤◌, length};
 
-use super::words;
+use super::{input, words};
+use std::rt::Files;
+use std::{fs, io};
 
 // Whether the record at the front of s differs: 1, or 0.
 fn differs(s: &[u8]) -> u64
@@ -24,14 +26,14 @@ fn differing(s: &[u8]) -> u64 {
     count
 }
 
-pub fn replay() {
-    let file = os::open_read(b"sqrt.bin");
-    let mut buffer = io::large_buffer();
-    let got = io::read_full(file, &mut buffer);
-    libc::close(file);
+pub fn replay(rt: &(impl Files + Print)) -> io::Result<()> {
+    let mut file = fs::open(rt, "sqrt.bin")?;
+    let mut buffer = [0u8; 65536];
+    let got = input::read_full(&mut file, &mut buffer);
     words::report(
-        b"square roots: ",
+        rt,
+        "square roots: ",
         got as u64 / 16,
         differing(&buffer[..got]),
-    );
+    )
 }

@@ -1,8 +1,11 @@
 // Least-norm systems: m, n, a, b, and what the original leaves: rank, a, b, x.
 ghost use Rattle.std.specs.Prelude.{◌≡◌, ◌+◌, ◌*◌, ◌≤◌, ◌<◌, length};
 
-use super::words;
+use super::{input, words};
 use least_norm::{LeastNorm, Outcome};
+use std::io::Read;
+use std::rt::Files;
+use std::{fs, io};
 
 // The values of out, from the front of s.
 fn fill(s: &[u8], out: &mut [f64])
@@ -89,11 +92,11 @@ fn size(m: usize, n: usize) -> usize
 }
 
 // The same with the bytes of the system yet to be read into s.
-fn filled(file: i32, m: usize, n: usize, s: &mut [u8]) -> u64
+fn filled(file: &mut impl Read, m: usize, n: usize, s: &mut [u8]) -> u64
     requires { (m ≤ 32) × (n ≤ 32) × (1 + 16 * (m * n) + 16 * m + 8 * n ≤ length s.old) }
     ensures { result ≤ 1 }
 {
-    let got = io::read_full(file, s);
+    let got = input::read_full(file, s);
     if got < s.len() {
         return 1;
     }
@@ -101,11 +104,11 @@ fn filled(file: i32, m: usize, n: usize, s: &mut [u8]) -> u64
 }
 
 // Whether the next system of the file differs, or cannot be read: 1, or 0.
-fn next(file: i32, buffer: &mut [u8]) -> u64
+fn next(file: &mut impl Read, buffer: &mut [u8]) -> u64
     ensures { result ≤ 1 }
 {
     let mut head = [0u8; 2];
-    io::read_full(file, &mut head);
+    input::read_full(file, &mut head);
     let m = words::first(&head);
     let n = words::first(&head[1..]);
     if m > 32 {
@@ -121,7 +124,7 @@ fn next(file: i32, buffer: &mut [u8]) -> u64
     filled(file, m, n, &mut buffer[..k])
 }
 
-fn differing(file: i32, count: u64, buffer: &mut [u8]) -> u64 {
+fn differing(file: &mut impl Read, count: u64, buffer: &mut [u8]) -> u64 {
     let mut sum: u64 = 0;
     let mut i: u64 = 0;
     while i < count {
@@ -131,13 +134,12 @@ fn differing(file: i32, count: u64, buffer: &mut [u8]) -> u64 {
     sum
 }
 
-pub fn replay() {
-    let file = os::open_read(b"least_norm.bin");
+pub fn replay(rt: &(impl Files + Print)) -> io::Result<()> {
+    let mut file = fs::open(rt, "least_norm.bin")?;
     let mut head = [0u8; 4];
-    io::read_full(file, &mut head);
+    input::read_full(&mut file, &mut head);
     let count = words::u32_of(&head);
-    let mut buffer = io::large_buffer();
-    let sum = differing(file, count, &mut buffer);
-    libc::close(file);
-    words::report(b"least-norm systems: ", count, sum);
+    let mut buffer = [0u8; 65536];
+    let sum = differing(&mut file, count, &mut buffer);
+    words::report(rt, "least-norm systems: ", count, sum)
 }

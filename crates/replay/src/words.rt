@@ -1,7 +1,7 @@
 // Numbers from bytes, the lowest byte first. A byte past the end counts as 0.
 ghost use Rattle.std.specs.Prelude.{◌<◌};
 
-use libc::STDOUT_FILENO;
+use std::io;
 
 fn byte(s: &[u8], i: usize) -> u64
     ensures { result < 256 }
@@ -56,10 +56,6 @@ pub fn is_stored(v: f64, s: &[u8]) -> bool {
 }
 
 // A line that says how many were replayed, and how many of them differ.
-pub fn report(name: &[u8], count: u64, differing: u64) {
-    io::write_all(STDOUT_FILENO, name);
-    io::print_decimal(STDOUT_FILENO, count);
-    io::write_all(STDOUT_FILENO, b" replayed, ");
-    io::print_decimal(STDOUT_FILENO, differing);
-    io::write_all(STDOUT_FILENO, b" differing\n");
+pub fn report(rt: &impl Print, name: &str, count: u64, differing: u64) -> io::Result<()> {
+    println!(rt; "{name}{count} replayed, {differing} differing")
 }
