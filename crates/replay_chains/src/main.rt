@@ -5,6 +5,8 @@
 mod replay;
 mod sum;
 
-fn main() {
-    replay::replay();
+use std::io;
+
+fn main(rt: HostRuntime) -> io::Result<()> {
+    replay::replay(&rt)
 }

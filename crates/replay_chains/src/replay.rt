@@ -4,34 +4,22 @@ ghost use Rattle.std.specs.Prelude.{◌≤◌, length};
 use crate::sum;
 use bend_file::chain;
 use bend_file::chain::StepReading;
-use libc::STDOUT_FILENO;
+use std::fmt::InlineText;
+use std::io::Read;
+use std::rt::Files;
+use std::{fs, io};
 
-// The last digit of a number.
-fn digit(n: usize) -> u8 {
-    48 + (n % 10) as u8
+// The name of file i, of three digits.
+fn name_of(i: usize) -> InlineText<9> {
+    InlineText::of(format_args!("{i:03}.chain"))
 }
 
-fn name_of(i: usize) -> [u8; 9] {
-    [
-        digit(i / 100),
-        digit(i / 10),
-        digit(i),
-        b'.',
-        b'c',
-        b'h',
-        b'a',
-        b'i',
-        b'n',
-    ]
-}
-
-fn word(text: &[u8], number: u64) {
-    io::write_all(STDOUT_FILENO, text);
-    io::print_decimal(STDOUT_FILENO, number);
+fn word(rt: &impl Print, text: &str, number: u64) -> io::Result<()> {
+    print!(rt; "{text}{number}")
 }
 
 // Where a step ends, its rows and coordinates, and the check sum of its buffers, the parts that stay 0 among them.
-fn step(file: &[u8], k: usize, end: usize) {
+fn step(rt: &impl Print, file: &[u8], k: usize, end: usize) -> io::Result<()> {
     let mut w = [0.0f64; 1024];
     let mut u_free = [0.0f64; 32];
     let mut lo = [0.0f64; 32];
@@ -52,76 +40,87 @@ fn step(file: &[u8], k: usize, end: usize) {
     );
     let a = sum::over(sum::over(sum::over(0, &w), &u_free), &lo);
     let b = sum::over(sum::over(sum::over(a, &hi), &scale), &nu);
-    told(reading, end, sum::over(b, &motion));
+    told(rt, reading, end, sum::over(b, &motion))
 }
 
-fn told(reading: StepReading, end: usize, sum: u64) {
+fn told(rt: &impl Print, reading: StepReading, end: usize, sum: u64) -> io::Result<()> {
     match reading {
-        StepReading::Refused(number) => word(b"  refused ", number as u64),
-        StepReading::Past => word(b"  no step ", 0),
+        StepReading::Refused(number) => word(rt, "  refused ", number as u64)?,
+        StepReading::Past => word(rt, "  no step ", 0)?,
         StepReading::Problem {
             rows,
             coords,
             tolerance,
         } => {
-            word(b"  end ", end as u64);
-            word(b" rows ", rows as u64);
-            word(b" coords ", coords as u64);
-            word(b" sum ", sum::with(sum, tolerance));
+            word(rt, "  end ", end as u64)?;
+            word(rt, " rows ", rows as u64)?;
+            word(rt, " coords ", coords as u64)?;
+            word(rt, " sum ", sum::with(sum, tolerance))?;
         }
     }
-    io::write_all(STDOUT_FILENO, b"\n");
+    println!(rt)
 }
 
 // The number of a file's refusal, or its steps and the answer for one step more.
-fn file(bytes: &[u8]) {
+fn file(rt: &impl Print, bytes: &[u8]) -> io::Result<()> {
     let found = chain::steps(bytes);
     let number = found.number;
     if number != 0 {
-        word(b" refused ", number as u64);
-        io::write_all(STDOUT_FILENO, b"\n");
-        return;
+        word(rt, " refused ", number as u64)?;
+        return println!(rt);
     }
     let count = found.count;
     let ends = found.ends;
-    word(b" steps ", count as u64);
-    io::write_all(STDOUT_FILENO, b"\n");
+    word(rt, " steps ", count as u64)?;
+    println!(rt)?;
     let mut k = 0;
     while k < 40 {
         if k <= count {
-            step(bytes, k, ends[k]);
+            step(rt, bytes, k, ends[k])?;
         }
         k += 1;
     }
+    Ok(())
 }
 
-// Reads a file as far as the buffer goes, and closes it.
-fn take(file: i32, buffer: &mut [u8]) -> usize
+// Reads a file until the buffer is full, the file ends or a read fails, and closes it.
+fn take<R: Read + Drop>(mut file: R, buffer: &mut [u8]) -> usize
     ensures { result ≤ length buffer.new }
 {
-    let got = io::read_full(file, buffer);
-    libc::close(file);
-    got
+    let mut done = 0;
+    while done < buffer.len() {
+        let got = file.read(&mut buffer[done..]).unwrap_or(0);
+        if got == 0 {
+            break;
+        }
+        done += got;
+    }
+    done
 }
 
 // File i, which is open.
-fn replayed(opened: i32, i: usize, buffer: &mut [u8]) {
+fn replayed<R: Read + Drop>(
+    rt: &impl Print,
+    opened: R,
+    i: usize,
+    buffer: &mut [u8],
+) -> io::Result<()> {
     let got = take(opened, buffer);
-    word(b"", i as u64);
-    file(&buffer[..got]);
+    word(rt, "", i as u64)?;
+    file(rt, &buffer[..got])
 }
 
 // As many as there are, at most a thousand. The longest file is one byte longer than a chained bend file may be.
-pub fn replay() {
+pub fn replay(rt: &(impl Files + Print)) -> io::Result<()> {
     let mut buffer = [0u8; 1048578];
     let mut i = 1;
     while i < 1000 {
         let name = name_of(i);
-        let opened = os::open_read(&name);
-        if opened < 0 {
-            break;
+        match fs::open(rt, name.as_str()) {
+            Ok(opened) => replayed(rt, opened, i, &mut buffer)?,
+            Err(_) => break,
         }
-        replayed(opened, i, &mut buffer);
         i += 1;
     }
+    Ok(())
 }
