@@ -9,7 +9,7 @@ use Rattle.bendsolve.specs.declared.input.Input.TheVariants.{Whole, TooLong, Fai
 pub within_more : (r : Input) (a b : ℕ) → a ≤ b → Within r a → Within r b
 within_more (Whole n) a b h k = omega (arith, h, k)
 within_more TooLong a b h k = omega arith
-within_more Failed a b h k = omega arith
+within_more (Failed _) a b h k = omega arith
 
 pub whole-within : (r : Input) (n most : ℕ) → r ≡ Whole n → Within r most → n ≤ most
 whole-within r n most e h = rw e at h

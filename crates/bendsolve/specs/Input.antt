@@ -7,4 +7,4 @@ use Rattle.bendsolve.specs.declared.input.Input.TheVariants.{Whole, TooLong, Fai
 abbrev pub Within : Input → ℕ → Type 0
 Within (Whole n) most = n ≤ most
 Within TooLong most = 0 ≤ most
-Within Failed most = 0 ≤ most
+Within (Failed _) most = 0 ≤ most

@@ -6,32 +6,48 @@
 mod input;
 
 use input::Input;
-use libc::{STDIN_FILENO, STDOUT_FILENO};
+use std::fmt::InlineText;
+use std::io;
 
-fn write(answer: &[u8]) {
-    if !io::write_all(STDOUT_FILENO, answer) {
-        os::fail(b"bendsolve: the answer is not whole: standard output");
+// Writes a line to standard error: what failed, a colon and the error's text, without the number that std puts after
+// it. Where standard error takes no line either, nothing is left to say it to.
+fn fail(rt: &impl Eprint, what: &str, error: io::Error) {
+    let text = InlineText::<256>::of(error);
+    let (words, _) = text
+        .as_str()
+        .split_once(" (os error ")
+        .unwrap_or((text.as_str(), ""));
+    let _ = eprintln!(rt; "{what}: {words}");
+}
+
+fn write(rt: &(impl Print + Eprint), answer: &[u8]) {
+    if let Err(error) = rt.write_all(answer) {
+        fail(
+            rt,
+            "bendsolve: the answer is not whole: standard output",
+            error,
+        );
     }
 }
 
-fn solve(file: &[u8]) {
+fn solve(rt: &(impl Print + Eprint), file: &[u8]) {
     let mut out = [0u8; 2048];
     let count = answer::of_file(file, &mut out);
-    write(&out[..count]);
+    write(rt, &out[..count]);
 }
 
-fn refuse(number: u32) {
+fn refuse(rt: &(impl Print + Eprint), number: u32) {
     let mut out = [0u8; 2048];
     let count = printer::refused(number, &mut out);
-    write(&out[..count]);
+    write(rt, &out[..count]);
 }
 
-fn main() {
+fn main(rt: HostRuntime) {
     let mut buffer = [0u8; 65536];
-    let read = input::read(STDIN_FILENO, &mut buffer);
+    let read = input::read(&mut rt.stdin(), &mut buffer);
     match read {
-        Input::Whole(count) => solve(&buffer[..count]),
-        Input::TooLong => refuse(1),
-        Input::Failed => os::fail(b"bendsolve: standard input"),
+        Input::Whole(count) => solve(&rt, &buffer[..count]),
+        Input::TooLong => refuse(&rt, 1),
+        Input::Failed(error) => fail(&rt, "bendsolve: standard input", error),
     }
 }
