@@ -4,3 +4,6 @@
 
 mod chain;
 mod chain_writer;
+
+pub use chain::{piskorlu_chain, piskorlu_chain_step};
+pub use chain_writer::piskorlu_chain_write;

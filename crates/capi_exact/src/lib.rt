@@ -4,3 +4,9 @@
 
 mod exact;
 mod exact_nearest;
+
+pub use exact::{
+    piskorlu_exact_free, piskorlu_exact_join, piskorlu_exact_product, piskorlu_exact_row,
+    piskorlu_exact_sign,
+};
+pub use exact_nearest::piskorlu_exact_nearest;

@@ -14,7 +14,7 @@ pub leave-requires : goal.leave-requires
 leave-requires c = (both-room _ _ _ _ (sym c.both_taken.ensures ∙ c.if-both_taken.true)).0
 
 pub returns-then-both_taken : goal.returns-then-both_taken
-returns-then-both_taken c =    join-left _ _ _ _ _ _ _
+returns-then-both_taken c = join-left _ _ _ _ _ _ _
     (sym c.both_taken.ensures ∙ c.if-both_taken.true)
     c.leave.ensures _ _ _ _
     c.state-own.ensures

@@ -8,7 +8,7 @@ pub leave-requires : goal.leave-requires
 leave-requires c = room _ _ (sym c.taken.ensures ∙ c.if-taken.true)
 
 pub returns-then-taken : goal.returns-then-taken
-returns-then-taken c =    row-left _ _ _ _ _ _ _
+returns-then-taken c = row-left _ _ _ _ _ _ _
     (sym c.taken.ensures ∙ c.if-taken.true)
     c.leave.ensures _ _ _
     c.row-added.ensures

@@ -11,7 +11,7 @@ pub bounds-sign-0 : goal.bounds-sign-0
 bounds-sign-0 c = (sign-room _ _ (sym c.sign_taken.ensures ∙ c.if-sign_taken.true)).1
 
 pub returns-then-sign_taken : goal.returns-then-sign_taken
-returns-then-sign_taken c =    sign-long _ _ _ _
+returns-then-sign_taken c = sign-long _ _ _ _
     (sym c.sign_taken.ensures ∙ c.if-sign_taken.true)
     c.first-own.ensures c.sign.ensures
 

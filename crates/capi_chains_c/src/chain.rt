@@ -1,0 +1,70 @@
+// Chained bend files, for C and Rust.
+ghost use Rattle.std.specs.Prelude.{◌≡◌, ◌≤◌, length, set};
+ghost use Rattle.loops.specs.Loops as loops;
+ghost use Rattle.capi_chains.specs.Chains as def;
+
+// How many steps a chained bend file has, in steps[0], and where the trailer of each ends, newest first, in the first
+// 40 places of ends, with 0 past them. 0, or document 02's number, and nothing is written; 10 at once where steps has
+// no place or ends less than 40.
+#[unsafe(no_mangle)]
+pub extern "C" fn piskorlu_chain(file: &[u8], steps: &mut [usize], ends: &mut [usize]) -> u32
+    ensures { def.Told (def.told file.now steps.old ends.old)
+        result steps.old steps.new ends.old ends.new }
+{
+    capi_chains::piskorlu_chain(file, steps, ends)
+}
+
+// A step of a chained bend file, counted from the newest, which is 0: its rows and coordinates in shape, its tolerance
+// in tolerance[0], its other values at the front of the buffers. 0, or document 02's number, or NO_STEP, and nothing
+// is written; 10 at once where a slice is shorter than the largest step needs.
+#[unsafe(no_mangle)]
+pub extern "C" fn piskorlu_chain_step(
+    file: &[u8],
+    step: usize,
+    w: &mut [f64],
+    u_free: &mut [f64],
+    lo: &mut [f64],
+    hi: &mut [f64],
+    scale: &mut [f64],
+    nu: &mut [f64],
+    motion: &mut [f64],
+    shape: &mut [usize],
+    tolerance: &mut [f64],
+) -> u32
+    ensures { def.Given
+        (def.given file.now step
+        (record {
+          w = w.entry.now;
+          u_free = u_free.old;
+          lo = lo.old;
+          hi = hi.old;
+          scale = scale.old;
+          nu = nu.old;
+          motion = motion.old;
+        })
+        shape.old tolerance.old)
+        result
+        (record {
+          w = w.entry.now;
+          u_free = u_free.old;
+          lo = lo.old;
+          hi = hi.old;
+          scale = scale.old;
+          nu = nu.old;
+          motion = motion.old;
+        })
+        (record {
+          w = w.exit.now;
+          u_free = u_free.new;
+          lo = lo.new;
+          hi = hi.new;
+          scale = scale.new;
+          nu = nu.new;
+          motion = motion.new;
+        })
+        shape.old shape.new tolerance.old tolerance.new }
+{
+    capi_chains::piskorlu_chain_step(
+        file, step, w, u_free, lo, hi, scale, nu, motion, shape, tolerance,
+    )
+}
