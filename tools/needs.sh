@@ -8,7 +8,7 @@ set -u
 root=$(cd "$(dirname "$0")/.." && pwd -P)
 
 # The kit that the proofs were last made with.
-KIT='rattle-kit-5b-plain logic 097e4c862dff5811'
+KIT='rattle-kit-13f logic dac8208d650f15bf'
 
 missing=0
 found() { printf 'found    %s\n' "$*"; }

@@ -13,30 +13,42 @@ tools/needs.sh kit python
 
 log=target/solve-example.log
 mkdir -p target
-# the program and its dependencies in this repository
-left=$(awk -F'[: ]+' '!/^#/ { is[$1] = 1; if ($1 == "bendsolve") for (i = 2; i <= NF; i++) needs[$i] = 1 }
-    END { n = 1; for (c in needs) n += c in is; print n }' crates.txt)
 
-# rt's line for each crate, without the prover's own, and the crates left
+# The crates of this repository that one depends on.
+below() {
+    awk -F'[: ]+' -v crate="$1" '!/^#/ { is[$1] = 1; if ($1 == crate) for (i = 2; i <= NF; i++) needs[$i] = 1 }
+        END { for (c in needs) if (c in is) print c }' crates.txt
+}
+
+# A line for each crate that rt proves, without the prover's own, and the crates left. rt says nothing of a crate that has not changed, but
+# those that a proved one depends on are proved too.
 told() {
+    left=$(echo bendsolve $(below bendsolve))
+    began=$(date +%s)
+    crate=
     while IFS= read -r line; do
         printf '%s\n' "$line" >>"$log"
         case $line in
-            "rt: "*" proved ("*)
-                left=$((left - 1))
-                case $line in
-                    *"unchanged since"*) ;;
-                    *) echo "${line#rt: }, $left left" ;;
-                esac
+            "crate "*": modules "*)
+                crate=${line#crate }
+                crate=${crate%%:*}
+                ;;
+            "logic=proved "*)
+                [ -n "$crate" ] || continue
+                now=$(date +%s)
+                for proved in "$crate" $(below "$crate"); do
+                    left=$(for c in $left; do [ "$c" = "$proved" ] || printf '%s ' "$c"; done)
+                done
+                echo "$crate proved ($((now - began)) s), $(set -- $left; echo $#) left"
+                began=$now
+                crate=
                 ;;
         esac
     done
 }
 
-# rt does not build a program again that it has on record as proved
-[ -e target/bin/bendsolve ] || rm -f target/stamp/bendsolve
 : >"$log"
-if ! { rt check bendsolve 2>&1 || echo "solve-example: not proved"; } | told || grep -q "^solve-example: not proved" "$log"; then
+if ! { tools/program.sh 2>&1 || echo "solve-example: not proved"; } | told || grep -q "^solve-example: not proved" "$log"; then
     tail -n 20 "$log" >&2
     echo "solve-example: bendsolve was not proved and built; $log has all that was said" >&2
     exit 1

@@ -3,6 +3,7 @@
 
 import os
 import re
+import shutil
 import stat
 import struct
 import subprocess
@@ -304,34 +305,37 @@ class Solve(Folder):
         os.chmod(path, 0o755)
         return path
 
+    def kit(self, script):
+        """A repository in which the program is to be made, and an rt that does what it is told; what of solver.py is to be changed for it."""
+        for folder in ("tools", os.path.join("crates", "bendsolve", "out")):
+            os.makedirs(self.path(folder))
+        shutil.copy(solver.MAKE, self.path("tools"))
+        self.put(os.path.join("crates", "bendsolve", "stdin"), EXAMPLE_BYTES)
+        os.chmod(self.put("rt", script.encode()), 0o755)
+        return {"PROGRAM": self.path(os.path.join("target", "bin", "bendsolve")), "MAKE": self.path(os.path.join("tools", "program.sh")), "ROOT": self.folder}
+
     def test_made_where_missing(self):
-        """rt check bendsolve is run where target/bin/bendsolve is not there; without rt it is said what is missing. A stamp would keep rt from
-        making the program again."""
-        file, missing = self.put("a.bend", EXAMPLE_BYTES), self.path("made")
+        """tools/program.sh is run where target/bin/bendsolve is not there; without rt it is said what is missing."""
+        file = self.put("a.bend", EXAMPLE_BYTES)
         made = self.says(EXAMPLE_ANSWER)
-        stamp = self.put("stamp", b"")
-        self.put("rt", FAKE.format(f'[ "$*" = "check bendsolve" ] && [ ! -e "{stamp}" ] && cp "{made}" "{missing}"; echo "rt: made"; echo noise').encode())
-        ours = {"PROGRAM": missing, "STAMP": stamp, "ROOT": self.folder}
+        ours = self.kit(FAKE.format(f'[ "$*" = run ] && cp "{made}" out/bendsolve; echo "rt: made"; echo noise'))
         with mock.patch.multiple(solver, **ours):
             with mock.patch.dict(os.environ, {"PATH": os.path.join(self.folder, "nowhere")}):
-                self.assertIn("made is missing, and so is rt, which makes it; expected the Rattle kit's rt on the PATH, or --solver", run("solve", file)[2])
+                self.assertIn("bendsolve is missing, and so is rt, which makes it; expected the Rattle kit's rt on the PATH, or --solver", run("solve", file)[2])
             with mock.patch.dict(os.environ, {"PATH": self.folder + ":" + os.environ["PATH"]}):
-                os.chmod(self.path("rt"), 0o755)
                 status, out, err = run("solve", file)
         self.assertEqual(status, 0, err)
-        self.assertIn("rt check bendsolve proves and builds it", err)
+        self.assertIn("tools/program.sh proves and builds it", err)
         self.assertTrue(err.endswith("\nrt: made\n"))
         self.assertIn(b"Inside: closed, pushes", out)
 
     def test_a_kit_that_fails(self):
         file = self.put("a.bend", EXAMPLE_BYTES)
-        path = self.put("rt", b"#!/bin/sh\necho 'rt: loops proved (1 s)'\necho why it failed\nexit 7\n")
-        os.chmod(path, 0o755)
-        ours = {"PATH": self.folder + ":" + os.environ["PATH"]}
-        with mock.patch.multiple(solver, PROGRAM=self.path("made"), STAMP=self.path("stamp")), mock.patch.dict(os.environ, ours):
+        ours = self.kit("#!/bin/sh\necho 'rt: loops proved (1 s)'\necho why it failed\nexit 7\n")
+        with mock.patch.multiple(solver, **ours), mock.patch.dict(os.environ, {"PATH": self.folder + ":" + os.environ["PATH"]}):
             err = run("solve", file)[2]
         self.assertIn("why it failed\n", err)
-        self.assertIn("rt check bendsolve ended with 7 and made no", err)
+        self.assertIn("tools/program.sh ended with 7 and made no", err)
 
 
 if __name__ == "__main__":

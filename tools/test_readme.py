@@ -3,7 +3,7 @@
 
     python3 -m unittest tools/test_readme.py
 
-Needs target/bin/bendsolve, which `rt check bendsolve` makes; where it is missing, the tests that need it fail at once and say so. None of
+Needs target/bin/bendsolve, which `tools/program.sh` makes; where it is missing, the tests that need it fail at once and say so. None of
 them is the place for a proof, which takes minutes.
 """
 
@@ -20,7 +20,7 @@ ROOT = os.path.dirname(os.path.dirname(os.path.abspath(__file__)))
 EXAMPLE = os.path.join(ROOT, "tools", "solve-example.sh")
 NEEDS = os.path.join(ROOT, "tools", "needs.sh")
 PROGRAM = os.path.join(ROOT, "target", "bin", "bendsolve")
-BASIC = "awk cat cut dirname git grep mkdir printf rm sed sh sort tail uname".split()
+BASIC = "awk cat cp cut date dirname git grep mkdir mv printf rm sed sh sort tail uname".split()
 
 
 def read(*path):
@@ -32,7 +32,7 @@ def files():
     """What stands in the repository, apart from what is never committed."""
     found = set()
     for folder, folders, names in os.walk(ROOT):
-        folders[:] = [f for f in folders if f not in ("target", ".git", "__pycache__")]
+        folders[:] = [f for f in folders if f not in ("target", "out", ".git", "__pycache__")]
         found.update(os.path.join(folder, name) for name in names)
     return found
 
@@ -60,7 +60,7 @@ class Commands(unittest.TestCase):
 
     def needs_program(self):
         if not os.path.exists(PROGRAM):
-            self.fail("target/bin/bendsolve is not there: run `rt check bendsolve` first, which proves and builds it in some minutes")
+            self.fail("target/bin/bendsolve is not there: run `tools/program.sh` first, which proves and builds it in some minutes")
 
     def run_proved(self, command):
         """A command that has nothing left to prove. One that begins a proof all the same, since something has changed, is ended with all
@@ -70,7 +70,7 @@ class Commands(unittest.TestCase):
                 out, err = process.communicate(timeout=120)
             except subprocess.TimeoutExpired:
                 os.killpg(process.pid, signal.SIGKILL)
-                self.fail("not done in 120 s: something has changed since it was proved; run `rt check bendsolve` first")
+                self.fail("not done in 120 s: something has changed since it was proved; run `tools/program.sh` first")
         return process.returncode, out, err
 
     def test_the_example(self):
@@ -83,11 +83,14 @@ class Commands(unittest.TestCase):
 
     def test_a_line_a_crate(self):
         self.with_python()
-        self.program("rt", "echo 'rt: loops proved (1 s)'\necho noise\necho 'rt: floats proved (unchanged since it was last proved)'\necho 'rt: least_norm proved (5 s)'\n")
+        proved = "crate {0}: modules loaded=0 checked=5\nlogic=proved functions=2 sum=0"
+        lines = [proved.format("loops"), "noise", "rt: chose --jobs 2 for least_norm", proved.format("least_norm")]
+        self.program("rt", f"cat <<'END'\n{chr(10).join(lines)}\nEND\nexit 1\n")
         said = self.run_with(EXAMPLE).stdout
-        self.assertRegex(said, r"(?m)^loops proved \(1 s\), (\d+) left$")
+        self.assertRegex(said, r"(?m)^loops proved \(\d+ s\), (\d+) left$")
         after = re.findall(r"(?m)^\w+ proved \(\d+ s\), (\d+) left$", said)
-        crates = [c for c in re.search(r"(?m)^bendsolve:(.*)$", read("crates.txt")).group(1).split() if c not in ("io", "os", "libc")]
+        ours = re.findall(r"(?m)^(\w+)", read("crates.txt"))
+        crates = [c for c in re.search(r"(?m)^bendsolve:(.*)$", read("crates.txt")).group(1).split() if c in ours]
         self.assertEqual(after, [str(len(crates)), str(len(crates) - 2)])
         self.assertNotIn("noise", said)
 

@@ -11,7 +11,7 @@ from .problem import BadInput
 
 ROOT = os.path.dirname(os.path.dirname(os.path.dirname(os.path.abspath(__file__))))
 PROGRAM = os.path.join(ROOT, "target", "bin", "bendsolve")
-STAMP = os.path.join(ROOT, "target", "stamp", "bendsolve")
+MAKE = os.path.join(ROOT, "tools", "program.sh")
 # A solve takes milliseconds at most.
 SECONDS = 60
 # How much of what a failing rt said is shown.
@@ -19,7 +19,7 @@ LINES_SHOWN = 20
 
 
 def found(program=None):
-    """The program's path. Where target/bin/bendsolve is missing the kit's rt proves and builds it."""
+    """The program's path. Where target/bin/bendsolve is missing tools/program.sh has the kit's rt prove and build it."""
     if program:
         path = shutil.which(program)
         if not path:
@@ -33,18 +33,15 @@ def found(program=None):
 def _make():
     if not shutil.which("rt"):
         raise BadInput(f"{PROGRAM} is missing, and so is rt, which makes it; expected the Rattle kit's rt on the PATH, or --solver PROGRAM")
-    # rt takes a crate with a stamp for done, though its program was removed since.
-    if os.path.isfile(STAMP):
-        os.unlink(STAMP)
-    print("bend.py: target/bin/bendsolve is missing; rt check bendsolve proves and builds it, which takes some minutes", file=sys.stderr, flush=True)
-    status, said = _quietly(["rt", "check", "bendsolve"])
+    print("bend.py: target/bin/bendsolve is missing; tools/program.sh proves and builds it, which takes some minutes", file=sys.stderr, flush=True)
+    status, said = _quietly([MAKE])
     if status or not os.path.exists(PROGRAM):
         print("".join(said[-LINES_SHOWN:]), end="", file=sys.stderr)
-        raise BadInput(f"rt check bendsolve ended with {status} and made no {PROGRAM}; the end of what it said is above")
+        raise BadInput(f"tools/program.sh ended with {status} and made no {PROGRAM}; the end of what it said is above")
 
 
 def _quietly(command):
-    """Runs a command of the kit: its own lines, one a crate, go to standard error, and the prover's are kept."""
+    """Runs a command that runs the kit: rt's own lines, one a crate, go to standard error, and the prover's are kept."""
     said = []
     streams = {"stdin": subprocess.DEVNULL, "stdout": subprocess.PIPE, "stderr": subprocess.STDOUT}
     with subprocess.Popen(command, cwd=ROOT, text=True, errors="replace", **streams) as child:
