@@ -1,52 +1,38 @@
 #!/usr/bin/env python3
-"""Tries the must-fail edits of most crates over an incremental check, after `rt check` or `rt ci` has proved every crate.
+"""Tries the must-fail edits: wrong programs and wrong definitions, in crates/NAME/must-fail/LABEL.edit, that the prover must refuse.
 
     python3 tools/must_fail.py [NAME..]
 
-`rt ci` proves a crate from nothing for each edit in crates/NAME/must-fail/. Most crates take from five seconds to two minutes for that, and
-the edit touches little of it, so their edits are one folder deeper, in crates/NAME/must-fail/incremental/, and are tried here: the modules that
-`rt check` has checked and left in the crate's rlib are laid into an incremental folder under target/, and the crate as it stands must be proved
-over them; then the edits are applied to a copy of the crate, and of the check only what they reach is done again, in seconds. Before each check
-the folder is laid out anew, so that nothing an earlier edit left can matter. A module that is missing, or that the prover does not take from
-there, is checked like any other: that costs time alone.
+`rt must-fail` tries them, each alone: the edit is made in a copy of the crate, and of its proofs only what the edit reaches is done again,
+over what a check of the crate as it stands proved. What it tried once, or `rt ci` did, is kept, and is tried again only where something
+changed that it stands on. Here an edit that cannot be applied is told before anything is tried, and each verdict names the function whose
+body the edit changes.
 
-Edits that change the body of one function alone are tried together, one of each function, since a body is private to its function's proof:
-the others cite its contract. Each is judged by what the prover says of its own function, and what is not clearly refused is tried again
-alone. All other edits are tried alone from the start.
-
-A refusal counts only if a fact failed. Where the prover says no more than that the proof file does not fit the code any longer, or that a
-name is unknown, the edit shows nothing and fails here.
-
-RT_JOBS crates (2 where it is not set) are tried at a time. The last line is 'N passed, M failed'. The prover's words on an edit are in
-target/must-fail/NAME/LABEL/.log.
+A refusal counts only if a fact failed. Where rt says that an edit is refused only because a proof file names what it took away, the edit
+shows nothing and fails here, as do those that are not refused, that are bad, that were not tried, and that rt says nothing of. The last line
+is 'N passed, M failed'.
 """
 import collections
-import concurrent.futures
 import glob
 import os
 import re
-import shutil
 import subprocess
 import sys
-import time
 
 ROOT = os.path.dirname(os.path.dirname(os.path.abspath(__file__)))
-LOGS = os.path.join(ROOT, "target", "must-fail")
-COPIES = os.path.join(ROOT, "target", "incremental")
 
-# A crate that needs no other and is checked in a second.
-SMALL = "loops"
+# What rt says of an edit, after its name, where the prover refuses it; and where that is for a name alone, and for no fact.
+REFUSED = "refused, as it must be"
+SHOWS_NOTHING = re.compile(re.escape(REFUSED) + r" \(only because a proof file names what the edit took away")
 
-# What the prover says where an edit unsettles the proof's text and no fact of it.
-SHOWS_NOTHING = re.compile(
-    r"that can be named from here|is not in scope|unknown name|expected .* found|no item|cannot find|parse|does not unfold here"
-    r"|InvT|MeasureT"
-)
+# rt's line on an edit, and its line on a file that is no edit, or lies where none is read.
+VERDICT = re.compile(r"rt: must-fail (\w+)/([\w.-]+)\.edit: (.*)")
+MISPLACED = re.compile(r"rt: (.*must-fail/.*): (BAD EDIT: .*)")
 
 # The line that begins a function in the layout of `rt fmt`.
 FUNCTION = re.compile(r'( *)(?:pub )?(?:extern "C" )?fn (\w+)')
 
-# A function as the prover names it, boxed::run::turn, and its proof file below the crate, proofs/run/turn/Proof.antt.
+# A function as the prover names it, boxed::run::turn, and the file below the crate that a whole proof by hand would be in.
 Function = collections.namedtuple("Function", "path proof")
 
 
@@ -57,11 +43,6 @@ class BadEdit(Exception):
 def text_of(path):
     with open(path, encoding="utf-8") as f:
         return f.read()
-
-
-def write(path, text):
-    with open(path, "w", encoding="utf-8") as f:
-        f.write(text)
 
 
 def label_of(edit):
@@ -146,215 +127,78 @@ def function_of(crate, edit):
     return found.pop() if len(found) == 1 else None
 
 
-def functions_of(crate, edits):
-    return {edit: function_of(crate, edit) for edit in edits}
+def edits_of(name):
+    return sorted(glob.glob(os.path.join(ROOT, "crates", name, "must-fail", "*.edit")))
 
 
-def groups_of(functions):
-    """Edit -> its function, or None: the edits in as few groups as hold no two of one function, without those of no function."""
-    groups, before = [], collections.Counter()
-    for edit, function in functions.items():
-        if function:
-            if before[function] == len(groups):
-                groups.append([])
-            groups[before[function]].append(edit)
-            before[function] += 1
-    # one edit by itself gains nothing
-    return [group for group in groups if len(group) > 1]
+def wrong_of(verdict):
+    """None where rt says that the prover refuses the edit because a fact failed, else what is wrong."""
+    if verdict is None:
+        return "NOT TRIED: rt said nothing of it"
+    if SHOWS_NOTHING.match(verdict):
+        return "SHOWS NOTHING: " + verdict[len(REFUSED) + 1 :]
+    return None if verdict.startswith(REFUSED) else verdict
 
 
-def copy_of_the_repository(name):
-    """A copy in which `rt dev NAME` finds every other crate proved, as it is here."""
-    copy = os.path.join(COPIES, name)
-    shutil.rmtree(copy, ignore_errors=True)
-    os.makedirs(os.path.join(copy, "target"))
-    shutil.copy(os.path.join(ROOT, "crates.txt"), copy)
-    shutil.copytree(os.path.join(ROOT, "crates"), os.path.join(copy, "crates"))
-    shutil.copytree(os.path.join(ROOT, "target", "stamp"), os.path.join(copy, "target", "stamp"))
-    os.symlink(os.path.join(ROOT, "target", "rlib"), os.path.join(copy, "target", "rlib"))
-    return copy
-
-
-def check(copy, name):
-    """The incremental check: exit status and what it says."""
-    run = subprocess.run(["rt", "dev", name], cwd=copy, stdout=subprocess.PIPE, stderr=subprocess.STDOUT)
-    return run.returncode, run.stdout.decode("utf-8", "replace")
-
-
-def kept_name():
-    """The name of the folder, below an incremental folder, in which this build of the prover keeps modules: seen in a check of a small crate."""
-    copy = copy_of_the_repository(SMALL)
-    status, said = check(copy, SMALL)
-    names = os.listdir(os.path.join(copy, "target", "inc", SMALL)) if status == 0 else []
-    shutil.rmtree(copy)
-    if len(names) != 1:
-        sys.exit(f"must_fail.py: no check of {SMALL} over an incremental folder (exit {status}): {said[:300]}")
-    return names[0]
-
-
-def lay_out(copy, name, kept):
-    """Makes the incremental folder anew, with the modules of the proved crate alone; how many there are. A program has no rlib, and so none."""
-    shutil.rmtree(os.path.join(copy, "target", "inc", name), ignore_errors=True)
-    folder = os.path.join(copy, "target", "inc", name, kept)
-    os.makedirs(folder)
-    modules = glob.glob(os.path.join(ROOT, "target", "rlib", name + ".rlib", "toolchain", "checked", "*.oantt"))
-    for module in modules:
-        shutil.copy(module, folder)
-    return len(modules)
-
-
-def check_with(copy, name, kept, edits):
-    """The check of the crate with all of the edits, which are undone after it: exit status and what it says."""
-    crate = os.path.join(copy, "crates", name)
-    texts = edited(crate, edits)
-    before = {file: text_of(os.path.join(crate, file)) for file in texts}
-    lay_out(copy, name, kept)
-    for file, text in texts.items():
-        write(os.path.join(crate, file), text)
-    status, said = check(copy, name)
-    for file, text in before.items():
-        write(os.path.join(crate, file), text)
-    return status, said
-
-
-def write_log(name, edit, text):
-    log = os.path.join(LOGS, name, label_of(edit))
-    os.makedirs(log, exist_ok=True)
-    write(os.path.join(log, ".log"), text)
-
-
-def errors(said):
-    return [line for line in said.splitlines() if ": error" in line or line.startswith("error")]
-
-
-def first_error(said):
-    return next(iter(errors(said)), "")
-
-
-def errors_of_their_own(said):
-    """The errors but for those that only say that something cited has failed."""
-    return [line for line in errors(said) if "was not admitted" not in line]
-
-
-def reached_the_prover(status, said):
-    return status == 1 and bool(re.search(r"^logic=not-proved", said, flags=re.M))
-
-
-def own_errors(crate, function, said):
-    """Those of them that are in the function's own proof file."""
-    proof = os.path.realpath(os.path.join(crate, function.proof))
-    return [line for line in errors_of_their_own(said) if line.startswith(proof + ":")]
-
-
-def refused_together(crate, functions, status, said):
-    """Those of the functions, edited together, that are clearly refused for what their own body says."""
-    if not reached_the_prover(status, said):
-        return set()
-    own = {function: own_errors(crate, function, said) for function in functions}
-    # a body is private to its function's proof: an error elsewhere shows that here it was not
-    if sum(map(len, own.values())) != len(errors_of_their_own(said)):
-        return set()
-    return {function for function in functions if clearly_refused(crate, function, own[function], said)}
-
-
-def verdict_on(function, said):
-    """The line on a function that is not proved, or nothing."""
-    line = re.search(rf"^fn {re.escape(function.path)}: (not proved|no proof).*$", said, flags=re.M)
-    return line.group() if line else ""
-
-
-def clearly_refused(crate, function, own, said):
-    verdict = verdict_on(function, said)
-    if os.path.exists(os.path.join(crate, function.proof)):
-        # where a callee fails too, an error in the declaration that joins the parts of the proof is not reached, and `own` may be empty
-        return bool(verdict and own) and not SHOWS_NOTHING.search(own[0])
-    # there is no file that an error could be in, so the line must say which fact failed, and blame no other function
-    return "does not close" in verdict and "it calls" not in verdict
-
-
-def try_alone(copy, name, kept, edit):
-    """None where the prover refuses the edit because a fact failed, else what is wrong."""
+def unread(crate, edit):
+    """Why the edit cannot be applied, or None."""
     try:
-        status, said = check_with(copy, name, kept, [edit])
+        edited(crate, [edit])
     except BadEdit as e:
         return f"BAD EDIT: {e}"
-    write_log(name, edit, said)
-    if status == 0:
-        return "NOT REFUSED: the crate is still proved with this edit"
-    if not reached_the_prover(status, said):
-        return f"BAD EDIT: it did not reach the prover (exit {status}): {said[:300]}"
-    if SHOWS_NOTHING.search(first_error(said)):
-        return f"SHOWS NOTHING: {first_error(said)[:300]}"
     return None
 
 
-def try_together(copy, name, kept, group, functions):
-    """Those edits of a group that are clearly refused. The others, whatever is wrong with them, are to be tried alone."""
-    crate = os.path.join(copy, "crates", name)
-    try:
-        status, said = check_with(copy, name, kept, group)
-    except BadEdit:
-        return []
-    refused = refused_together(crate, {functions[edit] for edit in group}, status, said)
-    for edit in group:
-        own = "\n".join([*own_errors(crate, functions[edit], said), verdict_on(functions[edit], said)])
-        write_log(name, edit, f"{own}\n\nThat is of this edit. It was tried together: {' '.join(map(label_of, group))}.\n\n{said}")
-    return [edit for edit in group if functions[edit] in refused]
+def line_of(name, edit, wrong, verdict):
+    function = function_of(os.path.join(ROOT, "crates", name), edit)
+    of = f" (the body of {function.path})" if function else ""
+    return f"must-fail {name}/{label_of(edit)}{of}: {wrong or verdict}"
 
 
-def try_crate(name, kept):
-    """(passed, failed, lines to print) of the edits of a crate."""
-    copy, edits = copy_of_the_repository(name), edits_of(name)
-    began = time.monotonic()
-    modules = lay_out(copy, name, kept)
-    status, said = check(copy, name)
-    if status != 0:
-        return 0, 1, [f"{name}: not proved before any edit (exit {status}): {first_error(said)[:300]}"]
-    lines = [f"{name}: proved before its edits, over {modules} modules of its rlib ({time.monotonic() - began:.0f} s)"]
-    functions, refused = functions_of(os.path.join(copy, "crates", name), edits), {}
-    for group in groups_of(functions):
-        began = time.monotonic()
-        together = try_together(copy, name, kept, group, functions)
-        refused.update(dict.fromkeys(together, f"one of {len(group)} in {time.monotonic() - began:.0f} s"))
-    passed = 0
-    for edit in edits:
-        began, wrong = time.monotonic(), None
-        if edit not in refused:
-            wrong = try_alone(copy, name, kept, edit)
-        took = refused.get(edit) or f"{time.monotonic() - began:.0f} s"
-        lines.append(f"must-fail {name}/{label_of(edit)}: {wrong or 'refused, as it must be'} ({took})")
-        passed += not wrong
-    shutil.rmtree(copy)
-    return passed, len(edits) - passed, lines
+def judged(names, status, said):
+    """(passed, failed, lines to print) of what rt said of the edits of these crates."""
+    verdicts, lines, passed, failed = {}, [], 0, 0
+    for line in said.splitlines():
+        if found := VERDICT.match(line):
+            verdicts[found.group(1), found.group(2)] = found.group(3)
+        elif found := MISPLACED.match(line):
+            lines.append(f"{os.path.relpath(found.group(1), ROOT)}: {found.group(2)}")
+            failed += 1
+    for name in names:
+        for edit in edits_of(name):
+            verdict = verdicts.get((name, label_of(edit)))
+            wrong = unread(os.path.join(ROOT, "crates", name), edit) or wrong_of(verdict)
+            lines.append(line_of(name, edit, wrong, verdict))
+            passed, failed = passed + (not wrong), failed + bool(wrong)
+    if status and not failed:
+        lines.append(f"must_fail.py: rt must-fail ended with {status}: {said[-300:]}")
+        failed = 1
+    return passed, failed, lines
 
 
-def edits_of(name):
-    return sorted(glob.glob(os.path.join(ROOT, "crates", name, "must-fail", "incremental", "*.edit")))
-
-
-def work(name):
-    """About how many seconds a crate takes here, by what its proof took last: the longest go first, so that the jobs end together."""
-    log = os.path.join(ROOT, "target", "log", name + ".out")
-    took = re.search(r"proved \((\d+) s\)", text_of(log)) if os.path.exists(log) else None
-    edits = edits_of(name)
-    groups = groups_of(functions_of(os.path.join(ROOT, "crates", name), edits))
-    checks = 1 + len(groups) + len(edits) - sum(map(len, groups))
-    return checks * (2 + int(took.group(1) if took else 1) / 6)
+def rt_must_fail(names):
+    """What rt must-fail says of these crates, as it says it, and its exit status."""
+    said = []
+    with subprocess.Popen(["rt", "must-fail", *names], cwd=ROOT, stdout=subprocess.PIPE, stderr=subprocess.STDOUT, text=True, errors="replace") as child:
+        for line in child.stdout:
+            said.append(line)
+            if not VERDICT.match(line):
+                print(line, end="", flush=True)
+    return child.returncode, "".join(said)
 
 
 def main():
-    there = sorted({path.split(os.sep)[-4] for path in glob.glob(os.path.join(ROOT, "crates", "*", "must-fail", "incremental", "*.edit"))})
+    there = sorted({path.split(os.sep)[-3] for path in glob.glob(os.path.join(ROOT, "crates", "*", "must-fail", "*"))})
     names = sys.argv[1:] or there
     for name in names:
         if name not in there:
-            sys.exit(f"must_fail.py: crates/{name}/must-fail/incremental/ has no edit")
-    names.sort(key=work, reverse=True)
-    kept = kept_name()
-    passed = failed = 0
-    with concurrent.futures.ThreadPoolExecutor(int(os.environ.get("RT_JOBS", "2"))) as pool:
-        for good, bad, lines in pool.map(lambda name: try_crate(name, kept), names):
-            passed, failed = passed + good, failed + bad
-            print("\n".join(lines), flush=True)
+            sys.exit(f"must_fail.py: crates/{name}/must-fail/ has no edit")
+    bad = [(name, edit, wrong) for name in names for edit in edits_of(name) if (wrong := unread(os.path.join(ROOT, "crates", name), edit))]
+    for name, edit, wrong in bad:
+        print(line_of(name, edit, wrong, None), flush=True)
+    status, said = rt_must_fail(names)
+    passed, failed, lines = judged(names, status, said)
+    print("\n".join(lines))
     print(f"{passed} passed, {failed} failed")
     return 1 if failed else 0
 

@@ -1,5 +1,7 @@
-"""What tools/must_fail.py takes for an edit, and which refusals count. The edits themselves are tried by the gate."""
+"""What tools/must_fail.py takes for an edit, and which of rt's verdicts count. The edits themselves are tried by the gate."""
 import os
+import shutil
+import subprocess
 import sys
 import tempfile
 import unittest
@@ -181,146 +183,102 @@ class Functions(unittest.TestCase):
         self.assertIsNone(self.function_of())
 
 
-class Groups(unittest.TestCase):
-    def test_no_two_of_one_function(self):
-        self.assertEqual(must_fail.groups_of({"a": "f", "b": "f", "c": "g", "d": "h", "e": "g"}), [["a", "c", "d"], ["b", "e"]])
-
-    def test_one_by_itself_and_those_of_no_function_are_in_none(self):
-        self.assertEqual(must_fail.groups_of({"a": "f", "b": "f", "c": None, "d": "g", "e": None}), [["a", "d"]])
-        self.assertEqual(must_fail.groups_of({"a": "f", "b": None}), [])
-
-
 class Refusals(unittest.TestCase):
     def test_a_fact_that_fails_counts(self):
-        said = "fn a::b: not proved\nProof.antt:12:27: error: `returns`: the two types first differ where one has `40`\nlogic=not-proved\n"
-        self.assertIsNone(must_fail.SHOWS_NOTHING.search(must_fail.first_error(said)))
+        said = "refused, as it must be: ./proofs/b/Answers.antt:12:27: error: `returns`: the two types first differ where one has `40`"
+        self.assertIsNone(must_fail.wrong_of(said))
+        self.assertIsNone(must_fail.wrong_of("refused, as it must be"))
 
     def test_a_proof_that_does_not_fit_the_code_does_not(self):
-        said = "Proof.antt:3:5: error: `at`: module `x.Tie` has no `Need-at` that can be named from here\nProof.antt:9:1: error: `returns`: differ\n"
-        self.assertIsNotNone(must_fail.SHOWS_NOTHING.search(must_fail.first_error(said)))
+        said = "refused, as it must be (only because a proof file names what the edit took away, so this says little of the contract: change a value and keep the names): proofs/at/Answers.antt:3:5: error: `at`: module `x.Goals` has no `at`"
+        self.assertEqual(must_fail.wrong_of(said), "SHOWS NOTHING: " + said.removeprefix("refused, as it must be "))
 
-    def test_the_first_error_decides(self):
-        self.assertEqual(must_fail.first_error("a note\nx: error: one\ny: error: two\n"), "x: error: one")
-        self.assertEqual(must_fail.first_error("a note\n"), "")
-
-
-class RefusalsTogether(unittest.TestCase):
-    """What is said of four functions: inner and outer, which calls it, have proof files; small and smaller have none."""
-
-    CITED = "`outer-spec`: `close` was not admitted (it has holes or undetermined implicits, or was rejected), so this cannot be checked"
-
-    def setUp(self):
-        self.folder = tempfile.TemporaryDirectory()
-        self.addCleanup(self.folder.cleanup)
-        self.crate = os.path.realpath(self.folder.name)
-        for function in ("inner", "outer"):
-            os.makedirs(os.path.join(self.crate, "proofs", function))
-            with open(os.path.join(self.crate, "proofs", function, "Proof.antt"), "w", encoding="utf-8") as f:
-                f.write("a proof\n")
-
-    def error(self, file, text):
-        return f"{self.crate}/proofs/{file}.antt:12:5: error: {text}"
-
-    def refused(self, *lines, status=1, of=("inner", "outer")):
-        functions = [must_fail.Function(f"a::{name}", f"proofs/{name}/Proof.antt") for name in of]
-        found = must_fail.refused_together(self.crate, functions, status, "\n".join([*lines, "logic=not-proved"]))
-        return sorted(function.path for function in found)
-
-    def both(self, text):
-        return [self.error("inner/Proof", "`returns`: differ"), "fn a::inner: not proved", *text]
-
-    def test_errors_of_their_own_count(self):
-        said = self.both([self.error("outer/Proof", "`returns-2`: differ"), "fn a::outer: not proved; it calls `a::inner`, which is not proved"])
-        self.assertEqual(self.refused(*said), ["a::inner", "a::outer"])
-
-    def test_an_error_of_something_cited_does_not(self):
-        said = self.both([self.error("outer/Proof", self.CITED), "fn a::outer: not proved; it calls `a::inner`, which is not proved"])
-        self.assertEqual(self.refused(*said), ["a::inner"])
-
-    def test_what_it_calls_does_not(self):
-        said = self.both(["fn a::outer: not proved; it calls `a::inner`, which is not proved"])
-        self.assertEqual(self.refused(*said), ["a::inner"])
-
-    def test_a_function_that_is_not_said_to_fail_does_not(self):
-        for line in ("fn a::outer: proved", "fn a::outer_row: not proved", "fn b::a::outer: not proved", ""):
-            self.assertEqual(self.refused(*self.both([self.error("outer/Proof", "`returns`: differ"), line])), ["a::inner"])
-
-    def test_an_error_that_shows_nothing_does_not(self):
-        unfit = self.error("outer/Proof", "`at`: module `x.Tie` has no `Need-at` that can be named from here")
-        said = self.both([unfit, self.error("outer/Proof", "`returns`: differ"), "fn a::outer: not proved"])
-        self.assertEqual(self.refused(*said), ["a::inner"])
-
-    def test_an_error_elsewhere_leaves_all_in_doubt(self):
-        for error in (self.error("Laws", "`law`: differ"), self.error("third/Proof", "`returns`: differ"), "error: no such file"):
-            self.assertEqual(self.refused(*self.both([error])), [])
-
-    def test_something_cited_elsewhere_does_not(self):
-        self.assertEqual(self.refused(*self.both([self.error("third/Proof", self.CITED)])), ["a::inner"])
-
-    def test_a_check_that_did_not_reach_the_prover(self):
-        for status in (0, 2, 3):
-            self.assertEqual(self.refused(*self.both([]), status=status), [])
-        functions = [must_fail.Function("a::inner", "proofs/inner/Proof.antt")]
-        self.assertEqual(must_fail.refused_together(self.crate, functions, 1, "\n".join(self.both([]))), set())
-
-    def test_no_proof_file(self):
-        expected = f"expected `small-spec` in {self.crate}/proofs/small/Proof.antt"
-        for rest, good in (
-            (f"no proof: {expected}; `search` does not close `returns`", True),
-            (f"no proof: {expected}; it calls `a::inner`, which is not proved", False),
-            (f"no proof: {expected}; `search` does not close `returns`; it calls `a::inner`, which is not proved", False),
-            (f"no proof: {expected}", False),
-            ("proved", False),
+    def test_what_else_rt_says_does_not(self):
+        for said in (
+            "NOT REFUSED: the crate is still proved with this edit (one that means the same as before cannot be refused: remove it)",
+            "NOT TRIED: its check was killed, most likely for memory, so nothing is known of it: run this again",
+            "BAD EDIT: it did not reach the prover; the first lines of what it said:",
         ):
-            self.assertEqual(self.refused(f"fn a::small: {rest}", "fn a::smaller: proved", of=("small", "smaller")), ["a::small"] if good else [])
+            self.assertEqual(must_fail.wrong_of(said), said)
+
+    def test_nothing_said_does_not(self):
+        self.assertEqual(must_fail.wrong_of(None), "NOT TRIED: rt said nothing of it")
 
 
 class Crates(unittest.TestCase):
-    """A crate of two functions, with one edit of each, and a prover that refuses all but the texts that it is told to take."""
+    """A crate of two functions, with one edit of each, and an rt that says of each what it is told to."""
+
+    REFUSED = "refused, as it must be: ./proofs/{0}/Answers.antt:1:1: error: differ"
 
     def setUp(self):
         folder = tempfile.TemporaryDirectory()
         self.addCleanup(folder.cleanup)
-        self.copy = os.path.join(os.path.realpath(folder.name), "copy")
-        self.crate = os.path.join(self.copy, "crates", "a")
+        self.root = os.path.realpath(folder.name)
         self.write("src/lib.rt", "fn one() -> u8 {\n    1\n}\n\nfn two() -> u8 {\n    2\n}\n")
-        self.write("proofs/one/Proof.antt", "")
-        self.write("proofs/two/Proof.antt", "")
         edit = "file: src/lib.rt\nold:     {}\nnew:     {}\n"
-        edits = [self.write("one.edit", edit.format(1, 3)), self.write("two.edit", edit.format(2, 4))]
-        self.checks = []
-        given = {"LOGS": folder.name, "edits_of": lambda name: edits, "copy_of_the_repository": lambda name: self.copy}
-        for name, value in {**given, "lay_out": lambda *_: 0, "check": self.check}.items():
-            patch = mock.patch.object(must_fail, name, value)
-            patch.start()
-            self.addCleanup(patch.stop)
+        self.write("must-fail/one.edit", edit.format(1, 3))
+        self.write("must-fail/two.edit", edit.format(2, 4))
+        patch = mock.patch.object(must_fail, "ROOT", self.root)
+        patch.start()
+        self.addCleanup(patch.stop)
 
     def write(self, file, text):
-        path = os.path.join(self.crate, file)
+        path = os.path.join(self.root, "crates", "a", file)
         os.makedirs(os.path.dirname(path), exist_ok=True)
-        must_fail.write(path, text)
+        with open(path, "w", encoding="utf-8") as f:
+            f.write(text)
         return path
 
-    def check(self, copy, name):
-        text = must_fail.text_of(os.path.join(self.crate, "src", "lib.rt"))
-        bad = [function for function, good in (("one", ["    1\n"]), ("two", self.taken)) if not any(line in text for line in good)]
-        self.checks.append(bad)
-        if not bad:
-            return 0, "logic=proved\n"
-        lines = [f"{self.crate}/proofs/{function}/Proof.antt:1:1: error: differ\nfn a::{function}: not proved\n" for function in bad]
-        return 1, "".join(lines) + "logic=not-proved\n"
+    def said(self, **verdicts):
+        return "".join(f"rt: must-fail a/{label}.edit: {verdict.format(label)}\n" for label, verdict in verdicts.items())
 
-    def test_both_refused_in_one_check(self):
-        self.taken = ["    2\n"]
-        passed, failed, lines = must_fail.try_crate("a", "kept")
-        self.assertEqual((passed, failed, self.checks), (2, 0, [[], ["one", "two"]]))
-        self.assertEqual(lines[1:], [f"must-fail a/{label}: refused, as it must be (one of 2 in 0 s)" for label in ("one", "two")])
+    def test_both_refused(self):
+        said = self.said(one=self.REFUSED, two=self.REFUSED)
+        lines = [f"must-fail a/{label} (the body of a::{label}): {self.REFUSED.format(label)}" for label in ("one", "two")]
+        self.assertEqual(must_fail.judged(["a"], 0, "rt: a: a note\n" + said), (2, 0, lines))
 
-    def test_one_that_matters_to_nothing_is_tried_alone_and_is_not_refused(self):
-        self.taken = ["    2\n", "    4\n"]
-        passed, failed, lines = must_fail.try_crate("a", "kept")
-        self.assertEqual((passed, failed, self.checks), (1, 1, [[], ["one"], []]))
-        self.assertEqual(lines[2], "must-fail a/two: NOT REFUSED: the crate is still proved with this edit (0 s)")
+    def test_one_that_matters_to_nothing_is_not_refused(self):
+        said = self.said(one=self.REFUSED, two="NOT REFUSED: the crate is still proved with this edit")
+        passed, failed, lines = must_fail.judged(["a"], 1, said)
+        self.assertEqual((passed, failed), (1, 1))
+        self.assertEqual(lines[1], "must-fail a/two (the body of a::two): NOT REFUSED: the crate is still proved with this edit")
+
+    def test_one_that_rt_says_nothing_of_is_not_tried(self):
+        passed, failed, lines = must_fail.judged(["a"], 0, self.said(one=self.REFUSED))
+        self.assertEqual((passed, failed), (1, 1))
+        self.assertEqual(lines[1], "must-fail a/two (the body of a::two): NOT TRIED: rt said nothing of it")
+
+    def test_one_that_cannot_be_applied_is_bad_whatever_rt_says(self):
+        self.write("must-fail/two.edit", "file: src/lib.rt\nold: 5\nnew: 6\n")
+        passed, failed, lines = must_fail.judged(["a"], 0, self.said(one=self.REFUSED, two=self.REFUSED))
+        self.assertEqual((passed, failed), (1, 1))
+        self.assertEqual(lines[1], "must-fail a/two: BAD EDIT: its 'old:' text is in src/lib.rt 0 times")
+
+    def test_a_file_where_none_is_read_fails(self):
+        path = self.write("must-fail/deeper/three.edit", "file: src/lib.rt\nold: 1\nnew: 3\n")
+        said = self.said(one=self.REFUSED, two=self.REFUSED) + f"rt: {path}: BAD EDIT: an edit stands right in must-fail/\n"
+        passed, failed, lines = must_fail.judged(["a"], 1, said)
+        self.assertEqual((passed, failed), (2, 1))
+        self.assertEqual(lines[0], "crates/a/must-fail/deeper/three.edit: BAD EDIT: an edit stands right in must-fail/")
+
+    def test_a_run_that_fails_for_another_reason(self):
+        passed, failed, lines = must_fail.judged(["a"], 2, self.said(one=self.REFUSED, two=self.REFUSED) + "rt: no room on the disk\n")
+        self.assertEqual((passed, failed), (2, 1))
+        self.assertTrue(lines[-1].startswith("must_fail.py: rt must-fail ended with 2: "))
+
+    def test_the_command(self):
+        """Run whole, with an rt on the PATH that says what it is told, and is told the crates' names."""
+        tools = os.path.join(self.root, "tools")
+        os.makedirs(tools)
+        shutil.copy(must_fail.__file__, tools)
+        with open(os.path.join(tools, "rt"), "w", encoding="utf-8") as f:
+            f.write(f'#!/bin/sh\n[ "$*" = "must-fail a" ] || exit 9\ncat <<\'END\'\n{self.said(one=self.REFUSED, two=self.REFUSED)}END\n')
+        os.chmod(os.path.join(tools, "rt"), 0o755)
+        environment = {**os.environ, "PATH": tools + ":" + os.environ["PATH"]}
+        command = [sys.executable, os.path.join(tools, "must_fail.py")]
+        for names, status, last in (([], 0, "2 passed, 0 failed"), (["a"], 0, "2 passed, 0 failed"), (["b"], 1, "must_fail.py: crates/b/must-fail/ has no edit")):
+            ran = subprocess.run([*command, *names], env=environment, stdout=subprocess.PIPE, stderr=subprocess.STDOUT, text=True)
+            self.assertEqual((ran.returncode, ran.stdout.splitlines()[-1]), (status, last))
 
 
 if __name__ == "__main__":
