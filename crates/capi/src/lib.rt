@@ -21,6 +21,10 @@ mod solves;
 mod tallying;
 mod triangles;
 
+pub use bend::piskorlu_bend;
+pub use tallying::piskorlu_tallied;
+pub use triangles::{piskorlu_solve_triangle, piskorlu_tallied_triangle};
+
 // The square root, rounded to nearest.
 #[unsafe(no_mangle)]
 pub extern "C" fn piskorlu_sqrt(v: f64) -> f64

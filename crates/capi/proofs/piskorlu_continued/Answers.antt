@@ -14,13 +14,13 @@ pub leave-requires : goal.leave-requires
 leave-requires c = ((room _ _ _ _ (sym c.taken.ensures ∙ c.if-taken.true)).joined, (room _ _ _ _ (sym c.taken.ensures ∙ c.if-taken.true)).one)
 
 pub returns-then-taken : goal.returns-then-taken
-returns-then-taken c =    rw (
-      ← c.taken.ensures,
-      c.if-taken.true,
-      ← c.read.ensures,
-      ← c.read-then-taken.ensures,
-      ← c.continued-joined.ensures,
-    )
+returns-then-taken c = rw (
+  ← c.taken.ensures,
+  c.if-taken.true,
+  ← c.read.ensures,
+  ← c.read-then-taken.ensures,
+  ← c.continued-joined.ensures,
+)
     c.leave.ensures
 
 pub returns : goal.returns

@@ -11,9 +11,9 @@ pub overflow_cast-rank : goal.overflow_cast-rank
 overflow_cast-rank c = omega (arith, small c.solve-outcome.result _ c.in-Rank.is c.solve-outcome.ensures.rank-small)
 
 pub returns-in-Rank : goal.returns-in-Rank
-returns-in-Rank c =    accepted _ _ _ _ _ _ _ _ _ _ _ _ c.solve-outcome.result _ c.in-Rank.is
+returns-in-Rank c = accepted _ _ _ _ _ _ _ _ _ _ _ _ c.solve-outcome.result _ c.in-Rank.is
     c.solve-outcome.ensures c.if-rank-lt1.false
 
 pub returns-in-Refused : goal.returns-in-Refused
-returns-in-Refused c =    rejected _ _ _ _ _ _ _ _ _ _ _ _ c.solve-outcome.result c.in-Refused.is c.solve-outcome.ensures
+returns-in-Refused c = rejected _ _ _ _ _ _ _ _ _ _ _ _ c.solve-outcome.result c.in-Refused.is c.solve-outcome.ensures
     c.if-rank-lt1.false

@@ -8,7 +8,7 @@ pub leave-requires : goal.leave-requires
 leave-requires c = room _ _ (sym c.taken.ensures ∙ c.if-taken.true)
 
 pub returns-then-taken : goal.returns-then-taken
-returns-then-taken c =    let taken = c.taken.ensures in
+returns-then-taken c = let taken = c.taken.ensures in
     let leave = c.leave.ensures in
     answered _ _ _ _ _ _ _ _ _ _ _ _ _ _ _ _ _ (sym taken ∙ c.if-taken.true)
     c.solve-answer.ensures leave.0 leave.1 leave.2

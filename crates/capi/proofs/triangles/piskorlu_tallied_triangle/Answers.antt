@@ -14,11 +14,11 @@ pub leave-number-requires : goal.leave-number-requires
 leave-number-requires c = room _ _ _ _ (sym c.taken.ensures ∙ c.if-taken.true)
 
 pub keep-requires : goal.keep-requires
-keep-requires c =    let taken = sym c.taken.ensures ∙ c.if-taken.true in
+keep-requires c = let taken = sym c.taken.ensures ∙ c.if-taken.true in
     (ten _ _ _ _ taken, one _ _ _ _ taken)
 
 pub returns-then-taken : goal.returns-then-taken
-returns-then-taken c =    let taken = c.taken.ensures in
+returns-then-taken c = let taken = c.taken.ensures in
     let leave = c.leave-number.ensures in
     let keep = c.keep.ensures in
     answered _ _ _ _ _ _ _ _ _ _ _ _ _ _ _ _ _ _ _ (sym taken ∙ c.if-taken.true)

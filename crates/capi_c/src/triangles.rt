@@ -1,0 +1,96 @@
+// The solve of a triangle by plain numbers, and the tallied one.
+ghost use Rattle.std.specs.Prelude.{◌≡◌, length};
+ghost use Rattle.floats.specs.Ops as ops;
+ghost use Rattle.boxed.specs.Solve as solve;
+ghost use Rattle.triangle.specs.Triangle as triangle;
+ghost use Rattle.tallied.specs.Joining as joining;
+ghost use Rattle.capi.specs.Reports as report;
+ghost use Rattle.capi.specs.Solves as plain;
+ghost use Rattle.capi.specs.Tallies as tallies;
+ghost use Rattle.capi.specs.Triangles as def;
+
+// triangle::solve: what piskorlu_solve answers and leaves of the mirrored matrix; or 5, 16 in the place of 6, or 7 to
+// 10, and nothing is written.
+#[unsafe(no_mangle)]
+pub extern "C" fn piskorlu_solve_triangle(
+    t: &[f64],
+    u_free: &[f64],
+    lo: &[f64],
+    hi: &[f64],
+    scale: &[f64],
+    motion: &[f64],
+    tolerance: f64,
+    nu: &mut [f64],
+    states: &mut [u8],
+    rows: &mut [usize],
+    workspace: &mut [f64],
+    counts: &mut [usize],
+    residual: &mut [f64],
+) -> u32
+    ensures { plain.Answered
+        (def.reply (plain.taken counts.old residual.old) (length t.now)
+        (triangle.problem t.now u_free.now lo.now hi.now
+        scale.now)
+        (solve.watch motion.now tolerance)
+        nu.old states.old rows.old (length workspace.old))
+        result nu.new states.new rows.new
+        counts.old counts.new residual.old residual.new
+        workspace.old workspace.new }
+{
+    capi::piskorlu_solve_triangle(
+        t, u_free, lo, hi, scale, motion, tolerance, nu, states, rows, workspace, counts, residual,
+    )
+}
+
+// A tallied solve of a triangle: as piskorlu_tallied of the mirrored matrix, with 16 in the place of 6.
+#[unsafe(no_mangle)]
+pub extern "C" fn piskorlu_tallied_triangle(
+    tally: &mut [u32],
+    tally_residual: &mut [f64],
+    t: &[f64],
+    u_free: &[f64],
+    lo: &[f64],
+    hi: &[f64],
+    scale: &[f64],
+    motion: &[f64],
+    tolerance: f64,
+    nu: &mut [f64],
+    states: &mut [u8],
+    rows: &mut [usize],
+    workspace: &mut [f64],
+    counts: &mut [usize],
+    residual: &mut [f64],
+) -> u32
+    ensures { tallies.Answered
+        (tallies.reply
+        (tallies.taken tally.old tally_residual.old counts.old
+        residual.old)
+        (report.read tally.old (ops.at tally_residual.old 0))
+        (joining.triangle_call (length t.now)
+        (triangle.problem t.now u_free.now lo.now hi.now
+        scale.now)
+        (solve.watch motion.now tolerance)
+        nu.old states.old rows.old (length workspace.old)))
+        result tally.old tally.new tally_residual.old tally_residual.new
+        nu.new states.new rows.new
+        counts.old counts.new residual.old residual.new
+        workspace.old workspace.new }
+{
+    capi::piskorlu_tallied_triangle(
+        tally,
+        tally_residual,
+        t,
+        u_free,
+        lo,
+        hi,
+        scale,
+        motion,
+        tolerance,
+        nu,
+        states,
+        rows,
+        workspace,
+        counts,
+        residual,
+    )
+}
