@@ -100,13 +100,16 @@ def targets(name, at, code, begins, entries):
 
 
 def without_probes(code):
-    """The code with each loop that touches a large frame page by page replaced by the one step that it comes to."""
+    """The code with each loop that touches a large frame part by part replaced by the one step that it comes to."""
     places = sorted(code)
     for i in range(len(places) - 5):
         part = [" ".join(code[at].split()) for at in places[i : i + 6]]
         size = re.fullmatch(r"sub \$(0x[0-9a-f]+),%r11", part[1])
-        loop = [part[0], part[2], part[3], part[4]] == ["mov %rsp,%r11", "sub $0x1000,%rsp", "movq $0x0,(%rsp)", "cmp %r11,%rsp"]
-        if size and loop and part[5].startswith(f"jne {places[i + 2]:x} "):
+        one = re.fullmatch(r"sub \$(0x[0-9a-f]+),%rsp", part[2])
+        loop = [part[0], part[3], part[4]] == ["mov %rsp,%r11", "movq $0x0,(%rsp)", "cmp %r11,%rsp"]
+        # it ends where so many parts are the whole
+        whole = size and one and int(size.group(1), 16) % int(one.group(1), 16) == 0
+        if whole and loop and part[5].startswith(f"jne {places[i + 2]:x} "):
             code[places[i + 2]] = f"sub ${size.group(1)},%rsp"
             code[places[i + 5]] = "nop"
     return code
