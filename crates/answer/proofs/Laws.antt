@@ -1,14 +1,12 @@
 -- What was read is what is solved, and what was solved is what is printed.
-use Prim.Native.Nat.{ℕ, zero, suc, ◌+◌, ◌*◌, ◌≤◌, ◌<◌, min}
+use Prim.Native.Nat.{ℕ, zero, suc, ◌+◌, ◌*◌, ◌≤◌, ◌<◌}
 use mathlib.Core.Path.{◌≡◌, refl, sym, ◌∙◌, ap, subst}
-use mathlib.Core.Bool.{Bool, true, false}
 use mathlib.Core.List.{List, [], ◌∷◌, ◌++◌}
 use native.Mathlib.Omega.{arith}
 use native.Mathlib.Nat.{mul-le-mul}
-use lib.Dec.{ltb}
 use lib.Ieee.{Float}
 use lib.ListN.{length, get_or, take, drop, replicate, length-append, length-take, length-drop}
-use lib.Seq.{take_at, sets-eq, length-sets}
+use lib.Seq.{take_at, sets-eq}
 use borrow.Author.Tests.{lt-ltb, le-ltb}
 use Rattle.floats.specs.Ops.{0ᶠ}
 use Rattle.bend_file.specs.Little.{values, over}
@@ -22,7 +20,6 @@ use Rattle.boxed.specs.Solve as solve
 use Rattle.boxed.specs.Solve.{Left}
 use Rattle.boxed.specs.declared.BoxAnswer.{BoxAnswer}
 use Rattle.printer.specs.Output as print
-use Rattle.printer.specs.Writing.{Wrote}
 use Rattle.printer.proofs.Lengths.{Word}
 use Rattle.answer.specs.Output as def
 

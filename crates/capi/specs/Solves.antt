@@ -1,5 +1,5 @@
 -- A solve by plain numbers: eight counts (outcome, sweeps, exact passes, converged, exact, Idle rows, rows listed, rows stopped) and the residual beside them. Definitions only.
-use Rattle.std.specs.Prelude.{ℕ, ◌≡◌, Bool, true, false, cond, ◌&&◌, List, leb, set, length, drop, Float}
+use Rattle.std.specs.Prelude.{ℕ, ◌≡◌, Bool, true, false, ◌&&◌, List, leb, set, length, drop, Float}
 use Rattle.box_rows.specs.Rows.{Problem}
 use Rattle.boxed.specs.Solve as solve
 use Rattle.boxed.specs.declared.Cause.{Cause}

@@ -1,5 +1,5 @@
 -- Worked solves of triangles, as one table. From three rows on the lower triangle by rows is another list than the upper one.
-use Rattle.std.specs.Prelude.{◌≡◌, refl, true, false, List, [], ◌∷◌, ℕ, replicate}
+use Rattle.std.specs.Prelude.{◌≡◌, refl, true, false, List, [], ◌∷◌, replicate}
 use Rattle.boxed.specs.declared.Cause.TheVariants as cause
 use Rattle.cases.specs.Numbers.{∞, nan_bits, one, two, four, −one, −two, −four}
 use Rattle.cases.specs.Cases.{Row, named, lower, problem, counts, refuses, solves, fights, passes, all}

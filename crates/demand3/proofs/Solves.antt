@@ -28,7 +28,7 @@ use Rattle.box_rows.specs.Private.{row_of}
 use Rattle.boxed.specs.Sweep as sweep
 use Rattle.boxed.specs.Private.{is_grown, residual_row}
 use Rattle.boxed.specs.Private.{result_with, nothing}
-use Rattle.boxed.specs.Solve.{Ending, exact, converged, conflict, Iterate, counts, Run, going, ended, Watch, run, Outcome, refused, solved, infeasible, Result, report_of, unfound, result, solve, reply, SWEEP_CAP}
+use Rattle.boxed.specs.Solve.{Ending, exact, converged, conflict, Iterate, Run, going, ended, Watch, run, Outcome, refused, solved, infeasible, Result, report_of, unfound, result, solve, reply, SWEEP_CAP}
 use Rattle.boxed.proofs.Accepting.{Accepted, accepted}
 use Rattle.boxed.specs.declared.BoxReport.{BoxReport}
 use Rattle.boxed.specs.declared.Cause.{Cause}

@@ -3,7 +3,7 @@ use Rattle.std.specs.Prelude.{ℕ, ◌≡◌, List, Float}
 use Rattle.box_rows.specs.Rows.{Problem}
 use Rattle.boxed.specs.Solve.{Watch, Left}
 use Rattle.boxed.specs.declared.BoxAnswer.{BoxAnswer}
-use Rattle.triangle.specs.Triangle.{Sent, whole, triangle}
+use Rattle.triangle.specs.Triangle.{whole, triangle}
 use Rattle.report.specs.declared.SolveReport.{SolveReport}
 use Rattle.tally.specs.Tally.{Call, Tallied}
 

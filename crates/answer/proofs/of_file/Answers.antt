@@ -1,7 +1,6 @@
-use mathlib.Core.Path.{refl, sym, ap, ◌∙◌}
-use Rattle.printer.proofs.Lengths.{Word, refused-short}
+use mathlib.Core.Path.{sym}
+use Rattle.printer.proofs.Lengths.{refused-short}
 use Rattle.answer.proofs.Laws.{too_little, answered, refused-file, taken_in, room_of}
-use native.Mathlib.Omega.{arith}
 use borrow.Author.Rules.{rules}
 use Rattle.answer.proofs.of_file.Goals as goal
 
@@ -33,13 +32,13 @@ pub solve_fronts-requires : goal.solve_fronts-requires
 solve_fronts-requires c = room_of _ _ _ _ _ (taken_in _ _ _ _ _ _ c.in-Problem.is c.read.ensures)
 
 pub returns-in-Refused : goal.returns-in-Refused
-returns-in-Refused c =    answered _ _ _ _ _ c.if-out-lt-ROOM.false (record {
-      wrote = c.refused.ensures;
-      short = refused-short _
-          (record { below = search rules });
-    }) (sym (refused-file _ _ _ _ _ c.in-Refused.is c.read.ensures))
+returns-in-Refused c = answered _ _ _ _ _ c.if-out-lt-ROOM.false (record {
+  wrote = c.refused.ensures;
+  short = refused-short _
+      (record { below = search rules });
+}) (sym (refused-file _ _ _ _ _ c.in-Refused.is c.read.ensures))
 
 pub returns-in-Problem : goal.returns-in-Problem
-returns-in-Problem c =    answered _ _ _ _ _ c.if-out-lt-ROOM.false
+returns-in-Problem c = answered _ _ _ _ _ c.if-out-lt-ROOM.false
     c.solve_fronts.ensures (taken_in _ _ _ _ _ _ c.in-Problem.is
     c.read.ensures).same

@@ -1,5 +1,4 @@
-use mathlib.Core.Path.{refl, sym, ap, ◌∙◌}
-use Rattle.printer.proofs.Lengths.{Word, Counted, refused-short, solved-short, infeasible-short}
+use Rattle.printer.proofs.Lengths.{Counted, refused-short, solved-short, infeasible-short}
 use Rattle.answer.proofs.Laws.{front-words, front-few}
 use native.Mathlib.Omega.{arith}
 use borrow.Author.Rules.{rules}
@@ -12,7 +11,7 @@ pub returns-in-Solved : goal.returns-in-Solved
 returns-in-Solved c = rw c.in-Solved.is (record { wrote = c.solved.ensures; short = solved-short _ _ _ (record { sweeps = record { below = search rules }; passes = record { below = search rules }; idle = record { below = search rules } }) c.requires.0 })
 
 pub returns-in-Infeasible : goal.returns-in-Infeasible
-returns-in-Infeasible c =    let report = c.in-Infeasible.report in
+returns-in-Infeasible c = let report = c.in-Infeasible.report in
     let counted : Counted report = record { sweeps = record { below = search rules }; passes = record { below = search rules }; idle = record { below = search rules } } in
     let told = c.in-Infeasible in
     let printed = c.infeasible.ensures in

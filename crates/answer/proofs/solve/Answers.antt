@@ -1,8 +1,5 @@
-use mathlib.Core.Path.{refl, sym, ap, ◌∙◌}
 use Rattle.answer.specs.Output as def
 use Rattle.answer.proofs.Laws.{left_laid}
-use native.Mathlib.Omega.{arith}
-use borrow.Author.Rules.{rules}
 use Rattle.answer.proofs.solve.Goals as goal
 
 pub returns : goal.returns

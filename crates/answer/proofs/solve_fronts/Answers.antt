@@ -1,8 +1,6 @@
-use mathlib.Core.Path.{refl, sym, ap, ◌∙◌}
+use mathlib.Core.Path.{sym}
 use lib.Seq.{length-take-le}
 use Rattle.answer.proofs.Laws.{front-short}
-use native.Mathlib.Omega.{arith}
-use borrow.Author.Rules.{rules}
 use Rattle.answer.proofs.solve_fronts.Goals as goal
 
 pub slice_bounds-solve-end : goal.slice_bounds-solve-end
@@ -30,7 +28,7 @@ pub slice_bounds-solve-end-8 : goal.slice_bounds-solve-end-8
 slice_bounds-solve-end-8 c = sym (length-take-le _ _ c.requires.starts)
 
 pub solve-requires : goal.solve-requires
-solve-requires c =    front-short c.args.n
+solve-requires c = front-short c.args.n
     c.args.nu.now
     c.requires.starts
     c.requires.small.few

@@ -1,7 +1,5 @@
 use Rattle.capi.proofs.Room.{room}
-use Rattle.capi.specs.Reports as report
 use mathlib.Core.Path.{sym, ◌∙◌, refl}
-use borrow.Author.Rules.{rules}
 use Rattle.capi.proofs.piskorlu_continued.Goals as goal
 
 pub read-requires : goal.read-requires

@@ -1,4 +1,3 @@
-use borrow.Author.Rules.{rules}
 use native.Mathlib.Omega.{arith}
 use Rattle.capi.proofs.LeastNorm.{no_place, accepted, rejected, small}
 use Rattle.capi.proofs.piskorlu_least_norm.Goals as goal

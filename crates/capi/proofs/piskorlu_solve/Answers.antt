@@ -1,7 +1,5 @@
-use mathlib.Core.Path.{refl, sym, ◌∙◌}
+use mathlib.Core.Path.{sym, ◌∙◌}
 use Rattle.capi.proofs.Solving.{room, no_room, answered}
-use native.Mathlib.Omega.{arith}
-use borrow.Author.Rules.{rules}
 use Rattle.capi.proofs.piskorlu_solve.Goals as goal
 
 pub leave-requires : goal.leave-requires

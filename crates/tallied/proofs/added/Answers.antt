@@ -1,5 +1,4 @@
 use Rattle.tallied.specs.Private as private
-use borrow.Author.Rules.{rules}
 use Rattle.tallied.proofs.added.Goals as goal
 
 -- `tallied::added` meets its contract. Assumes nothing.

@@ -13,12 +13,12 @@ returns-then-tally-gt4294967095 c = rw (ne_eqb _ _ c.if-tally-eq4294967295.false
 
 pub returns-then-tally-gt4294967286 : goal.returns-then-tally-gt4294967286
 unfolding def.full
-returns-then-tally-gt4294967286 c =    rw (
-      ne_eqb _ _ c.if-tally-eq4294967295.false,
-      le-ltb _ _ c.if-tally-gt4294967095.false,
-      lt-ltb _ _
-          c.if-tally-gt4294967286.true,
-    )
+returns-then-tally-gt4294967286 c = rw (
+  ne_eqb _ _ c.if-tally-eq4294967295.false,
+  le-ltb _ _ c.if-tally-gt4294967095.false,
+  lt-ltb _ _
+      c.if-tally-gt4294967286.true,
+)
 
 pub returns : goal.returns
 unfolding def.full

@@ -1,4 +1,3 @@
-use Prim.Native.Nat.{◌≤◌, ◌-◌}
 use mathlib.Core.Path.{◌≡◌, refl}
 use native.Mathlib.Numerals.{add-one}
 use native.Mathlib.Omega.{arith}
@@ -18,5 +17,5 @@ loop-i-preserved c = (search rules, rw (add-one, ← c.loop-i.invariant.1, ← c
 
 pub returns : goal.returns
 unfolding def.no_nan
-returns c =    let e : c.loop-i.i ≡ length c.args.nu.now = omega arith in
+returns c = let e : c.loop-i.i ≡ length c.args.nu.now = omega arith in
     rw (← e) c.loop-i.invariant.1

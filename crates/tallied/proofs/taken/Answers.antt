@@ -1,4 +1,3 @@
-use borrow.Author.Rules.{rules}
 use Rattle.tally.specs.Tally as def
 use Rattle.tallied.proofs.taken.Goals as goal
 

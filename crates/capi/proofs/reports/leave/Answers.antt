@@ -1,7 +1,5 @@
 use mathlib.Core.Path.{refl}
-use Rattle.report.specs.Joins as joins
 use Rattle.capi.specs.Reports as report
-use borrow.Author.Rules.{rules}
 use Rattle.capi.proofs.reports.leave.Goals as goal
 
 pub returns-in-Report : goal.returns-in-Report

@@ -1,5 +1,4 @@
 use Rattle.capi.specs.Reports as report
-use borrow.Author.Rules.{rules}
 use Rattle.capi.proofs.reports.read.Goals as goal
 
 pub returns : goal.returns

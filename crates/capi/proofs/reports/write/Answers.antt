@@ -1,7 +1,6 @@
 use Rattle.capi.specs.Reports as report
 use lib.ListN.{length-set}
 use native.Mathlib.Omega.{arith}
-use borrow.Author.Rules.{rules}
 use Rattle.capi.proofs.reports.write.Goals as goal
 
 pub bounds-counts-1 : goal.bounds-counts-1

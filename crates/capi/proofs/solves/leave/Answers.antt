@@ -1,7 +1,4 @@
 use mathlib.Core.Path.{refl}
-use Rattle.capi.specs.Solves as plain
-use native.Mathlib.Omega.{arith}
-use borrow.Author.Rules.{rules}
 use Rattle.capi.proofs.solves.leave.Goals as goal
 
 pub returns-in-Solved : goal.returns-in-Solved

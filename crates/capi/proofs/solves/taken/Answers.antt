@@ -1,7 +1,5 @@
 use borrow.Author.Tests.{le-leb, lt-leb}
 use Rattle.capi.specs.Solves as plain
-use native.Mathlib.Omega.{arith}
-use borrow.Author.Rules.{rules}
 use Rattle.capi.proofs.solves.taken.Goals as goal
 
 pub returns-then-counts-lt8 : goal.returns-then-counts-lt8

@@ -1,7 +1,6 @@
 use lib.ListN.{length-set}
 use Rattle.capi.specs.Solves as plain
 use native.Mathlib.Omega.{arith}
-use borrow.Author.Rules.{rules}
 use Rattle.capi.proofs.solves.write.Goals as goal
 
 pub bounds-counts-1 : goal.bounds-counts-1

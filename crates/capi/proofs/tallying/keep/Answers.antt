@@ -1,7 +1,6 @@
 use mathlib.Core.Path.{refl}
 use borrow.Author.Tests.{eq-eqb, ne_eqb}
 use Rattle.capi.specs.Tallies as tallies
-use borrow.Author.Rules.{rules}
 use Rattle.capi.proofs.tallying.keep.Goals as goal
 
 -- `capi::tallying::keep` meets its contract. Assumes nothing.

@@ -1,6 +1,5 @@
 use borrow.Author.Tests.{le-leb, lt-leb}
 use Rattle.capi.specs.Tallies as tallies
-use borrow.Author.Rules.{rules}
 use Rattle.capi.proofs.tallying.taken.Goals as goal
 
 -- `capi::tallying::taken` meets its contract. Assumes nothing.

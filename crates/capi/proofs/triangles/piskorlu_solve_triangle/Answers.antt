@@ -1,7 +1,6 @@
-use mathlib.Core.Path.{refl, sym, ◌∙◌}
+use mathlib.Core.Path.{sym, ◌∙◌}
 use Rattle.capi.proofs.Solving.{room}
 use Rattle.capi.proofs.Lower.{no_room, answered}
-use borrow.Author.Rules.{rules}
 use Rattle.capi.proofs.triangles.piskorlu_solve_triangle.Goals as goal
 
 pub leave-requires : goal.leave-requires

@@ -1,7 +1,6 @@
-use mathlib.Core.Path.{refl, sym, ◌∙◌}
+use mathlib.Core.Path.{sym, ◌∙◌}
 use Rattle.capi.proofs.Entering.{ten, one, room, no_room, answered}
 use native.Mathlib.Omega.{arith}
-use borrow.Author.Rules.{rules}
 use Rattle.capi.proofs.triangles.piskorlu_tallied_triangle.Goals as goal
 
 pub bounds-tally_residual-0 : goal.bounds-tally_residual-0

@@ -1,10 +1,5 @@
 use Rattle.loops.proofs.Paste.{front-start, front_again, front_done}
-use Rattle.loops.specs.Loops.{fronted}
-use lib.ListN.{length, take}
-use mathlib.Core.Path.{◌≡◌}
-use Prim.Native.Nat.{◌≤◌, ◌-◌}
 use borrow.Author.Rules.{rules}
-use native.Mathlib.Omega.{arith}
 use Rattle.capi_chains.proofs.chain.front.Goals as goal
 
 pub loop-i-init : goal.loop-i-init

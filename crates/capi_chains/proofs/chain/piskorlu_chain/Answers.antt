@@ -1,5 +1,4 @@
 use Rattle.capi_chains.proofs.Chains.{no_steps, few-ends, chain-refused, chain-taken}
-use borrow.Author.Rules.{rules}
 use Rattle.capi_chains.proofs.chain.piskorlu_chain.Goals as goal
 
 -- `capi_chains::chain::piskorlu_chain` meets its contract. Assumes nothing.

@@ -1,5 +1,4 @@
 use Rattle.capi_chains.proofs.Chains.{no-shape, no-tolerance, step_given}
-use borrow.Author.Rules.{rules}
 use Rattle.capi_chains.proofs.chain.piskorlu_chain_step.Goals as goal
 
 -- `capi_chains::chain::piskorlu_chain_step` meets its contract. Assumes nothing.

@@ -1,5 +1,4 @@
 use mathlib.Core.Path.{refl}
-use borrow.Author.Rules.{rules}
 use Rattle.capi_chains.proofs.chain_writer.leave.Goals as goal
 
 pub returns-in-Bytes : goal.returns-in-Bytes

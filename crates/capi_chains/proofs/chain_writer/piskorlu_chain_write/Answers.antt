@@ -1,4 +1,3 @@
-use borrow.Author.Rules.{rules}
 use Rattle.capi_chains.proofs.ChainWriter.{has-place, not_taken, answered}
 use Rattle.capi_chains.proofs.chain_writer.piskorlu_chain_write.Goals as goal
 

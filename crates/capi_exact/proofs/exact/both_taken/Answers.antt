@@ -1,5 +1,3 @@
-use native.Mathlib.Omega.{arith}
-use borrow.Author.Rules.{rules}
 use mathlib.Core.Path.{sym, ◌∙◌}
 use Rattle.capi_exact.specs.Exact.{both_taken}
 use Rattle.capi_exact.proofs.Sums.{second-told, first-told}

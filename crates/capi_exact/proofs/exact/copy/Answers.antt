@@ -1,10 +1,6 @@
 use borrow.Author.Rules.{rules}
-use Prim.Native.Nat.{◌≤◌, ◌-◌}
-use mathlib.Core.Path.{◌≡◌, refl}
-use lib.ListN.{length, take}
-use Rattle.loops.specs.Loops.{pasted}
+use mathlib.Core.Path.{refl}
 use Rattle.loops.proofs.Paste.{front-start, front_again, front_done}
-use native.Mathlib.Omega.{arith}
 use Rattle.capi_exact.proofs.exact.copy.Goals as goal
 
 pub loop-i-init : goal.loop-i-init

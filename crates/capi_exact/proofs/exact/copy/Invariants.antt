@@ -1,10 +1,7 @@
-use borrow.Author.Rules.{rules}
 use Prim.Native.Nat.{◌≤◌, ◌-◌}
-use mathlib.Core.Path.{◌≡◌, refl}
+use mathlib.Core.Path.{◌≡◌}
 use lib.ListN.{length, take}
 use Rattle.loops.specs.Loops.{pasted}
-use Rattle.loops.proofs.Paste.{front-start, front_again, front_done}
-use native.Mathlib.Omega.{arith}
 use Rattle.capi_exact.proofs.exact.copy.Given as goal
 
 abbrev pub invariant-loop-i : goal.invariant-loop-i

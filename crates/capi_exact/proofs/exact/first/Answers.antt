@@ -1,6 +1,4 @@
-use Prim.Native.Nat.{◌-◌, ◌≤◌}
-use mathlib.Core.Path.{◌≡◌}
-use lib.ListN.{length, take, length-set}
+use lib.ListN.{length-set}
 use Rattle.capi_exact.proofs.Sums.{copy_again, copy_done}
 use borrow.Author.Rules.{rules}
 use native.Mathlib.Omega.{arith}

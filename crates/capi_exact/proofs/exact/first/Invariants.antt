@@ -1,9 +1,6 @@
 use Prim.Native.Nat.{◌-◌, ◌≤◌}
 use mathlib.Core.Path.{◌≡◌}
-use lib.ListN.{length, take, length-set}
-use Rattle.capi_exact.proofs.Sums.{copy_again, copy_done}
-use borrow.Author.Rules.{rules}
-use native.Mathlib.Omega.{arith}
+use lib.ListN.{length, take}
 use Rattle.capi_exact.proofs.exact.first.Given as goal
 
 -- `capi_exact::exact::first` meets its contract. Assumes nothing.

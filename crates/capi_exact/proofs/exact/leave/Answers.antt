@@ -1,6 +1,4 @@
-use native.Mathlib.Omega.{arith}
 use borrow.Author.Rules.{rules}
-use mathlib.Core.Path.{◌≡◌, sym, ap, ◌∙◌}
 use Rattle.capi_exact.proofs.Sums.{left-refused, left-taken, fits_in}
 use Rattle.capi_exact.proofs.exact.leave.Goals as goal
 

@@ -1,5 +1,3 @@
-use native.Mathlib.Omega.{arith}
-use borrow.Author.Rules.{rules}
 use mathlib.Core.Path.{sym, ◌∙◌}
 use Rattle.capi_exact.proofs.Sums.{both-room, left-short, join-left}
 use Rattle.capi_exact.proofs.exact.piskorlu_exact_join.Goals as goal

@@ -1,6 +1,4 @@
-use native.Mathlib.Omega.{arith}
-use borrow.Author.Rules.{rules}
-use mathlib.Core.Path.{◌≡◌, sym, ap, ◌∙◌}
+use mathlib.Core.Path.{sym, ◌∙◌}
 use Rattle.capi_exact.proofs.Sums.{room, left-short, product-left}
 use Rattle.capi_exact.proofs.exact.piskorlu_exact_product.Goals as goal
 

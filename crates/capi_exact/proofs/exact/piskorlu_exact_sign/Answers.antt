@@ -1,5 +1,3 @@
-use native.Mathlib.Omega.{arith}
-use borrow.Author.Rules.{rules}
 use mathlib.Core.Path.{sym, ◌∙◌}
 use Rattle.capi_exact.proofs.Sums.{sign-room, sign-short, sign-long}
 use Rattle.capi_exact.proofs.exact.piskorlu_exact_sign.Goals as goal

@@ -1,7 +1,5 @@
-use borrow.Author.Rules.{rules}
 use borrow.Author.Tests.{le-leb, lt-leb}
 use Rattle.capi_exact.specs.Exact as def
-use native.Mathlib.Omega.{arith}
 use Rattle.capi_exact.proofs.exact.sign_taken.Goals as goal
 
 pub returns-then-words-lt67 : goal.returns-then-words-lt67

@@ -1,5 +1,3 @@
-use native.Mathlib.Omega.{arith}
-use borrow.Author.Rules.{rules}
 use Rattle.capi_exact.proofs.Sums.{state-is}
 use Rattle.capi_exact.proofs.exact.state.Goals as goal
 
