@@ -1,45 +1,44 @@
 // The files 000.bend, 001.bend and so on, each beside what must be printed for it: 000.txt, 001.txt.
 ghost use Rattle.std.specs.Prelude.{◌≤◌, ◌<◌, length};
 
-use libc::STDOUT_FILENO;
+use std::fmt::InlineText;
+use std::io::Read;
+use std::rt::Files;
+use std::{fs, io};
 
-// The last digit of a number.
-fn digit(n: usize) -> u8 {
-    48 + (n % 10) as u8
+// The name of file i, of three digits, and that of what must be printed for it.
+fn name_of_file(i: usize) -> InlineText<8> {
+    InlineText::of(format_args!("{i:03}.bend"))
 }
 
-fn name_of_file(i: usize) -> [u8; 8] {
-    [
-        digit(i / 100),
-        digit(i / 10),
-        digit(i),
-        b'.',
-        b'b',
-        b'e',
-        b'n',
-        b'd',
-    ]
+fn name_of_answer(i: usize) -> InlineText<7> {
+    InlineText::of(format_args!("{i:03}.txt"))
 }
 
-fn name_of_answer(i: usize) -> [u8; 7] {
-    [
-        digit(i / 100),
-        digit(i / 10),
-        digit(i),
-        b'.',
-        b't',
-        b'x',
-        b't',
-    ]
-}
-
-// Reads a file as far as the buffer goes, and closes it.
-fn take(file: i32, buffer: &mut [u8]) -> usize
+// Reads a file until the buffer is full, the file ends or a read fails, and closes it.
+fn take<R: Read + Drop>(mut file: R, buffer: &mut [u8]) -> usize
     ensures { result ≤ length buffer.new }
 {
-    let got = io::read_full(file, buffer);
-    libc::close(file);
-    got
+    let mut done = 0;
+    while done < buffer.len() {
+        let got = file.read(&mut buffer[done..]).unwrap_or(0);
+        if got == 0 {
+            break;
+        }
+        done += got;
+    }
+    done
+}
+
+// Reads what must be printed for file i; where its file cannot be opened, that is nothing.
+fn take_answer(rt: &impl Files, i: usize, buffer: &mut [u8]) -> usize
+    ensures { result ≤ length buffer.new }
+{
+    let name = name_of_answer(i);
+    match fs::open(rt, name.as_str()) {
+        Ok(file) => take(file, buffer),
+        Err(_) => 0,
+    }
 }
 
 fn same(a: &[u8], b: &[u8]) -> bool {
@@ -69,37 +68,31 @@ fn differs(file: &[u8], stored: &[u8]) -> u64
 }
 
 // The same of file i, which is open.
-fn replayed(file: i32, i: usize, buffer: &mut [u8]) -> u64
+fn replayed<R: Read + Drop>(rt: &impl Files, file: R, i: usize, buffer: &mut [u8]) -> u64
     ensures { result ≤ 1 }
 {
     let got = take(file, buffer);
     let mut stored = [0u8; 2049];
-    let name = name_of_answer(i);
-    let wanted = take(os::open_read(&name), &mut stored);
+    let wanted = take_answer(rt, i, &mut stored);
     differs(&buffer[..got], &stored[..wanted])
 }
 
-fn report(count: u64, differing: u64) {
-    io::write_all(STDOUT_FILENO, b"bend files: ");
-    io::print_decimal(STDOUT_FILENO, count);
-    io::write_all(STDOUT_FILENO, b" replayed, ");
-    io::print_decimal(STDOUT_FILENO, differing);
-    io::write_all(STDOUT_FILENO, b" differing\n");
+fn report(rt: &impl Print, count: u64, differing: u64) -> io::Result<()> {
+    println!(rt; "bend files: {count} replayed, {differing} differing")
 }
 
 // As many as there are, at most a thousand. The longest file is one byte longer than a bend file may be.
-pub fn replay() {
+pub fn replay(rt: &(impl Files + Print)) -> io::Result<()> {
     let mut buffer = [0u8; 65537];
     let mut differing: u64 = 0;
     let mut i = 0;
     while i < 1000 {
         let name = name_of_file(i);
-        let file = os::open_read(&name);
-        if file < 0 {
-            break;
+        match fs::open(rt, name.as_str()) {
+            Ok(file) => differing += replayed(rt, file, i, &mut buffer),
+            Err(_) => break,
         }
-        differing += replayed(file, i, &mut buffer);
         i += 1;
     }
-    report(i as u64, differing);
+    report(rt, i as u64, differing)
 }

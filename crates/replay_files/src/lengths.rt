@@ -3,7 +3,7 @@
 ghost use Rattle.std.specs.Prelude.{◌≤◌};
 
 use boxed::{BoxAnswer, BoxSolver};
-use libc::STDOUT_FILENO;
+use std::io;
 
 fn number(answer: BoxAnswer) -> u64 {
     match answer {
@@ -42,19 +42,18 @@ fn call(w: usize, n: usize, lo: usize, motion: usize, room: usize) -> u64
     ))
 }
 
-fn print(number: u64) {
-    io::write_all(STDOUT_FILENO, b" ");
-    io::print_decimal(STDOUT_FILENO, number);
+fn print(rt: &impl Print, number: u64) -> io::Result<()> {
+    print!(rt; " {number}")
 }
 
-pub fn replay() {
-    io::write_all(STDOUT_FILENO, b"numbers of lengths:");
-    print(call(1024, 33, 33, 0, 2304));
-    print(call(4, 2, 2, 2049, 2304));
-    print(call(3, 2, 2, 2, 2304));
-    print(call(4, 2, 1, 2, 2304));
-    print(call(4, 2, 2, 3, 2304));
-    print(call(4, 2, 2, 2, 2303));
-    print(call(4, 2, 2, 2, 2304));
-    io::write_all(STDOUT_FILENO, b"\n");
+pub fn replay(rt: &impl Print) -> io::Result<()> {
+    print!(rt; "numbers of lengths:")?;
+    print(rt, call(1024, 33, 33, 0, 2304))?;
+    print(rt, call(4, 2, 2, 2049, 2304))?;
+    print(rt, call(3, 2, 2, 2, 2304))?;
+    print(rt, call(4, 2, 1, 2, 2304))?;
+    print(rt, call(4, 2, 2, 3, 2304))?;
+    print(rt, call(4, 2, 2, 2, 2303))?;
+    print(rt, call(4, 2, 2, 2, 2304))?;
+    println!(rt)
 }

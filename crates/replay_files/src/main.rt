@@ -5,7 +5,9 @@
 mod files;
 mod lengths;
 
-fn main() {
-    files::replay();
-    lengths::replay();
+use std::io;
+
+fn main(rt: HostRuntime) -> io::Result<()> {
+    files::replay(&rt)?;
+    lengths::replay(&rt)
 }
