@@ -1,7 +1,7 @@
 // Lists of three reports, joined one by one by value and as a list that is lent.
 use crate::{lend, same};
-use libc::STDOUT_FILENO;
 use report::{Joined, SolveReport};
+use std::io;
 
 fn next(joined: Joined, report: SolveReport) -> Joined {
     match joined {
@@ -25,36 +25,46 @@ fn report(increments: u32, sweeps: u32, passes: u32, residual: f64) -> SolveRepo
     r
 }
 
-fn print(joined: Joined) {
+fn print(rt: &impl Print, joined: Joined) -> io::Result<()> {
     match joined {
-        Joined::Refused(number) => {
-            io::write_all(STDOUT_FILENO, b"joined: refused ");
-            io::print_decimal(STDOUT_FILENO, number as u64)
-        }
-        Joined::Report(both) => {
-            io::write_all(STDOUT_FILENO, b"joined: sweeps ");
-            io::print_decimal(STDOUT_FILENO, both.sweeps as u64)
-        }
-    };
+        Joined::Refused(number) => print!(rt; "joined: refused {number}"),
+        Joined::Report(both) => print!(rt; "joined: sweeps {}", both.sweeps),
+    }
 }
 
-fn join(first: SolveReport, second: SolveReport, third: SolveReport) {
+fn join(
+    rt: &impl Print,
+    first: SolveReport,
+    second: SolveReport,
+    third: SolveReport,
+) -> io::Result<()> {
     let lent = lend::lend_list(first, second, third);
-    print(lent);
-    same::print(same::joined(by_value(first, second, third), lent));
+    print(rt, lent)?;
+    same::print(rt, same::joined(by_value(first, second, third), lent))
 }
 
-pub fn replay() {
+pub fn replay(rt: &impl Print) -> io::Result<()> {
     let one = report(1, 3, 2, 0.5);
     let nan = report(2, 200, 9, 0.0 / 0.0);
     let most = report(4294967295, 7, 7, -1.0);
     join(
+        rt,
         SolveReport::NOTHING,
         SolveReport::NOTHING,
         SolveReport::NOTHING,
-    );
-    join(one, nan, one);
-    join(nan, one, most);
-    join(most, SolveReport::NOTHING, report(0, 4294967288, 0, 0.0));
-    join(most, SolveReport::NOTHING, report(0, 4294967289, 0, 0.0));
+    )?;
+    join(rt, one, nan, one)?;
+    join(rt, nan, one, most)?;
+    join(
+        rt,
+        most,
+        SolveReport::NOTHING,
+        report(0, 4294967288, 0, 0.0),
+    )?;
+    join(
+        rt,
+        most,
+        SolveReport::NOTHING,
+        report(0, 4294967289, 0, 0.0),
+    )
 }

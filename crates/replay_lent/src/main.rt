@@ -1,6 +1,5 @@
 // Runs the two calls that are lent structs, `tallied::solve_into` and `report::join_all`, beside the calls by value
-// that give the same, on lists with refusals among them. A function that lends a struct is proved by a walk of its
-// code by hand, so only the two of `lend` do.
+// that give the same, on lists with refusals among them. The functions that lend a struct are the two of `lend`.
 #![tactic(auto)]
 
 mod joins;
@@ -8,7 +7,9 @@ mod lend;
 mod same;
 mod solves;
 
-fn main() {
-    solves::replay();
-    joins::replay();
+use std::io;
+
+fn main(rt: HostRuntime) -> io::Result<()> {
+    solves::replay(&rt)?;
+    joins::replay(&rt)
 }

@@ -1,7 +1,7 @@
 // Whether two reports, answers or lists are the same, all NaNs as one.
 use boxed::{BoxAnswer, BoxReport, Cause};
-use libc::STDOUT_FILENO;
 use report::{Joined, SolveReport};
+use std::io;
 
 // Whether two floats are the same number, or both NaN.
 fn float(a: f64, b: f64) -> bool {
@@ -87,10 +87,10 @@ pub fn two_floats(a: [f64; 2], b: [f64; 2]) -> bool {
 }
 
 // The line's last word.
-pub fn print(same: bool) {
+pub fn print(rt: &impl Print, same: bool) -> io::Result<()> {
     if same {
-        io::write_all(STDOUT_FILENO, b" same\n");
+        println!(rt; " same")
     } else {
-        io::write_all(STDOUT_FILENO, b" differs\n");
+        println!(rt; " differs")
     }
 }

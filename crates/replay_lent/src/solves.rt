@@ -1,8 +1,8 @@
 // A list of tallied solves, each with the tally by value and with the tally lent, from what the one before left.
 use crate::{lend, same};
 use boxed::BoxAnswer;
-use libc::STDOUT_FILENO;
 use report::SolveReport;
+use std::io;
 use tallied::Tallied;
 
 // What a solve leaves of its buffers.
@@ -107,57 +107,54 @@ fn same_left(a: Left, b: Left) -> bool {
         && rows[1] == list[1]
 }
 
-fn print_answer(answer: BoxAnswer) {
+fn print_answer(rt: &impl Print, answer: BoxAnswer) -> io::Result<()> {
     match answer {
-        BoxAnswer::Solved(_) => io::write_all(STDOUT_FILENO, b"solved"),
-        BoxAnswer::Infeasible(_, _, _) => io::write_all(STDOUT_FILENO, b"infeasible"),
-        BoxAnswer::Refused(number) => {
-            io::write_all(STDOUT_FILENO, b"refused ");
-            io::print_decimal(STDOUT_FILENO, number as u64)
-        }
-    };
+        BoxAnswer::Solved(_) => print!(rt; "solved"),
+        BoxAnswer::Infeasible(_, _, _) => print!(rt; "infeasible"),
+        BoxAnswer::Refused(number) => print!(rt; "refused {number}"),
+    }
 }
 
-fn print_count(n: u32) {
-    io::write_all(STDOUT_FILENO, b" ");
-    io::print_decimal(STDOUT_FILENO, n as u64);
+fn print_count(rt: &impl Print, n: u32) -> io::Result<()> {
+    print!(rt; " {n}")
 }
 
-fn print_flag(flag: bool) {
+fn print_flag(rt: &impl Print, flag: bool) -> io::Result<()> {
     if flag {
-        io::write_all(STDOUT_FILENO, b" 1");
+        print!(rt; " 1")
     } else {
-        io::write_all(STDOUT_FILENO, b" 0");
+        print!(rt; " 0")
     }
 }
 
 // The answer; of the tally increments, sweeps, passes, and whether it is converged and exact.
-fn print_tallied(tallied: Tallied) {
+fn print_tallied(rt: &impl Print, tallied: Tallied) -> io::Result<()> {
     let answer = tallied.answer;
     let tally = tallied.tally;
-    print_answer(answer);
-    io::write_all(STDOUT_FILENO, b", tally");
-    print_count(tally.increments);
-    print_count(tally.sweeps);
-    print_count(tally.exact_passes);
-    print_flag(tally.converged);
-    print_flag(tally.exact);
+    print_answer(rt, answer)?;
+    print!(rt; ", tally")?;
+    print_count(rt, tally.increments)?;
+    print_count(rt, tally.sweeps)?;
+    print_count(rt, tally.exact_passes)?;
+    print_flag(rt, tally.converged)?;
+    print_flag(rt, tally.exact)
 }
 
 // Both forms of a solve; the tally that the lent form leaves.
 fn solve(
+    rt: &impl Print,
     tally: SolveReport,
     w: &[f64],
     u_free: &[f64],
     scale: &[f64],
     workspace: &mut [f64],
-) -> SolveReport {
+) -> io::Result<SolveReport> {
     let one = by_value(tally, w, u_free, scale, workspace);
     let other = lent(tally, w, u_free, scale, workspace);
     let left = other.tallied;
-    print_tallied(left);
-    same::print(same_left(one, other));
-    left.tally
+    print_tallied(rt, left)?;
+    same::print(rt, same_left(one, other))?;
+    Ok(left.tally)
 }
 
 // A tally that holds no solve more.
@@ -167,7 +164,7 @@ fn full(tally: SolveReport) -> SolveReport {
     most
 }
 
-pub fn replay() {
+pub fn replay(rt: &impl Print) -> io::Result<()> {
     let mut workspace = [7.0f64; 2304];
     let mut short = [7.0f64; 2303];
     let unit = [1.0f64; 2];
@@ -178,14 +175,22 @@ pub fn replay() {
     let against = [1.0f64, -1.0, -1.0, 1.0];
     let alike = [1.0f64; 4];
     let soft = [0.000000059604644775390625f64, 0.0, 0.0, 1.0];
-    let mut t = solve(SolveReport::NOTHING, &apart, &down, &unit, &mut workspace);
-    t = solve(t, &apart, &down, &none, &mut workspace);
-    t = solve(t, &apart, &nan, &unit, &mut workspace);
-    t = solve(t, &against, &down, &unit, &mut workspace);
-    t = solve(t, &unit, &down, &unit, &mut workspace);
-    t = solve(t, &alike, &down, &unit, &mut workspace);
-    t = solve(t, &alike, &down, &unit, &mut short);
-    t = solve(t, &soft, &down, &unit, &mut workspace);
-    t = solve(full(t), &apart, &down, &unit, &mut workspace);
-    solve(t, &apart, &down, &none, &mut workspace);
+    let mut t = solve(
+        rt,
+        SolveReport::NOTHING,
+        &apart,
+        &down,
+        &unit,
+        &mut workspace,
+    )?;
+    t = solve(rt, t, &apart, &down, &none, &mut workspace)?;
+    t = solve(rt, t, &apart, &nan, &unit, &mut workspace)?;
+    t = solve(rt, t, &against, &down, &unit, &mut workspace)?;
+    t = solve(rt, t, &unit, &down, &unit, &mut workspace)?;
+    t = solve(rt, t, &alike, &down, &unit, &mut workspace)?;
+    t = solve(rt, t, &alike, &down, &unit, &mut short)?;
+    t = solve(rt, t, &soft, &down, &unit, &mut workspace)?;
+    t = solve(rt, full(t), &apart, &down, &unit, &mut workspace)?;
+    solve(rt, t, &apart, &down, &none, &mut workspace)?;
+    Ok(())
 }
