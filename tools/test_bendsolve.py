@@ -137,8 +137,9 @@ class Output(unittest.TestCase):
         self.assertIn(b"the answer is not whole", run.stderr)
 
     def test_nobody_reads(self):
-        """SIGPIPE ends the program and nothing is said; where it is ignored, a message and status 0."""
-        for ignored, status, words in ((False, -signal.SIGPIPE, b""), (True, 0, b"bendsolve: the answer is not whole: standard output: Broken pipe\n")):
+        """A message and status 0, however SIGPIPE stood before: the kit's start of a program has it ignored."""
+        words = b"bendsolve: the answer is not whole: standard output: Broken pipe\n"
+        for ignored, status in ((False, 0), (True, 0)):
             out, into = os.pipe()
             os.close(out)
             action = signal.SIG_IGN if ignored else signal.SIG_DFL
