@@ -1,5 +1,5 @@
 // The solve of a triangle by plain numbers, and the tallied one.
-ghost use Rattle.std.specs.Prelude.{◌≡◌, length};
+ghost use Rattle.std.specs.Prelude.{length};
 ghost use Rattle.floats.specs.Ops as ops;
 ghost use Rattle.boxed.specs.Solve as solve;
 ghost use Rattle.triangle.specs.Triangle as triangle;

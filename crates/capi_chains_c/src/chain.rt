@@ -1,6 +1,4 @@
 // Chained bend files, for C and Rust.
-ghost use Rattle.std.specs.Prelude.{◌≡◌, ◌≤◌, length, set};
-ghost use Rattle.loops.specs.Loops as loops;
 ghost use Rattle.capi_chains.specs.Chains as def;
 
 // How many steps a chained bend file has, in steps[0], and where the trailer of each ends, newest first, in the first

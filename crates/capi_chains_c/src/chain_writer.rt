@@ -1,5 +1,5 @@
 // The writer of chained bend files, for C and Rust.
-ghost use Rattle.std.specs.Prelude.{◌≡◌, ◌≤◌, length};
+ghost use Rattle.std.specs.Prelude.{length};
 ghost use Rattle.bend_writer.specs.Write as write;
 ghost use Rattle.capi_chains.specs.ChainWriter as def;
 

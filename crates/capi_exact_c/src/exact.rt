@@ -1,7 +1,5 @@
 // Exact row sums by plain numbers: 67 words, and two counts, how many products they hold and whether a free motion. A
 // call that is refused writes nothing.
-ghost use Rattle.std.specs.Prelude.{◌≡◌, ◌≤◌, length, take};
-ghost use Rattle.loops.specs.Loops as loops;
 ghost use Rattle.accumulator.specs.Accumulators as acc;
 ghost use Rattle.accumulator.specs.Joins as joins;
 ghost use Rattle.capi_exact.specs.Exact as def;

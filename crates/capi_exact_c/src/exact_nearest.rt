@@ -1,5 +1,4 @@
 // The f64 nearest to an exact row sum, by plain numbers.
-ghost use Rattle.std.specs.Prelude.{◌≡◌};
 ghost use Rattle.capi_exact.specs.ExactNearest as def;
 
 // The f64 nearest to what the first 67 words mean: 0, and result[0] is the value; or 10 where a slice is too short,
