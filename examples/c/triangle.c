@@ -2,10 +2,10 @@
  * The sculling rig: eighteen pads under one shaft. Its cell board sends the
  * symmetric matrix as the lower triangle by rows, which is solved as it comes.
  *
- * From the repository's root, after `rt staticlib capi`:
+ * From the repository's root, after `tools/archive.sh`:
  *
  *   cc -std=c99 -Wall -Wextra -I include examples/c/triangle.c \
- *      target/staticlib/libcapi.a -o target/triangle && target/triangle
+ *      target/staticlib/libpiskorlu.a -o target/triangle && target/triangle
  */
 #include <math.h>
 #include <stdio.h>
