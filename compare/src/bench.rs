@@ -12,6 +12,7 @@ use crate::plot::{self, Series};
 use crate::port;
 use std::fs;
 use std::path::Path;
+use std::process::Command;
 
 /// The sizes measured.
 #[cfg(original)]
@@ -105,8 +106,8 @@ fn page(tables: &str, plotted: bool) -> String {
         "# Performance\n\n\
          The port beside the original Rust, on the same inputs in one process. Made by\n\n    \
          tools/archive.sh\n    cargo run --release --offline -- bench --write\n\n\
-         on {}, {}. The two take turns, and the medians of the rounds are given. Inputs are copied before each\n\
-         round, outside the time. The original keeps its workspace from call to call; the port is lent one.\n\n\
+         on {}, {}, the port as {} built it. The two take turns,\n\
+         and the medians of the rounds are given. Inputs are copied before each round, outside the time. The original keeps its workspace from call to call; the port is lent one.\n\n\
          {tables}{plot}\
          The square root is taken over an array of 65,536 positive values of all exponents. Called: the hardware's\n\
          instruction behind a call, as the port is; inlined: in the loop, where the compiler may take several at once.\n\n\
@@ -116,8 +117,17 @@ fn page(tables: &str, plotted: bool) -> String {
          32; nearest is taken of the sums of 64 such rows. A join is of two halves of 16 products, 64 pairs in a round, and\n\
          every round has others, so that no carries are known from the last. The original has no exact sums.\n",
         processor(),
-        env!("COMPARE_RUSTC")
+        env!("COMPARE_RUSTC"),
+        kit()
     )
+}
+
+/// The name of the Rattle kit on the PATH, which is the one that built the archive.
+fn kit() -> String {
+    let said = Command::new("rt").arg("version").output().ok();
+    let line = said.and_then(|said| String::from_utf8(said.stdout).ok());
+    let name = line.and_then(|line| line.split_whitespace().next().map(str::to_string));
+    name.unwrap_or_else(|| String::from("a kit not known"))
 }
 
 /// The processor's name.
