@@ -2,6 +2,7 @@
 """Spells the repository's own definitions and lemmas as today's library does: words in snake case, a dash only between two names.
 
 usage: tools/respell.py [--check]        at the top of the repository; --check writes nothing and lists the names that change
+       tools/respell.py --constants      the numbers of CONSTANTS alone, in their files
 
 A name is the repository's own if a file of specs/ or proofs/ declares it: a definition, a lemma, a field of a record, a case of a data type.
 What changes, in the clauses of src/, in specs/, proofs/ and the must-fail edits (comments and pages too, where they name it):
@@ -9,7 +10,7 @@ What changes, in the clauses of src/, in specs/, proofs/ and the must-fail edits
   NaN (a number)       nan_bits, since a constant of specs/ is no type
   row-end, tab-length  row_end, tab-length: the dash stays only before the name of a definition, as `length`
 The goals that Rattle names, as `returns-2`, and names that a proof gives to its goals keep their spelling. Functions of src/, exported names
-and strings are not touched. It was run once, right after the kit's port.py.
+and strings are not touched. It was run once, right after the kit's port.py, and once more with --constants.
 """
 
 import glob
@@ -45,6 +46,21 @@ def texts(root):
         for p in sorted(glob.glob(f"{root}/crates/*/{kind}/**/*.antt", recursive=True)):
             if "/out/" not in p:
                 yield p
+
+# numbers of one capital letter in lemma files: a word for each, in the files that declare or import it
+CONSTANTS = {
+    "accumulator/proofs/Patterns.antt": {"H": "hidden_bit", "S": "sign_bit"},
+    "accumulator/proofs/Exact.antt": {"M": "largest_term"},
+    "floats/proofs/SquareRoot/Branches.antt": {"H": "hidden_bit", "S": "sign_bit", "I": "infinity_bits", "Z": "zero_float"},
+    "floats/proofs/SquareRoot/Halves.antt": {"B": "half_size"},
+    "floats/proofs/SquareRoot/Midpoint.antt": {"H": "hidden_bit", "I": "infinity_bits", "Z": "zero_float"},
+    "floats/proofs/SquareRoot/Normal.antt": {"H": "hidden_bit", "I": "infinity_bits"},
+    "floats/proofs/SquareRoot/Patterns.antt": {"H": "hidden_bit", "S": "sign_bit"},
+    "floats/proofs/SquareRoot/Square.antt": {"H": "hidden_bit", "I": "infinity_bits"},
+    "nearest/proofs/Patterns.antt": {"H": "hidden_bit", "I": "infinity_bits"},
+    "nearest/proofs/Steps.antt": {"H": "hidden_bit", "S": "sign_bit", "I": "infinity_bits"},
+    "nearest/proofs/Units.antt": {"L": "low_digit"},
+}
 
 
 def snake(name):
@@ -116,6 +132,12 @@ def collisions(root, out):
 
 def main(argv):
     root = "."
+    if "--constants" in argv:
+        for path, words in CONSTANTS.items():
+            path = f"{root}/crates/{path}"
+            t = open(path, encoding="utf-8").read()
+            open(path, "w", encoding="utf-8").write(WORD.sub(lambda m: words.get(m[0], m[0]), t))
+        return 0
     out = table(root)
     if "--check" in argv:
         for old in sorted(out):

@@ -143,10 +143,10 @@ units-bound nan h = nought (2 ^ 2098)
 units-bound (inf s) h = nought (2 ^ 2098)
 units-bound (fin s m e) h = rw (signed-abs s (unit_count m e)) (count-bound m e (held-bound m e s h))
 
-abbrev M : ℕ
-M = 2 ^ 2098 * 2 ^ 2098
+abbrev largest_term : ℕ
+largest_term = 2 ^ 2098 * 2 ^ 2098
 
-term-bound : (t : Term) → Held t → nat_abs (term t) ≤ M
+term-bound : (t : Term) → Held t → nat_abs (term t) ≤ largest_term
 unfolding free_term product_term
 term-bound (free u) h = rw (mul-abs (units u) (pos (2 ^ 1074))) (mul-le-mul (units-bound u h) (pow_mono (leb-true 1074 2098 refl)))
 term-bound (product w v) h = rw (mul-abs (units w) (units v)) (mul-le-mul (units-bound w h.0) (units-bound v h.1))
@@ -159,18 +159,18 @@ one false = 0
 
 record State (a : Accumulator) (z : ℤ) : Type 0 where
   like : Congruent z (value a.words)
-  near : nat_abs z ≤ (a.products + one a.free) * M
+  near : nat_abs z ≤ (a.products + one a.free) * largest_term
   few : a.products ≤ 32
 
 larger : (a b c n m : ℕ) → a ≤ b + c → b ≤ m → c ≤ n * m → a ≤ (n + 1) * m
 larger a b c n m e f g = omega (arith, e, f, g)
 
 module _ (a : Accumulator) (z : ℤ) (s : State a z) where
-  took : (l : List ℕ) (n : ℕ) (f : Bool) (x : ℤ) → nat_abs x ≤ M → l ≡ added a.words x → n + one f ≡ a.products + one a.free + 1 → n ≤ 32 → State (record { words = l; products = n; free = f }) (x +ℤ z)
+  took : (l : List ℕ) (n : ℕ) (f : Bool) (x : ℤ) → nat_abs x ≤ largest_term → l ≡ added a.words x → n + one f ≡ a.products + one a.free + 1 → n ≤ 32 → State (record { words = l; products = n; free = f }) (x +ℤ z)
   took l n f x h e c k =
       record {
         like = subst (λ (v : ℕ). Congruent (x +ℤ z) v) (sym (ap value e ∙ added-value a.words x)) (congruent-add x z (residue x) (value a.words) (residue-is x) s.like);
-        near = subst (λ (i : ℕ). nat_abs (x +ℤ z) ≤ i * M) (sym c) (larger (nat_abs (x +ℤ z)) (nat_abs x) (nat_abs z) (a.products + one a.free) M (add-bound x z) h s.near);
+        near = subst (λ (i : ℕ). nat_abs (x +ℤ z) ≤ i * largest_term) (sym c) (larger (nat_abs (x +ℤ z)) (nat_abs x) (nat_abs z) (a.products + one a.free) largest_term (add-bound x z) h s.near);
         few = k;
       }
 
@@ -197,7 +197,7 @@ unfolding EMPTY
 empty-state =
     record {
       like = record { p = 0; q = 0; is = refl-zero; small = subst (λ (x : ℕ). x < size) (sym (words-value 0 size_pos)) size_pos };
-      near = nought ((0 + one false) * M);
+      near = nought ((0 + one false) * largest_term);
       few = nought 32;
     }
   where
@@ -216,9 +216,9 @@ two_halves : size ≡ half + half
 unfolding size half
 two_halves = refl
 
-fits-half : (n k : ℕ) → n ≤ k * M → k ≤ 33 → n < half
+fits-half : (n k : ℕ) → n ≤ k * largest_term → k ≤ 33 → n < half
 unfolding half
-fits-half n k h g = lt_of_le_of_lt (le_trans h (mul-le-mul_right M g)) (ltb→lt (33 * M) (2 ^ 4287) tt)
+fits-half n k h g = lt_of_le_of_lt (le_trans h (mul-le-mul_right largest_term g)) (ltb→lt (33 * largest_term) (2 ^ 4287) tt)
 
 opposites : (x s : ℕ) → 0 < x → x < s + s → x % s ≡ 0 → x ≡ s
 opposites x s h g e = go (ltb x s) refl

@@ -12,30 +12,30 @@ use Rattle.accumulator.specs.Accumulators.{units, signed}
 use Rattle.accumulator.specs.Steps.{pattern, Scales}
 
 -- 2 ^ 52 and 2 ^ 63
-abbrev H : ℕ
-H = 4503599627370496
+abbrev hidden_bit : ℕ
+hidden_bit = 4503599627370496
 
-abbrev S : ℕ
-S = 9223372036854775808
+abbrev sign_bit : ℕ
+sign_bit = 9223372036854775808
 
 -- ---- the fields of a pattern
 
 alike : (s s' : Bool) (x x' t t' : ℕ) → s ≡ s' → x ≡ x' → t ≡ t' → of_fields binary64 s x t ≡ of_fields binary64 s' x' t'
 alike s s' x x' t t' p q r = cc
 
-low_bit : (m : ℕ) → m < S → leb S (0 + m) ≡ false
-low_bit m h = is_false (leb S (0 + m)) (not_T (leb S (0 + m)) (λ u. below (leb→le S (0 + m) u)))
+low_bit : (m : ℕ) → m < sign_bit → leb sign_bit (0 + m) ≡ false
+low_bit m h = is_false (leb sign_bit (0 + m)) (not_T (leb sign_bit (0 + m)) (λ u. below (leb→le sign_bit (0 + m) u)))
   where
-    below : S ≤ 0 + m → ⊥
+    below : sign_bit ≤ 0 + m → ⊥
     below u = omega (arith, u, h)
 
-high_bit : (m : ℕ) → leb S (S + m) ≡ true
-high_bit m = is_true (leb S (S + m)) (le→leb S (S + m) (omega arith))
+high_bit : (m : ℕ) → leb sign_bit (sign_bit + m) ≡ true
+high_bit m = is_true (leb sign_bit (sign_bit + m)) (le→leb sign_bit (sign_bit + m) (omega arith))
 
-fields_of : (s : Bool) (m : ℕ) → m < S → pattern s m ≡ of_fields binary64 s (m / H) (m % H)
+fields_of : (s : Bool) (m : ℕ) → m < sign_bit → pattern s m ≡ of_fields binary64 s (m / hidden_bit) (m % hidden_bit)
 unfolding of_bits
-fields_of false m h = alike (leb S (0 + m)) false ((0 + m) % S / H) (m / H) ((0 + m) % H) (m % H) (low_bit m h) (omega (arith, h)) (omega (arith, h))
-fields_of true m h = alike (leb S (S + m)) true ((S + m) % S / H) (m / H) ((S + m) % H) (m % H) (high_bit m) (omega (arith, h)) (omega (arith, h))
+fields_of false m h = alike (leb sign_bit (0 + m)) false ((0 + m) % sign_bit / hidden_bit) (m / hidden_bit) ((0 + m) % hidden_bit) (m % hidden_bit) (low_bit m h) (omega (arith, h)) (omega (arith, h))
+fields_of true m h = alike (leb sign_bit (sign_bit + m)) true ((sign_bit + m) % sign_bit / hidden_bit) (m / hidden_bit) ((sign_bit + m) % hidden_bit) (m % hidden_bit) (high_bit m) (omega (arith, h)) (omega (arith, h))
 
 at_zero : (s : Bool) (t : ℕ) → of_fields binary64 s 0 t ≡ odd 53 s t 0 1074
 unfolding of_fields
@@ -44,9 +44,9 @@ at_zero s t = refl
 differ : (x : ℕ) → suc x < 2047 → suc x ≡ 2047 → ⊥
 differ x h e = omega (arith, h, e)
 
-under_ones : (s : Bool) (x t : ℕ) → suc x < 2047 → of_fields binary64 s (suc x) t ≡ odd 53 s (H + t) x 1074
+under_ones : (s : Bool) (x t : ℕ) → suc x < 2047 → of_fields binary64 s (suc x) t ≡ odd 53 s (hidden_bit + t) x 1074
 unfolding of_fields
-under_ones s x t h = cond_no (eqb (suc x) 2047) (cond (eqb t 0) (inf s) nan) (odd 53 s (H + t) x 1074) (not_T (eqb (suc x) 2047) (λ u. differ x h (eqb→eq (suc x) 2047 u)))
+under_ones s x t h = cond_no (eqb (suc x) 2047) (cond (eqb t 0) (inf s) nan) (odd 53 s (hidden_bit + t) x 1074) (not_T (eqb (suc x) 2047) (λ u. differ x h (eqb→eq (suc x) 2047 u)))
 
 at_ones : (s : Bool) (t : ℕ) → is_fin (of_fields binary64 s 2047 t) ≡ false
 unfolding of_fields
@@ -72,22 +72,22 @@ units_odd s q k = units_of_lem (odd 53 s q k 1074) s (q * 2 ^ k) (odd_sign 53 s 
 
 -- ---- a magnitude's pattern as digits and places
 
-pub small-scales : (s : Bool) (m : ℕ) → m < H → Scales (pattern s m) s m 0
+pub small-scales : (s : Bool) (m : ℕ) → m < hidden_bit → Scales (pattern s m) s m 0
 small-scales s m h =
-    let x : m / H ≡ 0 = omega (arith, h) in
-    let t : m % H ≡ m = omega (arith, h) in
-    let v : pattern s m ≡ odd 53 s m 0 1074 = fields_of s m (omega (arith, h)) ∙ alike s s (m / H) 0 (m % H) m refl x t ∙ at_zero s m in
+    let x : m / hidden_bit ≡ 0 = omega (arith, h) in
+    let t : m % hidden_bit ≡ m = omega (arith, h) in
+    let v : pattern s m ≡ odd 53 s m 0 1074 = fields_of s m (omega (arith, h)) ∙ alike s s (m / hidden_bit) 0 (m % hidden_bit) m refl x t ∙ at_zero s m in
     record { same = ap units v ∙ units_odd s m 0; short = omega (arith, h); low = omega arith }
 
-pub large-scales : (s : Bool) (m : ℕ) → H ≤ m → m < 0x7ff0000000000000 → Scales (pattern s m) s (m % H + H) (m / H - 1)
+pub large-scales : (s : Bool) (m : ℕ) → hidden_bit ≤ m → m < 0x7ff0000000000000 → Scales (pattern s m) s (m % hidden_bit + hidden_bit) (m / hidden_bit - 1)
 large-scales s m g h =
-    let k = m / H - 1 in
-    let x : m / H ≡ suc k = omega (arith, g, h) in
+    let k = m / hidden_bit - 1 in
+    let x : m / hidden_bit ≡ suc k = omega (arith, g, h) in
     let l : suc k < 2047 = omega (arith, g, h) in
-    let q : H + m % H ≡ m % H + H = omega arith in
-    let v : pattern s m ≡ odd 53 s (H + m % H) k 1074 = fields_of s m (omega (arith, h)) ∙ alike s s (m / H) (suc k) (m % H) (m % H) refl x refl ∙ under_ones s k (m % H) l in
+    let q : hidden_bit + m % hidden_bit ≡ m % hidden_bit + hidden_bit = omega arith in
+    let v : pattern s m ≡ odd 53 s (hidden_bit + m % hidden_bit) k 1074 = fields_of s m (omega (arith, h)) ∙ alike s s (m / hidden_bit) (suc k) (m % hidden_bit) (m % hidden_bit) refl x refl ∙ under_ones s k (m % hidden_bit) l in
     record {
-      same = ap units v ∙ units_odd s (H + m % H) k ∙ ap (λ (y : ℕ). signed s (y * 2 ^ k)) q;
+      same = ap units v ∙ units_odd s (hidden_bit + m % hidden_bit) k ∙ ap (λ (y : ℕ). signed s (y * 2 ^ k)) q;
       short = omega arith;
       low = omega (arith, l);
     }
@@ -100,23 +100,23 @@ no_nan nan h = absurd (true≢false (sym h ∙ is-finite nan))
 no_nan (inf s) h = tt
 no_nan (fin s m e) h = tt
 
-pub not_infinite : (s : Bool) (m : ℕ) → m < S → is_finite (pattern s m) ≡ true → m < 0x7ff0000000000000
-not_infinite s m h f = lt_of_not-le (λ g. true≢false (sym f ∙ is-finite (pattern s m) ∙ ap is_fin (fields_of s m h ∙ alike s s (m / H) 2047 (m % H) (m % H) refl (omega (arith, g, h)) refl) ∙ at_ones s (m % H)))
+pub not_infinite : (s : Bool) (m : ℕ) → m < sign_bit → is_finite (pattern s m) ≡ true → m < 0x7ff0000000000000
+not_infinite s m h f = lt_of_not-le (λ g. true≢false (sym f ∙ is-finite (pattern s m) ∙ ap is_fin (fields_of s m h ∙ alike s s (m / hidden_bit) 2047 (m % hidden_bit) (m % hidden_bit) refl (omega (arith, g, h)) refl) ∙ at_ones s (m % hidden_bit)))
 
 pub of-plus : (v : Float) → T (fits binary64 v) → pattern false (to_bits binary64 v) ≡ v
 of-plus v h = ap (λ (x : ℕ). of_bits binary64 x) (zero-add (to_bits binary64 v)) ∙ of_bits-to_bits binary64 v h
 
-pub of_minus : (v : Float) → T (fits binary64 v) → S ≤ to_bits binary64 v → pattern true (to_bits binary64 v - S) ≡ v
+pub of_minus : (v : Float) → T (fits binary64 v) → sign_bit ≤ to_bits binary64 v → pattern true (to_bits binary64 v - sign_bit) ≡ v
 of_minus v h g =
-    let e : S + (to_bits binary64 v - S) ≡ to_bits binary64 v = omega (arith, g) in
+    let e : sign_bit + (to_bits binary64 v - sign_bit) ≡ to_bits binary64 v = omega (arith, g) in
     ap (λ (x : ℕ). of_bits binary64 x) e ∙ of_bits-to_bits binary64 v h
 
 module _ (v : Float) (held : T (fits binary64 v)) (finite : is_finite v ≡ true) where
-  pub plus-lt : to_bits binary64 v < S → to_bits binary64 v < 0x7ff0000000000000
+  pub plus-lt : to_bits binary64 v < sign_bit → to_bits binary64 v < 0x7ff0000000000000
   plus-lt h = not_infinite false (to_bits binary64 v) h (ap is_finite (of-plus v held) ∙ finite)
 
-  pub minus-lt : S ≤ to_bits binary64 v → to_bits binary64 v - S < 0x7ff0000000000000
-  minus-lt g = let l : to_bits binary64 v - S < S = omega (arith, to_bits-lt binary64 v held, g) in not_infinite true (to_bits binary64 v - S) l (ap is_finite (of_minus v held g) ∙ finite)
+  pub minus-lt : sign_bit ≤ to_bits binary64 v → to_bits binary64 v - sign_bit < 0x7ff0000000000000
+  minus-lt g = let l : to_bits binary64 v - sign_bit < sign_bit = omega (arith, to_bits-lt binary64 v held, g) in not_infinite true (to_bits binary64 v - sign_bit) l (ap is_finite (of_minus v held g) ∙ finite)
 
 pub scales-at : (v w : Float) (s : Bool) (d p : ℕ) → v ≡ w → Scales v s d p → Scales w s d p
 scales-at v w s d p e h = subst (λ (x : Float). Scales x s d p) e h

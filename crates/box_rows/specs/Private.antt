@@ -21,7 +21,7 @@ pub record Updated (row : Row) (r : Clamped) : Type 0 where
   pub value : r.value ≡ update row.nu row.u row.diagonal row.lo row.hi
   pub side : r.side ≡ update_side row.nu row.u row.diagonal row.lo row.hi
 
--- the part of `ratioRow` for one bound
+-- the part of `ratio_row` for one bound
 unfoldable pub nearer : ℕ → ℕ → Float → Blocking → Blocking
 nearer a s ratio r = cond (lt ratio r.alpha) (record { alpha = larger ratio 0ᶠ; row = a; state = s }) r
 

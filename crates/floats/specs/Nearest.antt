@@ -18,7 +18,7 @@ abbrev pub below : Float → Float
 below r = of_bits binary64 (to_bits binary64 r - 1)
 
 -- v lies between the squares of the midpoints from r to its two neighbours. Twice a midpoint is the sum of two values in units of 2 ^ -1074; its square is four times
--- the midpoint's square in units of 2 ^ -2148, of which v is `unitsOf v * 2 ^ 1074`.
+-- the midpoint's square in units of 2 ^ -2148, of which v is `units_of v * 2 ^ 1074`.
 pub record Between (v r : Float) : Type 0 where
   pub low : (units_of (below r) + units_of r) * (units_of (below r) + units_of r) < 4 * (units_of v * 2 ^ 1074)
   pub high : 4 * (units_of v * 2 ^ 1074) < (units_of r + units_of (above r)) * (units_of r + units_of (above r))

@@ -13,11 +13,11 @@ use borrow.Author.Tests.{ltb-true, ltb-false}
 use lib.Ieee.{binary64, size, round, of_bits, nan_bits}
 use lib.Ieee.Bits.{nan_bits_above}
 use lib.Ieee.Nearest.{closest}
-use Rattle.floats.proofs.SquareRoot.Patterns.{H, S}
+use Rattle.floats.proofs.SquareRoot.Patterns.{hidden_bit, sign_bit}
 use Rattle.accumulator.specs.Accumulators.{value, base}
 use Rattle.nearest.proofs.Words.{Below, quotient}
 use Rattle.nearest.proofs.Halves.{digit-zero, more_than-half, tie}
-use Rattle.nearest.proofs.Patterns.{I, with-half, rounded-is, overflowed}
+use Rattle.nearest.proofs.Patterns.{infinity_bits, with-half, rounded-is, overflowed}
 
 -- ---- two words without their last digits, by the powers p and q
 
@@ -64,7 +64,7 @@ module _ (m k h : ℕ) (e : h ≡ m / 2 ^ (1073 + k)) (few : m / 2 ^ (1073 + k) 
 -- ---- the pattern; n is the number's size
 
 module _ (m n : ℕ) (e : n ≡ size m) where
-  pub bits-over : 3172 < n → (of_bits binary64 I ≡ round binary64 false m (2 ^ 2148)) × (I ≤ I)
+  pub bits-over : 3172 < n → (of_bits binary64 infinity_bits ≡ round binary64 false m (2 ^ 2148)) × (infinity_bits ≤ infinity_bits)
   bits-over h = (overflowed m (subst (λ (x : ℕ). 3172 < x) e h), omega arith)
 
   pub ask_normal : 1127 < n → m / 2 ^ (1073 + (n - 1127)) < 18014398509481984
@@ -74,20 +74,20 @@ module _ (m n : ℕ) (e : n ≡ size m) where
   ask-low h = with-half m 0 (subst (λ (x : ℕ). x ≤ 1127 + 0) e (omega arith))
 
   pub bits_normal : (q : ℕ) → n ≤ 3172 → q ≡ closest m (2 ^ (1074 + (n - 1127))) → q ≤ 9007199254740992
-      → (of_bits binary64 ((n - 1127) * H + q) ≡ round binary64 false m (2 ^ 2148)) × ((n - 1127) * H + q ≤ I)
+      → (of_bits binary64 ((n - 1127) * hidden_bit + q) ≡ round binary64 false m (2 ^ 2148)) × ((n - 1127) * hidden_bit + q ≤ infinity_bits)
   bits_normal q h g l = (rounded-is m (n - 1127) q (ap (λ (x : ℕ). x - 1127) (sym e)) (omega arith) g, omega arith)
 
-  pub bits-low : (q : ℕ) → n ≤ 1127 → q ≡ closest m (2 ^ (1074 + 0)) → q ≤ 9007199254740992 → (of_bits binary64 q ≡ round binary64 false m (2 ^ 2148)) × (q ≤ I)
+  pub bits-low : (q : ℕ) → n ≤ 1127 → q ≡ closest m (2 ^ (1074 + 0)) → q ≤ 9007199254740992 → (of_bits binary64 q ≡ round binary64 false m (2 ^ 2148)) × (q ≤ infinity_bits)
   bits-low q h g l = (ap (of_bits binary64) nothing ∙ rounded-is m 0 q (ap (λ (x : ℕ). x - 1127) (sym e) ∙ none) (omega arith) g, omega arith)
     where
-      nothing : q ≡ 0 * H + q
+      nothing : q ≡ 0 * hidden_bit + q
       nothing = omega arith
 
       none : n - 1127 ≡ 0
       none = omega arith
 
 -- a pattern up to the infinity's is no NaN's
-pub no_nan : (b : ℕ) → b ≤ I → T (not (nan_bits binary64 b))
+pub no_nan : (b : ℕ) → b ≤ infinity_bits → T (not (nan_bits binary64 b))
 no_nan b h =
-    let s : b < S = omega arith in
-    subst (λ (t : Bool). T (not t)) (sym (nan_bits_above binary64 b ∙ ap (λ (x : ℕ). ltb I x) (mod-eq_of_lt s))) (le→nltb I b h)
+    let s : b < sign_bit = omega arith in
+    subst (λ (t : Bool). T (not t)) (sym (nan_bits_above binary64 b ∙ ap (λ (x : ℕ). ltb infinity_bits x) (mod-eq_of_lt s))) (le→nltb infinity_bits b h)

@@ -17,21 +17,21 @@ less : (n l p : ℕ) → n - l - p ≡ n - (l + p)
 less n l p = omega arith
 
 module _ (f : Format) (s : Bool) (m : ℕ) where
-  abbrev L : ℕ
-  L = low f
+  abbrev low_digit : ℕ
+  low_digit = low f
 
-  dropped : size (m * 2 ^ L / 2 ^ (L + L)) - prec f ≡ size m - (L + prec f)
+  dropped : size (m * 2 ^ low_digit / 2 ^ (low_digit + low_digit)) - prec f ≡ size m - (low_digit + prec f)
   dropped =
-      ap (λ (x : ℕ). size (m * 2 ^ L / x) - prec f) (pow-add 2 L L)
-      ∙ ap (λ (x : ℕ). size x - prec f) (mul-div-mul_right m (2 ^ L) (pow_pos L))
-      ∙ ap (λ (x : ℕ). x - prec f) (size_shr m L)
-      ∙ less (size m) L (prec f)
+      ap (λ (x : ℕ). size (m * 2 ^ low_digit / x) - prec f) (pow-add 2 low_digit low_digit)
+      ∙ ap (λ (x : ℕ). size x - prec f) (mul-div-mul_right m (2 ^ low_digit) (pow_pos low_digit))
+      ∙ ap (λ (x : ℕ). x - prec f) (size_shr m low_digit)
+      ∙ less (size m) low_digit (prec f)
 
-  cut_at : (k : ℕ) → closest (m * 2 ^ L) (2 ^ (L + L) * 2 ^ k) ≡ closest m (2 ^ (L + k))
+  cut_at : (k : ℕ) → closest (m * 2 ^ low_digit) (2 ^ (low_digit + low_digit) * 2 ^ k) ≡ closest m (2 ^ (low_digit + k))
   cut_at k =
-      closest_same (m * 2 ^ L) (2 ^ (L + L) * 2 ^ k) m (2 ^ (L + k)) (mul-pos (pow_pos (L + L)) (pow_pos k)) (pow_pos (L + k))
-      (cross m (2 ^ L) (2 ^ k) (2 ^ (L + k)) (2 ^ (L + L)) (pow-add 2 L k) (pow-add 2 L L))
+      closest_same (m * 2 ^ low_digit) (2 ^ (low_digit + low_digit) * 2 ^ k) m (2 ^ (low_digit + k)) (mul-pos (pow_pos (low_digit + low_digit)) (pow_pos k)) (pow_pos (low_digit + k))
+      (cross m (2 ^ low_digit) (2 ^ k) (2 ^ (low_digit + k)) (2 ^ (low_digit + low_digit)) (pow-add 2 low_digit k) (pow-add 2 low_digit low_digit))
 
-  pub round-units : (k : ℕ) → size m - (L + prec f) ≡ k → round f s m (2 ^ (L + L)) ≡ units f s (closest m (2 ^ (L + k))) k
+  pub round-units : (k : ℕ) → size m - (low_digit + prec f) ≡ k → round f s m (2 ^ (low_digit + low_digit)) ≡ units f s (closest m (2 ^ (low_digit + k))) k
   round-units k e =
-      round_is f s m (2 ^ (L + L)) ∙ ap (core f s (m * 2 ^ L) (2 ^ (L + L))) (dropped ∙ e) ∙ ap (λ (q : ℕ). units f s q k) (cut_at k)
+      round_is f s m (2 ^ (low_digit + low_digit)) ∙ ap (core f s (m * 2 ^ low_digit) (2 ^ (low_digit + low_digit))) (dropped ∙ e) ∙ ap (λ (q : ℕ). units f s q k) (cut_at k)

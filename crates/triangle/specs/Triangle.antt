@@ -53,7 +53,7 @@ wrong_length k n motion = within_limits n motion && not (eqb k (row_start n))
 unfoldable pub triangle_refusal : ℕ → box.Problem → List Float → List Float → List ℕ → List ℕ → ℕ → ℕ
 triangle_refusal k p motion nu st l room = cond (wrong_length k (box.size p) (length motion)) 16 (refusal p motion nu st l room)
 
--- every answer but 16 is `solveReply` of the mirrored matrix: `as-mirrored` in proofs/Mirrored.antt
+-- every answer but 16 is `solve_reply` of the mirrored matrix: `as-mirrored` in proofs/Mirrored.antt
 unfoldable pub triangle_reply : ℕ → box.Problem → Watch → List Float → List ℕ → List ℕ → ℕ → Result
 triangle_reply k p m nu st l room = reply SWEEP_CAP p m nu st l (triangle_refusal k p m.motion nu st l room)
 

@@ -13,56 +13,56 @@ use lib.Ieee.{Float, nan, inf, fin, binary64, up, down, odd, of_fields, of_bits,
 use lib.Ieee.Bits.{is_true, of_bits-to_bits, nan_bits_is, nan_bits_above}
 use lib.Ieee.Fits.{up_pos, and_l}
 use Rattle.floats.specs.Sqrt.{sqrt}
-use Rattle.floats.proofs.SquareRoot.Patterns.{H, S}
-use Rattle.floats.proofs.SquareRoot.Normal.{I}
+use Rattle.floats.proofs.SquareRoot.Patterns.{hidden_bit, sign_bit}
+use Rattle.floats.proofs.SquareRoot.Normal.{infinity_bits}
 
 -- 0.0, as the code has it
-abbrev pub Z : Float
-Z = of_bits binary64 0
+abbrev pub zero_float : Float
+zero_float = of_bits binary64 0
 
 not-both : {A : Type 0} {b : Bool} → b ≡ true → b ≡ false → A
 not-both p q = absurd (true≢false (sym p ∙ q))
 
 -- ---- v > 0.0
 
-pub no_nan : (v : Float) → lt Z v ≡ true → T (not (is_nan v))
+pub no_nan : (v : Float) → lt zero_float v ≡ true → T (not (is_nan v))
 unfolding lt is_nan of_bits
 no_nan nan h = absurd (true≢false (sym h))
 no_nan (inf s) h = tt
 no_nan (fin s m e) h = tt
 
-zero-not-above : lt Z Z ≡ false
+zero-not-above : lt zero_float zero_float ≡ false
 unfolding lt of_bits
 zero-not-above = refl
 
-pub bits_pos : (v : Float) → T (fits binary64 v) → lt Z v ≡ true → 0 < to_bits binary64 v
+pub bits_pos : (v : Float) → T (fits binary64 v) → lt zero_float v ≡ true → 0 < to_bits binary64 v
 bits_pos v f h = elim (eq-zero-or-pos (to_bits binary64 v)) [
-  | inl z ↦ not-both (ap (λ (x : Float). lt Z x) (ap (of_bits binary64) (sym z) ∙ of_bits-to_bits binary64 v f) ∙ h) zero-not-above
+  | inl z ↦ not-both (ap (λ (x : Float). lt zero_float x) (ap (of_bits binary64) (sym z) ∙ of_bits-to_bits binary64 v f) ∙ h) zero-not-above
   | inr p ↦ p
 ]
 
 -- a pattern from 2 ^ 63 up has the sign
-odd-below : (q k : ℕ) → lt Z (odd 53 true q k 1074) ≡ false
+odd-below : (q k : ℕ) → lt zero_float (odd 53 true q k 1074) ≡ false
 unfolding lt odd of_bits
 odd-below zero k = refl
 odd-below (suc q) k = refl
 
-below-zero : (x t : ℕ) → lt Z (of_fields binary64 true x t) ≡ false
+below-zero : (x t : ℕ) → lt zero_float (of_fields binary64 true x t) ≡ false
 unfolding lt of_fields of_bits
 below-zero zero t = odd-below t 0
 below-zero (suc x) t = go (eqb (suc x) 2047) (eqb t 0)
   where
-    go : (a b : Bool) → lt Z (cond a (cond b (inf true) nan) (odd 53 true (H + t) x 1074)) ≡ false
+    go : (a b : Bool) → lt zero_float (cond a (cond b (inf true) nan) (odd 53 true (hidden_bit + t) x 1074)) ≡ false
     go true true = refl
     go true false = refl
-    go false b = odd-below (H + t) x
+    go false b = odd-below (hidden_bit + t) x
 
-signed : (b : ℕ) → S ≤ b → lt Z (of_bits binary64 b) ≡ false
+signed : (b : ℕ) → sign_bit ≤ b → lt zero_float (of_bits binary64 b) ≡ false
 unfolding of_bits
-signed b h = ap (λ (s : Bool). lt Z (of_fields binary64 s (b % S / H) (b % H))) (is_true (leb S b) (le→leb S b h)) ∙ below-zero (b % S / H) (b % H)
+signed b h = ap (λ (s : Bool). lt zero_float (of_fields binary64 s (b % sign_bit / hidden_bit) (b % hidden_bit))) (is_true (leb sign_bit b) (le→leb sign_bit b h)) ∙ below-zero (b % sign_bit / hidden_bit) (b % hidden_bit)
 
 -- from the infinity's pattern on there is, of the values above zero, only the infinity
-inf-is : of_bits binary64 I ≡ inf false
+inf-is : of_bits binary64 infinity_bits ≡ inf false
 unfolding of_bits
 inf-is = refl
 
@@ -70,36 +70,36 @@ sqrt_inf : sqrt (inf false) ≡ inf false
 unfolding sqrt
 sqrt_inf = refl
 
-at_most : (b : ℕ) → b < S → T (not (is_nan (of_bits binary64 b))) → b ≤ I
-at_most b h n = nltb→le I b (subst (λ (t : Bool). T (not t)) (sym (nan_bits_is binary64 b) ∙ nan_bits_above binary64 b ∙ ap (λ (x : ℕ). ltb I x) (mod-eq_of_lt h)) n)
+at_most : (b : ℕ) → b < sign_bit → T (not (is_nan (of_bits binary64 b))) → b ≤ infinity_bits
+at_most b h n = nltb→le infinity_bits b (subst (λ (t : Bool). T (not t)) (sym (nan_bits_is binary64 b) ∙ nan_bits_above binary64 b ∙ ap (λ (x : ℕ). ltb infinity_bits x) (mod-eq_of_lt h)) n)
 
-is_inf : (b : ℕ) → I ≤ b → lt Z (of_bits binary64 b) ≡ true → of_bits binary64 b ≡ inf false
-is_inf b h k = go (leb S b) (leb→le S b) (nleb→lt S b)
+is_inf : (b : ℕ) → infinity_bits ≤ b → lt zero_float (of_bits binary64 b) ≡ true → of_bits binary64 b ≡ inf false
+is_inf b h k = go (leb sign_bit b) (leb→le sign_bit b) (nleb→lt sign_bit b)
   where
-    go : (t : Bool) → (T t → S ≤ b) → (T (not t) → b < S) → of_bits binary64 b ≡ inf false
+    go : (t : Bool) → (T t → sign_bit ≤ b) → (T (not t) → b < sign_bit) → of_bits binary64 b ≡ inf false
     go true a c = not-both k (signed b (a tt))
     go false a c = ap (of_bits binary64) (le_antisymm (at_most b (c tt) (no_nan (of_bits binary64 b) k)) h) ∙ inf-is
 
-pub inf_only : (v : Float) → T (fits binary64 v) → lt Z v ≡ true → I ≤ to_bits binary64 v → v ≡ inf false
+pub inf_only : (v : Float) → T (fits binary64 v) → lt zero_float v ≡ true → infinity_bits ≤ to_bits binary64 v → v ≡ inf false
 inf_only v f h k =
     let e : of_bits binary64 (to_bits binary64 v) ≡ v = of_bits-to_bits binary64 v f in
-    sym e ∙ is_inf (to_bits binary64 v) k (ap (λ (x : Float). lt Z x) e ∙ h)
+    sym e ∙ is_inf (to_bits binary64 v) k (ap (λ (x : Float). lt zero_float x) e ∙ h)
 
-pub from_inf : (v : Float) → T (fits binary64 v) → lt Z v ≡ true → I ≤ to_bits binary64 v → v ≡ sqrt v
+pub from_inf : (v : Float) → T (fits binary64 v) → lt zero_float v ≡ true → infinity_bits ≤ to_bits binary64 v → v ≡ sqrt v
 from_inf v f h k = let i = inf_only v f h k in i ∙ sym sqrt_inf ∙ ap sqrt (sym i)
 
 -- the pattern of a finite positive value is no NaN's
-pub finite-bits : (b : ℕ) → b < I → T (not (nan_bits binary64 b))
+pub finite-bits : (b : ℕ) → b < infinity_bits → T (not (nan_bits binary64 b))
 finite-bits b h =
-    let s : b < S = omega arith in
-    subst (λ (t : Bool). T (not t)) (sym (nan_bits_above binary64 b ∙ ap (λ (x : ℕ). ltb I x) (mod-eq_of_lt s))) (le→nltb I b (omega arith))
+    let s : b < sign_bit = omega arith in
+    subst (λ (t : Bool). T (not t)) (sym (nan_bits_above binary64 b ∙ ap (λ (x : ℕ). ltb infinity_bits x) (mod-eq_of_lt s))) (le→nltb infinity_bits b (omega arith))
 
 -- ---- v == 0.0
 
 nothing : (m : ℕ) (e : ℤ) → suc m * up e * 1 ≡ 0 * 1 * down e → ⊥
 nothing m e h = lt_irrefl 0 (subst (λ (x : ℕ). 0 < x) (sym (mul-one (suc m * up e)) ∙ h ∙ ap (λ (x : ℕ). x * down e) (zero-mul 1) ∙ zero-mul (down e)) (mul-pos (zero-lt-suc m) (up_pos e)))
 
-pub at_zero : (v : Float) → eq v Z ≡ true → v ≡ sqrt v
+pub at_zero : (v : Float) → eq v zero_float ≡ true → v ≡ sqrt v
 unfolding eq sqrt of_bits
 at_zero nan h = absurd (true≢false (sym h))
 at_zero (inf s) h = absurd (true≢false (sym h))
@@ -119,7 +119,7 @@ clash s a b p q h =
 none : (e : ℤ) → 0 * 1 * down e ≡ 0
 none e = zero-mul (down e)
 
-pub neither : (v : Float) → lt Z v ≡ false → eq v Z ≡ false → div binary64 Z Z ≡ sqrt v
+pub neither : (v : Float) → lt zero_float v ≡ false → eq v zero_float ≡ false → div binary64 zero_float zero_float ≡ sqrt v
 unfolding lt eq sqrt div of_bits
 neither nan h k = refl
 neither (inf true) h k = refl

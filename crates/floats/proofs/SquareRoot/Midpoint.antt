@@ -19,91 +19,91 @@ use Rattle.floats.proofs.Order.{ticks_pos}
 use Rattle.floats.specs.Sqrt.{whole_root, sqrt}
 use Rattle.floats.specs.Nearest.{units_of, above, Between}
 use Rattle.floats.proofs.SquareRoot.Whole.{Whole, root-whole}
-use Rattle.floats.proofs.SquareRoot.Patterns.{H, normal, subnormal, units_odd, scaled-is, four_is}
-use Rattle.floats.proofs.SquareRoot.Normal.{I, Norm, of_normal, of_subnormal, evened, p_range, root-pattern}
-use Rattle.floats.proofs.SquareRoot.Branches.{Z, finite-bits, bits_pos, inf_only}
+use Rattle.floats.proofs.SquareRoot.Patterns.{hidden_bit, normal, subnormal, units_odd, scaled-is, four_is}
+use Rattle.floats.proofs.SquareRoot.Normal.{infinity_bits, Norm, of_normal, of_subnormal, evened, p_range, root-pattern}
+use Rattle.floats.proofs.SquareRoot.Branches.{zero_float, finite-bits, bits_pos, inf_only}
 
 -- ---- the units of a pattern
 
 abbrev pub val : ℕ → ℕ
 val b = units_of (of_bits binary64 b)
 
-pub val_normal : (k q : ℕ) → H ≤ q → q < 2 * H → suc k < 2047 → val (k * H + q) ≡ q * 2 ^ k
+pub val_normal : (k q : ℕ) → hidden_bit ≤ q → q < 2 * hidden_bit → suc k < 2047 → val (k * hidden_bit + q) ≡ q * 2 ^ k
 val_normal k q lo hi h = ap units_of (normal k q lo hi h) ∙ units_odd q k
 
-val-low : (b : ℕ) → b < H → val b ≡ b
+val-low : (b : ℕ) → b < hidden_bit → val b ≡ b
 val-low b h = ap units_of (subnormal b h) ∙ units_odd b 0 ∙ mul-one b
 
 pub twice : (k : ℕ) → 2 ^ suc k ≡ 2 * 2 ^ k
 twice k = pow-succ' 2 k
 
 -- one pattern up from q * 2 ^ k is (q + 1) * 2 ^ k, with a carry too
-pub val_up : (k q : ℕ) → H ≤ q → q < 2 * H → k * H + q + 1 < I → val (k * H + q + 1) ≡ (q + 1) * 2 ^ k
-val_up k q lo hi h = go (leb (2 * H) (q + 1)) (leb→le (2 * H) (q + 1)) (nleb→lt (2 * H) (q + 1))
+pub val_up : (k q : ℕ) → hidden_bit ≤ q → q < 2 * hidden_bit → k * hidden_bit + q + 1 < infinity_bits → val (k * hidden_bit + q + 1) ≡ (q + 1) * 2 ^ k
+val_up k q lo hi h = go (leb (2 * hidden_bit) (q + 1)) (leb→le (2 * hidden_bit) (q + 1)) (nleb→lt (2 * hidden_bit) (q + 1))
   where
-    go : (t : Bool) → (T t → 2 * H ≤ q + 1) → (T (not t) → q + 1 < 2 * H) → val (k * H + q + 1) ≡ (q + 1) * 2 ^ k
+    go : (t : Bool) → (T t → 2 * hidden_bit ≤ q + 1) → (T (not t) → q + 1 < 2 * hidden_bit) → val (k * hidden_bit + q + 1) ≡ (q + 1) * 2 ^ k
     go true a c =
-        let e : q + 1 ≡ 2 * H = let x = a tt in omega arith in
-        let b : k * H + q + 1 ≡ suc k * H + H = omega arith in
-        let s : H * (2 * 2 ^ k) ≡ 2 * H * 2 ^ k = omega arith in
+        let e : q + 1 ≡ 2 * hidden_bit = let x = a tt in omega arith in
+        let b : k * hidden_bit + q + 1 ≡ suc k * hidden_bit + hidden_bit = omega arith in
+        let s : hidden_bit * (2 * 2 ^ k) ≡ 2 * hidden_bit * 2 ^ k = omega arith in
         let m : suc (suc k) < 2047 = omega arith in
-        ap val b ∙ val_normal (suc k) H (le_refl H) (lit< tt) m ∙ ap (λ (x : ℕ). H * x) (twice k) ∙ s ∙ ap (λ (x : ℕ). x * 2 ^ k) (sym e)
+        ap val b ∙ val_normal (suc k) hidden_bit (le_refl hidden_bit) (lit< tt) m ∙ ap (λ (x : ℕ). hidden_bit * x) (twice k) ∙ s ∙ ap (λ (x : ℕ). x * 2 ^ k) (sym e)
     go false a c =
-        let b : k * H + q + 1 ≡ k * H + (q + 1) = omega arith in
-        let l : H ≤ q + 1 = omega arith in
+        let b : k * hidden_bit + q + 1 ≡ k * hidden_bit + (q + 1) = omega arith in
+        let l : hidden_bit ≤ q + 1 = omega arith in
         let m : suc k < 2047 = omega arith in
         ap val b ∙ val_normal k (q + 1) l (c tt) m
 
 -- one pattern down is (q - 1) * 2 ^ k, but below a power of two the steps are half as wide
-pub val_down : (k q : ℕ) → H < q → q < 2 * H → suc k < 2047 → val (k * H + q - 1) ≡ (q - 1) * 2 ^ k
+pub val_down : (k q : ℕ) → hidden_bit < q → q < 2 * hidden_bit → suc k < 2047 → val (k * hidden_bit + q - 1) ≡ (q - 1) * 2 ^ k
 val_down k q lo hi h =
-    let b : k * H + q - 1 ≡ k * H + (q - 1) = omega arith in
-    let l : H ≤ q - 1 = omega arith in
-    let m : q - 1 < 2 * H = omega arith in
+    let b : k * hidden_bit + q - 1 ≡ k * hidden_bit + (q - 1) = omega arith in
+    let l : hidden_bit ≤ q - 1 = omega arith in
+    let m : q - 1 < 2 * hidden_bit = omega arith in
     ap val b ∙ val_normal k (q - 1) l m h
 
-pub val_down_power : (k : ℕ) → suc (suc k) < 2047 → val (suc k * H + H - 1) ≡ (2 * H - 1) * 2 ^ k
+pub val_down_power : (k : ℕ) → suc (suc k) < 2047 → val (suc k * hidden_bit + hidden_bit - 1) ≡ (2 * hidden_bit - 1) * 2 ^ k
 val_down_power k h =
-    let b : suc k * H + H - 1 ≡ k * H + (2 * H - 1) = omega arith in
+    let b : suc k * hidden_bit + hidden_bit - 1 ≡ k * hidden_bit + (2 * hidden_bit - 1) = omega arith in
     let m : suc k < 2047 = omega arith in
-    ap val b ∙ val_normal k (2 * H - 1) (omega arith) (lit< tt) m
+    ap val b ∙ val_normal k (2 * hidden_bit - 1) (omega arith) (lit< tt) m
 
 -- ---- a larger pattern has a larger value
 
-val-step : (b : ℕ) → b + 1 < I → val b ≤ val (b + 1)
-val-step b h = go (leb H b) (leb→le H b) (nleb→lt H b)
+val-step : (b : ℕ) → b + 1 < infinity_bits → val b ≤ val (b + 1)
+val-step b h = go (leb hidden_bit b) (leb→le hidden_bit b) (nleb→lt hidden_bit b)
   where
-    last : (b : ℕ) → b < H → val b ≤ val (b + 1)
+    last : (b : ℕ) → b < hidden_bit → val b ≤ val (b + 1)
     last b l = elim (eq-or-lt_of_le (add-one-le l)) [
-      | inl e ↦ le_trans (le_of_eq (val-low b l)) (le_trans (le_of_lt l) (le_of_eq (sym (ap val e ∙ val_normal 0 H (le_refl H) (lit< tt) (lit< tt)))))
+      | inl e ↦ le_trans (le_of_eq (val-low b l)) (le_trans (le_of_lt l) (le_of_eq (sym (ap val e ∙ val_normal 0 hidden_bit (le_refl hidden_bit) (lit< tt) (lit< tt)))))
       | inr k ↦ le_trans (le_of_eq (val-low b l)) (le_trans (le-add_right b 1) (le_of_eq (sym (val-low (b + 1) k))))
     ]
 
-    go : (t : Bool) → (T t → H ≤ b) → (T (not t) → b < H) → val b ≤ val (b + 1)
+    go : (t : Bool) → (T t → hidden_bit ≤ b) → (T (not t) → b < hidden_bit) → val b ≤ val (b + 1)
     go true a c =
         let l = a tt in
-        let k = b / H - 1 in
-        let q = b % H + H in
-        let e : b ≡ k * H + q = omega arith in
-        let lo : H ≤ q = omega arith in
-        let hi : q < 2 * H = omega arith in
+        let k = b / hidden_bit - 1 in
+        let q = b % hidden_bit + hidden_bit in
+        let e : b ≡ k * hidden_bit + q = omega arith in
+        let lo : hidden_bit ≤ q = omega arith in
+        let hi : q < 2 * hidden_bit = omega arith in
         let m : suc k < 2047 = omega arith in
-        let n : k * H + q + 1 < I = omega arith in
+        let n : k * hidden_bit + q + 1 < infinity_bits = omega arith in
         le_trans (le_of_eq (ap val e ∙ val_normal k q lo hi m)) (le_trans (mul-le-mul_right (2 ^ k) (le-add_right q 1)) (le_of_eq (sym (ap (λ (x : ℕ). val (x + 1)) e ∙ val_up k q lo hi n))))
     go false a c = last b (c tt)
 
-val_mono_by : (d b : ℕ) → b + d < I → val b ≤ val (b + d)
+val_mono_by : (d b : ℕ) → b + d < infinity_bits → val b ≤ val (b + d)
 val_mono_by zero b h = le_of_eq (ap val (sym (add-zero b)))
 val_mono_by (suc d) b h =
     let e : b + suc d ≡ b + d + 1 = omega arith in
-    let l : b + d + 1 < I = omega arith in
-    let m : b + d < I = omega arith in
+    let l : b + d + 1 < infinity_bits = omega arith in
+    let m : b + d < infinity_bits = omega arith in
     le_trans (val_mono_by d b m) (le_trans (val-step (b + d) l) (le_of_eq (ap val (sym e))))
 
-pub val_mono : (a b : ℕ) → a ≤ b → b < I → val a ≤ val b
+pub val_mono : (a b : ℕ) → a ≤ b → b < infinity_bits → val a ≤ val b
 val_mono a b h l =
     let e : a + (b - a) ≡ b = omega arith in
-    subst (λ (x : ℕ). val a ≤ val x) e (val_mono_by (b - a) a (subst (λ (x : ℕ). x < I) (sym e) l))
+    subst (λ (x : ℕ). val a ≤ val x) e (val_mono_by (b - a) a (subst (λ (x : ℕ). x < infinity_bits) (sym e) l))
 
 -- ---- the root's neighbours, with u for 2 ^ (k - 1)
 
@@ -156,68 +156,68 @@ power-side X u g U h =
 abbrev pub Sides : ℕ → ℕ → Type 0
 Sides w R = ((val (R - 1) + val R) * (val (R - 1) + val R) < 4 * w) × (4 * w < (val R + val (R + 1)) * (val R + val (R + 1)))
 
-module _ (j x p : ℕ) (X-lo : H ≤ x) (w : Whole (x * 2 ^ 54) p) (r : (2 ^ 53 ≤ p) × (p ≤ 2 ^ 54 - 2)) (J : j < 2000) where
+module _ (j x p : ℕ) (X-lo : hidden_bit ≤ x) (w : Whole (x * 2 ^ 54) p) (r : (2 ^ 53 ≤ p) × (p ≤ 2 ^ 54 - 2)) (J : j < 2000) where
   abbrev q : ℕ
   q = (p + 1) / 2
 
-  q-lo : H ≤ q
+  q-lo : hidden_bit ≤ q
   q-lo = let a = r.0 in omega arith
 
-  q-hi : q < 2 * H
+  q-hi : q < 2 * hidden_bit
   q-hi = let a = r.1 in omega arith
 
   u_pos : 0 < 2 ^ j
   u_pos = pow_pos j
 
-  here : val (suc j * H + q) ≡ q * (2 * 2 ^ j)
+  here : val (suc j * hidden_bit + q) ≡ q * (2 * 2 ^ j)
   here = let m : suc (suc j) < 2047 = omega arith in val_normal (suc j) q q-lo q-hi m ∙ ap (λ (y : ℕ). q * y) (twice j)
 
-  next : val (suc j * H + q + 1) ≡ (q + 1) * (2 * 2 ^ j)
-  next = let a = q-hi in let m : suc j * H + q + 1 < I = omega arith in val_up (suc j) q q-lo q-hi m ∙ ap (λ (y : ℕ). (q + 1) * y) (twice j)
+  next : val (suc j * hidden_bit + q + 1) ≡ (q + 1) * (2 * 2 ^ j)
+  next = let a = q-hi in let m : suc j * hidden_bit + q + 1 < infinity_bits = omega arith in val_up (suc j) q q-lo q-hi m ∙ ap (λ (y : ℕ). (q + 1) * y) (twice j)
 
-  high-side : 4 * (x * 2 ^ 54 * (2 ^ j * 2 ^ j)) < (val (suc j * H + q) + val (suc j * H + q + 1)) * (val (suc j * H + q) + val (suc j * H + q + 1))
+  high-side : 4 * (x * 2 ^ 54 * (2 ^ j * 2 ^ j)) < (val (suc j * hidden_bit + q) + val (suc j * hidden_bit + q + 1)) * (val (suc j * hidden_bit + q) + val (suc j * hidden_bit + q + 1))
   high-side =
-      subst (λ (y : ℕ). 4 * (x * 2 ^ 54 * (2 ^ j * 2 ^ j)) < (y + val (suc j * H + q + 1)) * (y + val (suc j * H + q + 1))) (sym here)
+      subst (λ (y : ℕ). 4 * (x * 2 ^ 54 * (2 ^ j * 2 ^ j)) < (y + val (suc j * hidden_bit + q + 1)) * (y + val (suc j * hidden_bit + q + 1))) (sym here)
       (subst (λ (y : ℕ). 4 * (x * 2 ^ 54 * (2 ^ j * 2 ^ j)) < (q * (2 * 2 ^ j) + y) * (q * (2 * 2 ^ j) + y)) (sym next)
       (up-side (x * 2 ^ 54) p (2 ^ j) u_pos w.high))
 
-  low-side : (val (suc j * H + q - 1) + val (suc j * H + q)) * (val (suc j * H + q - 1) + val (suc j * H + q)) < 4 * (x * 2 ^ 54 * (2 ^ j * 2 ^ j))
+  low-side : (val (suc j * hidden_bit + q - 1) + val (suc j * hidden_bit + q)) * (val (suc j * hidden_bit + q - 1) + val (suc j * hidden_bit + q)) < 4 * (x * 2 ^ 54 * (2 ^ j * 2 ^ j))
   low-side = go (eq-or-lt_of_le q-lo)
     where
-      go : (H ≡ q) ⊎ (H < q) → (val (suc j * H + q - 1) + val (suc j * H + q)) * (val (suc j * H + q - 1) + val (suc j * H + q)) < 4 * (x * 2 ^ 54 * (2 ^ j * 2 ^ j))
+      go : (hidden_bit ≡ q) ⊎ (hidden_bit < q) → (val (suc j * hidden_bit + q - 1) + val (suc j * hidden_bit + q)) * (val (suc j * hidden_bit + q - 1) + val (suc j * hidden_bit + q)) < 4 * (x * 2 ^ 54 * (2 ^ j * 2 ^ j))
       go (inl e) =
           let m : suc (suc j) < 2047 = omega arith in
-          let h : H * H * 4 ≤ x * 2 ^ 54 = omega arith in
-          let a : val (suc j * H + q - 1) ≡ (2 * H - 1) * 2 ^ j = ap (λ (y : ℕ). val (suc j * H + y - 1)) (sym e) ∙ val_down_power j m in
-          let b : val (suc j * H + q) ≡ H * (2 * 2 ^ j) = here ∙ ap (λ (y : ℕ). y * (2 * 2 ^ j)) (sym e) in
-          subst (λ (y : ℕ). (y + val (suc j * H + q)) * (y + val (suc j * H + q)) < 4 * (x * 2 ^ 54 * (2 ^ j * 2 ^ j))) (sym a)
-          (subst (λ (y : ℕ). ((2 * H - 1) * 2 ^ j + y) * ((2 * H - 1) * 2 ^ j + y) < 4 * (x * 2 ^ 54 * (2 ^ j * 2 ^ j))) (sym b)
-          (power-side (x * 2 ^ 54) (2 ^ j) (H - 1) u_pos h))
+          let h : hidden_bit * hidden_bit * 4 ≤ x * 2 ^ 54 = omega arith in
+          let a : val (suc j * hidden_bit + q - 1) ≡ (2 * hidden_bit - 1) * 2 ^ j = ap (λ (y : ℕ). val (suc j * hidden_bit + y - 1)) (sym e) ∙ val_down_power j m in
+          let b : val (suc j * hidden_bit + q) ≡ hidden_bit * (2 * 2 ^ j) = here ∙ ap (λ (y : ℕ). y * (2 * 2 ^ j)) (sym e) in
+          subst (λ (y : ℕ). (y + val (suc j * hidden_bit + q)) * (y + val (suc j * hidden_bit + q)) < 4 * (x * 2 ^ 54 * (2 ^ j * 2 ^ j))) (sym a)
+          (subst (λ (y : ℕ). ((2 * hidden_bit - 1) * 2 ^ j + y) * ((2 * hidden_bit - 1) * 2 ^ j + y) < 4 * (x * 2 ^ 54 * (2 ^ j * 2 ^ j))) (sym b)
+          (power-side (x * 2 ^ 54) (2 ^ j) (hidden_bit - 1) u_pos h))
       go (inr l) =
           let m : suc (suc j) < 2047 = omega arith in
           let f : q ≡ q - 1 + 1 = omega arith in
-          let a : val (suc j * H + q - 1) ≡ (q - 1) * (2 * 2 ^ j) = val_down (suc j) q l q-hi m ∙ ap (λ (y : ℕ). (q - 1) * y) (twice j) in
-          let b : val (suc j * H + q) ≡ (q - 1 + 1) * (2 * 2 ^ j) = here ∙ ap (λ (y : ℕ). y * (2 * 2 ^ j)) f in
-          subst (λ (y : ℕ). (y + val (suc j * H + q)) * (y + val (suc j * H + q)) < 4 * (x * 2 ^ 54 * (2 ^ j * 2 ^ j))) (sym a)
+          let a : val (suc j * hidden_bit + q - 1) ≡ (q - 1) * (2 * 2 ^ j) = val_down (suc j) q l q-hi m ∙ ap (λ (y : ℕ). (q - 1) * y) (twice j) in
+          let b : val (suc j * hidden_bit + q) ≡ (q - 1 + 1) * (2 * 2 ^ j) = here ∙ ap (λ (y : ℕ). y * (2 * 2 ^ j)) f in
+          subst (λ (y : ℕ). (y + val (suc j * hidden_bit + q)) * (y + val (suc j * hidden_bit + q)) < 4 * (x * 2 ^ 54 * (2 ^ j * 2 ^ j))) (sym a)
           (subst (λ (y : ℕ). ((q - 1) * (2 * 2 ^ j) + y) * ((q - 1) * (2 * 2 ^ j) + y) < 4 * (x * 2 ^ 54 * (2 ^ j * 2 ^ j))) (sym b)
           (down-side (x * 2 ^ 54) (q - 1) (2 ^ j) u_pos (down_lt x p (q - 1) f w.low)))
 
 -- ---- `sqrt` of a pattern's value is the value of a pattern with those sides
 
-normed : (b : ℕ) → 0 < b → b < I → (s : ℕ) × (e : ℕ) × Norm b s e
-normed b p h = go (leb H b) (leb→le H b) (nleb→lt H b)
+normed : (b : ℕ) → 0 < b → b < infinity_bits → (s : ℕ) × (e : ℕ) × Norm b s e
+normed b p h = go (leb hidden_bit b) (leb→le hidden_bit b) (nleb→lt hidden_bit b)
   where
-    go : (t : Bool) → (T t → H ≤ b) → (T (not t) → b < H) → (s : ℕ) × (e : ℕ) × Norm b s e
+    go : (t : Bool) → (T t → hidden_bit ≤ b) → (T (not t) → b < hidden_bit) → (s : ℕ) × (e : ℕ) × Norm b s e
     go true a c = (_, _, of_normal b (a tt) h)
     go false a c = (_, _, of_subnormal b p (c tt))
 
 pub record Found (b R : ℕ) : Type 0 where
   pub is : sqrt (of_bits binary64 b) ≡ of_bits binary64 R
   pub pos : 0 < R
-  pub fin : R < I
+  pub fin : R < infinity_bits
   pub sides : Sides (val b * 2 ^ 1074) R
 
-pub found : (b : ℕ) → 0 < b → b < I → (R : ℕ) × Found b R
+pub found : (b : ℕ) → 0 < b → b < infinity_bits → (R : ℕ) × Found b R
 found b P B =
     let z = normed b P B in
     let s = z.0 in
@@ -238,10 +238,10 @@ found b P B =
     let v : val b * 2 ^ 1074 ≡ x * 2 ^ 54 * (2 ^ j * 2 ^ j) = n.val ∙ scaled-is s e E ∙ ap (λ (y : ℕ). x * 2 ^ 54 * y) (four_is j) in
     let r = p_range p n w in
     let t = root-pattern p n w in
-    let R = k * H + (p + 1) / 2 in
+    let R = k * hidden_bit + (p + 1) / 2 in
     let lo = low-side j x p (evened n).low w r J in
     let hi = high-side j x p (evened n).low w r J in
-    let at : Sides (val b * 2 ^ 1074) R = subst (λ (y : ℕ). Sides y R) (sym v) (subst (λ (y : ℕ). Sides (x * 2 ^ 54 * (2 ^ j * 2 ^ j)) (y * H + (p + 1) / 2)) (sym kj) (lo, hi)) in
+    let at : Sides (val b * 2 ^ 1074) R = subst (λ (y : ℕ). Sides y R) (sym v) (subst (λ (y : ℕ). Sides (x * 2 ^ 54 * (2 ^ j * 2 ^ j)) (y * hidden_bit + (p + 1) / 2)) (sym kj) (lo, hi)) in
     let rp = r.0 in
     (R, record { is = sym t.0; pos = omega arith; fin = t.1; sides = at })
 
@@ -250,14 +250,14 @@ found b P B =
 sides_clash : (w a b c d : ℕ) → 4 * w < (a + b) * (a + b) → a ≤ c → b ≤ d → (c + d) * (c + d) < 4 * w → ⊥
 sides_clash w a b c d h p q k = lt_irrefl (4 * w) (lt_trans h (lt_of_le_of_lt (mul-le-mul (add-le-add p q) (add-le-add p q)) k))
 
-pub only_sides : (w R c : ℕ) → 0 < R → R < I → 0 < c → c < I → Sides w R → Sides w c → c ≡ R
+pub only_sides : (w R c : ℕ) → 0 < R → R < infinity_bits → 0 < c → c < infinity_bits → Sides w R → Sides w c → c ≡ R
 only_sides w R c P B Q C s t = go (leb c R) (leb→le c R) (nleb→lt c R)
   where
-    smaller : (a b : ℕ) → 0 < b → b < I → a < b → Sides w a → Sides w b → ⊥
+    smaller : (a b : ℕ) → 0 < b → b < infinity_bits → a < b → Sides w a → Sides w b → ⊥
     smaller a b P B l s t =
         let x : a ≤ b - 1 = omega arith in
         let y : a + 1 ≤ b = omega arith in
-        let z : b - 1 < I = omega arith in
+        let z : b - 1 < infinity_bits = omega arith in
         sides_clash w (val a) (val (a + 1)) (val (b - 1)) (val b) s.1 (val_mono a (b - 1) x z) (val_mono (a + 1) b y B) t.0
 
     go : (b : Bool) → (T b → c ≤ R) → (T (not b) → R < c) → c ≡ R
@@ -265,7 +265,7 @@ only_sides w R c P B Q C s t = go (leb c R) (leb→le c R) (nleb→lt c R)
     go false a d = absurd (smaller R c Q C (d tt) s t)
 
 -- a positive finite value's pattern
-above_zero : (v : Float) → T (positive v) → lt Z v ≡ true
+above_zero : (v : Float) → T (positive v) → lt zero_float v ≡ true
 unfolding lt of_bits
 above_zero nan p = absurd p
 above_zero (inf s) p = absurd p
@@ -277,17 +277,17 @@ above_zero (fin false m e) p =
 no_inf : T (positive (inf false)) → ⊥
 no_inf p = p
 
-pub bits_in : (v : Float) → T (fits binary64 v) → T (positive v) → (0 < to_bits binary64 v) × (to_bits binary64 v < I)
+pub bits_in : (v : Float) → T (fits binary64 v) → T (positive v) → (0 < to_bits binary64 v) × (to_bits binary64 v < infinity_bits)
 bits_in v f p = (
   bits_pos v f (above_zero v p),
-  lt_of_not-le (λ (k : I ≤ to_bits binary64 v). no_inf (subst (λ (x : Float). T (positive x)) (inf_only v f (above_zero v p) k) p)),
+  lt_of_not-le (λ (k : infinity_bits ≤ to_bits binary64 v). no_inf (subst (λ (x : Float). T (positive x)) (inf_only v f (above_zero v p) k) p)),
 )
 
-pattern : (R : ℕ) → R < I → to_bits binary64 (of_bits binary64 R) ≡ R
+pattern : (R : ℕ) → R < infinity_bits → to_bits binary64 (of_bits binary64 R) ≡ R
 pattern R h = to_bits-of_bits binary64 R (lt_trans h (lit< tt)) (subst (λ (t : Bool). T (not t)) (nan_bits_is binary64 R) (finite-bits R h))
 
 -- with v and r for the values of the patterns b and c
-between_of : (b c : ℕ) → c < I → Sides (val b * 2 ^ 1074) c → Between (of_bits binary64 b) (of_bits binary64 c)
+between_of : (b c : ℕ) → c < infinity_bits → Sides (val b * 2 ^ 1074) c → Between (of_bits binary64 b) (of_bits binary64 c)
 between_of b c h s =
     let e = pattern c h in
     record {
@@ -295,7 +295,7 @@ between_of b c h s =
       high = subst (λ (x : ℕ). 4 * (val b * 2 ^ 1074) < (val c + val (x + 1)) * (val c + val (x + 1))) (sym e) s.1;
     }
 
-sides_of : (b c : ℕ) → c < I → Between (of_bits binary64 b) (of_bits binary64 c) → Sides (val b * 2 ^ 1074) c
+sides_of : (b c : ℕ) → c < infinity_bits → Between (of_bits binary64 b) (of_bits binary64 c) → Sides (val b * 2 ^ 1074) c
 sides_of b c h s =
     let e = pattern c h in (
       subst (λ (x : ℕ). (val (x - 1) + val c) * (val (x - 1) + val c) < 4 * (val b * 2 ^ 1074)) e s.low,
@@ -351,7 +351,7 @@ unfolding of_bits to_bits
 at_zero true = refl
 at_zero false = refl
 
-not_negative_positive : (v r : Float) → T (fits binary64 v) → T (positive v) → T (fits binary64 r) → lt r Z ≡ false → Between v r → T (positive r)
+not_negative_positive : (v r : Float) → T (fits binary64 v) → T (positive v) → T (fits binary64 r) → lt r zero_float ≡ false → Between v r → T (positive r)
 unfolding lt of_bits
 not_negative_positive v nan f p g n t = absurd (none_below (units_of v) _ (some-units v f p) at-nan t.high)
 not_negative_positive v (inf true) f p g n t = absurd (true≢false n)
@@ -365,5 +365,5 @@ not_negative_positive v (fin true (suc m) e) f p g n t =
 not_negative_positive v (fin false (suc m) e) f p g n t = lt→ltb 0 (suc m) (zero-lt-suc m)
 
 -- of the f64s not below zero, v lies between the squares of the midpoints to the neighbours of one only
-pub only : (v r : Float) → T (fits binary64 v) → T (positive v) → T (fits binary64 r) → lt r Z ≡ false → Between v r → r ≡ sqrt v
+pub only : (v r : Float) → T (fits binary64 v) → T (positive v) → T (fits binary64 r) → lt r zero_float ≡ false → Between v r → r ≡ sqrt v
 only v r f p g n t = only_positive v r f p g (not_negative_positive v r f p g n t) t

@@ -11,31 +11,31 @@ use lib.Ieee.{Float, binary64, odd, of_bits}
 use Rattle.floats.specs.Sqrt.{whole_root, nearest_root, sqrt}
 use Rattle.floats.specs.Nearest.{units_of}
 use Rattle.floats.proofs.SquareRoot.Whole.{Whole, root-lt, root-whole, whole_unique}
-use Rattle.floats.proofs.SquareRoot.Patterns.{H, normal, subnormal, units_odd, sqrt_odd, pow_lt_back, nearest-scaled}
+use Rattle.floats.proofs.SquareRoot.Patterns.{hidden_bit, normal, subnormal, units_odd, sqrt_odd, pow_lt_back, nearest-scaled}
 
 -- the pattern of the infinity
-abbrev pub I : ℕ
-I = 0x7ff0_0000_0000_0000
+abbrev pub infinity_bits : ℕ
+infinity_bits = 0x7ff0_0000_0000_0000
 
 -- b's value is s * 2 ^ e units of 2 ^ -2148
 pub record Norm (b s e : ℕ) : Type 0 where
-  pub lo : H ≤ s
-  pub hi : s < 2 * H
+  pub lo : hidden_bit ≤ s
+  pub hi : s < 2 * hidden_bit
   pub e-lo : 1000 ≤ e
   pub e-hi : e ≤ 3119
   pub val : units_of (of_bits binary64 b) * 2 ^ 1074 ≡ s * 2 ^ e
   pub is : sqrt (of_bits binary64 b) ≡ nearest_root (s * 2 ^ e)
 
-pub of_normal : (b : ℕ) → H ≤ b → b < I → Norm b (b % H + H) (b / H + 1073)
+pub of_normal : (b : ℕ) → hidden_bit ≤ b → b < infinity_bits → Norm b (b % hidden_bit + hidden_bit) (b / hidden_bit + 1073)
 of_normal b h k =
-    let x = b / H - 1 in
-    let s = b % H + H in
-    let split : b ≡ x * H + s = omega arith in
-    let lo : H ≤ s = omega arith in
-    let hi : s < 2 * H = omega arith in
+    let x = b / hidden_bit - 1 in
+    let s = b % hidden_bit + hidden_bit in
+    let split : b ≡ x * hidden_bit + s = omega arith in
+    let lo : hidden_bit ≤ s = omega arith in
+    let hi : s < 2 * hidden_bit = omega arith in
     let top : suc x < 2047 = omega arith in
     let S : 0 < s = omega arith in
-    let e : x + 1074 ≡ b / H + 1073 = omega arith in
+    let e : x + 1074 ≡ b / hidden_bit + 1073 = omega arith in
     record {
       lo = lo;
       hi = hi;
@@ -49,11 +49,11 @@ of_normal b h k =
 pub record Lead (b z : ℕ) : Type 0 where
   pub above : 11 < z
   pub below : z ≤ 63
-  pub low : H ≤ b * 2 ^ (z - 11)
-  pub high : b * 2 ^ (z - 11) < 2 * H
+  pub low : hidden_bit ≤ b * 2 ^ (z - 11)
+  pub high : b * 2 ^ (z - 11) < 2 * hidden_bit
   pub is : b * 2 ^ (z - 11) * 2 ^ (1074 - (z - 11)) ≡ b * 2 ^ 1074
 
-pub lead : (b : ℕ) → 0 < b → b < H → Lead b (count_leading_zeros 64 b)
+pub lead : (b : ℕ) → 0 < b → b < hidden_bit → Lead b (count_leading_zeros 64 b)
 lead b p h =
     let z = count_leading_zeros 64 b in
     let t = leading_top 64 b p (lt_of_lt_of_le h (lit≤ tt)) in
@@ -72,10 +72,10 @@ lead b p h =
       is = mul_assoc b (2 ^ y) (2 ^ (1074 - y)) ∙ ap (λ (k : ℕ). b * k) (sym (pow-add 2 y (1074 - y)) ∙ ap (λ (k : ℕ). 2 ^ k) q);
     }
 
-wide : (x : ℕ) → x < 2 * H → x % 2 ^ 64 ≡ x
+wide : (x : ℕ) → x < 2 * hidden_bit → x % 2 ^ 64 ≡ x
 wide x h = omega arith
 
-pub of_subnormal : (b : ℕ) → 0 < b → b < H → Norm b (b * 2 ^ (count_leading_zeros 64 b - 11) % 2 ^ 64) (1074 - (count_leading_zeros 64 b - 11))
+pub of_subnormal : (b : ℕ) → 0 < b → b < hidden_bit → Norm b (b * 2 ^ (count_leading_zeros 64 b - 11) % 2 ^ 64) (1074 - (count_leading_zeros 64 b - 11))
 of_subnormal b p h =
     let z = count_leading_zeros 64 b in
     let l = lead b p h in
@@ -97,13 +97,13 @@ of_subnormal b p h =
 -- s or 2 * s, as r is 0 or 1
 pub record Even (s r : ℕ) : Type 0 where
   pub exact : s * 2 ^ r % 2 ^ 64 ≡ s * 2 ^ r
-  pub low : H ≤ s * 2 ^ r
+  pub low : hidden_bit ≤ s * 2 ^ r
   pub high : s * 2 ^ r ≤ 2 ^ 54 - 2
 
 too_large : (r : ℕ) → suc (suc r) < 2 → ⊥
 too_large r h = omega arith
 
-even : (s r : ℕ) → r < 2 → H ≤ s → s < 2 * H → Even s r
+even : (s r : ℕ) → r < 2 → hidden_bit ≤ s → s < 2 * hidden_bit → Even s r
 even s zero h lo hi = record { exact = omega arith; low = omega arith; high = omega arith }
 even s (suc zero) h lo hi = record { exact = omega arith; low = omega arith; high = omega arith }
 even s (suc (suc r)) h lo hi = absurd (too_large r h)
@@ -118,7 +118,7 @@ pub asked : {b s e : ℕ} → Norm b s e → s * 2 ^ (e % 2) % 2 ^ 64 < 2 ^ 54
 asked n = let v = evened n in omega (arith, v.exact, v.high)
 
 -- the root of a number from 2 ^ 106 to 2 ^ 108 - 2 ^ 55 has 54 digits, and is not 2 ^ 54 - 1
-pub root_range : (x p : ℕ) → H ≤ x → x ≤ 2 ^ 54 - 2 → Whole (x * 2 ^ 54) p → (2 ^ 53 ≤ p) × (p ≤ 2 ^ 54 - 2)
+pub root_range : (x p : ℕ) → hidden_bit ≤ x → x ≤ 2 ^ 54 - 2 → Whole (x * 2 ^ 54) p → (2 ^ 53 ≤ p) × (p ≤ 2 ^ 54 - 2)
 root_range x p lo hi w =
     let a : 2 ^ 53 < p + 1 = root-lt (2 ^ 53) (p + 1) (lt_of_le_of_lt (omega arith) w.high) in
     let b : p < 2 ^ 54 - 1 = root-lt p (2 ^ 54 - 1) (lt_of_le_of_lt w.low (omega arith)) in
@@ -138,15 +138,15 @@ module _ {b s e : ℕ} (p : ℕ) (n : Norm b s e) (w : Whole (s * 2 ^ (e % 2) * 
       let small : x < 4 ^ 54 = omega arith in
       whole_unique x (whole_root 54 x) p (root-whole 54 x small) w
 
-  pub root-pattern : (of_bits binary64 ((e / 2 - 26) * H + (p + 1) / 2) ≡ sqrt (of_bits binary64 b)) × ((e / 2 - 26) * H + (p + 1) / 2 < I)
+  pub root-pattern : (of_bits binary64 ((e / 2 - 26) * hidden_bit + (p + 1) / 2) ≡ sqrt (of_bits binary64 b)) × ((e / 2 - 26) * hidden_bit + (p + 1) / 2 < infinity_bits)
   root-pattern =
       let k = e / 2 - 26 in
       let q = (p + 1) / 2 in
       let r = p_range in
       let e-lo = n.e-lo in
       let e-hi = n.e-hi in
-      let q-lo : H ≤ q = omega arith in
-      let q-hi : q < 2 * H = omega arith in
+      let q-lo : hidden_bit ≤ q = omega arith in
+      let q-hi : q < 2 * hidden_bit = omega arith in
       let K : suc k < 2047 = omega arith in
       let E : 54 ≤ e = omega arith in (
         normal k q q-lo q-hi K

@@ -16,51 +16,51 @@ use Rattle.floats.specs.Sqrt.{whole_root, unit_count, nearest_root, sqrt}
 use Rattle.floats.specs.Nearest.{units_of}
 
 -- 2 ^ 52 and 2 ^ 63
-abbrev pub H : ℕ
-H = 4503599627370496
+abbrev pub hidden_bit : ℕ
+hidden_bit = 4503599627370496
 
-abbrev pub S : ℕ
-S = 9223372036854775808
+abbrev pub sign_bit : ℕ
+sign_bit = 9223372036854775808
 
 -- ---- a pattern's value
 
-of_bits_is : (b : ℕ) → of_bits binary64 b ≡ of_fields binary64 (leb S b) (b % S / H) (b % H)
+of_bits_is : (b : ℕ) → of_bits binary64 b ≡ of_fields binary64 (leb sign_bit b) (b % sign_bit / hidden_bit) (b % hidden_bit)
 unfolding of_bits
 of_bits_is b = refl
 
-plain : (b : ℕ) → b < S → of_bits binary64 b ≡ of_fields binary64 false (b / H) (b % H)
+plain : (b : ℕ) → b < sign_bit → of_bits binary64 b ≡ of_fields binary64 false (b / hidden_bit) (b % hidden_bit)
 plain b h =
     of_bits_is b
-    ∙ ap (λ (s : Bool). of_fields binary64 s (b % S / H) (b % H)) (is_false (leb S b) (not_T (leb S b) (λ (u : T (leb S b)). not-le_of_lt h (leb→le S b u))))
-    ∙ ap (λ (x : ℕ). of_fields binary64 false (x / H) (b % H)) (mod-eq_of_lt h)
+    ∙ ap (λ (s : Bool). of_fields binary64 s (b % sign_bit / hidden_bit) (b % hidden_bit)) (is_false (leb sign_bit b) (not_T (leb sign_bit b) (λ (u : T (leb sign_bit b)). not-le_of_lt h (leb→le sign_bit b u))))
+    ∙ ap (λ (x : ℕ). of_fields binary64 false (x / hidden_bit) (b % hidden_bit)) (mod-eq_of_lt h)
 
 differ : (x : ℕ) → suc x < 2047 → suc x ≡ 2047 → ⊥
 differ x h e = omega arith
 
-under_ones : (t x : ℕ) → suc x < 2047 → of_fields binary64 false (suc x) t ≡ odd 53 false (H + t) x 1074
+under_ones : (t x : ℕ) → suc x < 2047 → of_fields binary64 false (suc x) t ≡ odd 53 false (hidden_bit + t) x 1074
 unfolding of_fields
-under_ones t x h = cond_no (eqb (suc x) 2047) (cond (eqb t 0) (inf false) nan) (odd 53 false (H + t) x 1074) (not_T (eqb (suc x) 2047) (λ (u : T (eqb (suc x) 2047)). differ x h (eqb→eq (suc x) 2047 u)))
+under_ones t x h = cond_no (eqb (suc x) 2047) (cond (eqb t 0) (inf false) nan) (odd 53 false (hidden_bit + t) x 1074) (not_T (eqb (suc x) 2047) (λ (u : T (eqb (suc x) 2047)). differ x h (eqb→eq (suc x) 2047 u)))
 
 at_zero : (t : ℕ) → of_fields binary64 false 0 t ≡ odd 53 false t 0 1074
 unfolding of_fields
 at_zero t = refl
 
 -- k * 2 ^ 52 + q for a q of 53 digits: q * 2 ^ k units of the smallest value
-pub normal : (k q : ℕ) → H ≤ q → q < 2 * H → suc k < 2047 → of_bits binary64 (k * H + q) ≡ odd 53 false q k 1074
+pub normal : (k q : ℕ) → hidden_bit ≤ q → q < 2 * hidden_bit → suc k < 2047 → of_bits binary64 (k * hidden_bit + q) ≡ odd 53 false q k 1074
 normal k q lo hi h =
-    let b = k * H + q in
-    let a : b < S = omega arith in
-    let x : b / H ≡ suc k = omega arith in
-    let t : b % H ≡ q - H = omega arith in
-    let y : H + (q - H) ≡ q = omega arith in
-    plain b a ∙ ap (λ (z : ℕ). of_fields binary64 false z (b % H)) x ∙ ap (λ (z : ℕ). of_fields binary64 false (suc k) z) t ∙ under_ones (q - H) k h ∙ ap (λ (z : ℕ). odd 53 false z k 1074) y
+    let b = k * hidden_bit + q in
+    let a : b < sign_bit = omega arith in
+    let x : b / hidden_bit ≡ suc k = omega arith in
+    let t : b % hidden_bit ≡ q - hidden_bit = omega arith in
+    let y : hidden_bit + (q - hidden_bit) ≡ q = omega arith in
+    plain b a ∙ ap (λ (z : ℕ). of_fields binary64 false z (b % hidden_bit)) x ∙ ap (λ (z : ℕ). of_fields binary64 false (suc k) z) t ∙ under_ones (q - hidden_bit) k h ∙ ap (λ (z : ℕ). odd 53 false z k 1074) y
 
-pub subnormal : (t : ℕ) → t < H → of_bits binary64 t ≡ odd 53 false t 0 1074
+pub subnormal : (t : ℕ) → t < hidden_bit → of_bits binary64 t ≡ odd 53 false t 0 1074
 subnormal t h =
-    let a : t < S = omega arith in
-    let x : t / H ≡ 0 = omega arith in
-    let y : t % H ≡ t = omega arith in
-    plain t a ∙ ap (λ (z : ℕ). of_fields binary64 false z (t % H)) x ∙ ap (λ (z : ℕ). of_fields binary64 false 0 z) y ∙ at_zero t
+    let a : t < sign_bit = omega arith in
+    let x : t / hidden_bit ≡ 0 = omega arith in
+    let y : t % hidden_bit ≡ t = omega arith in
+    plain t a ∙ ap (λ (z : ℕ). of_fields binary64 false z (t % hidden_bit)) x ∙ ap (λ (z : ℕ). of_fields binary64 false 0 z) y ∙ at_zero t
 
 -- ---- `sqrt` of a value, by its size
 
@@ -86,12 +86,12 @@ sqrt_of (fin false (suc m) e) a A h = ap (λ (x : ℕ). nearest_root (x * 2 ^ 10
 pub sqrt_odd : (q k : ℕ) → 0 < q → sqrt (odd 53 false q k 1074) ≡ nearest_root (q * 2 ^ (k + 1074))
 sqrt_odd q k Q = sqrt_of (odd 53 false q k 1074) (q * 2 ^ k) (mul-pos Q (pow_pos k)) (odd_sign 53 false q k 1074) ∙ ap nearest_root (mul_assoc q (2 ^ k) (2 ^ 1074) ∙ ap (λ (x : ℕ). q * x) (sym (pow-add 2 k 1074)))
 
--- ---- `nearestRoot` of s * 2 ^ e, for an s of 53 digits
+-- ---- `nearest_root` of s * 2 ^ e, for an s of 53 digits
 
 pub pow_lt_back : (i p : ℕ) → 2 ^ i < 2 ^ p → i < p
 pow_lt_back i p h = lt_of_not-le (λ (g : p ≤ i). lt_irrefl (2 ^ i) (lt_of_lt_of_le h (pow_mono g)))
 
-size_is : (s e : ℕ) → H ≤ s → s < 2 * H → size (s * 2 ^ e) ≡ 53 + e
+size_is : (s e : ℕ) → hidden_bit ≤ s → s < 2 * hidden_bit → size (s * 2 ^ e) ≡ 53 + e
 size_is s e lo hi =
     let n = s * 2 ^ e in
     let u : n < 2 ^ (53 + e) = shl_lt 53 e hi in
@@ -138,7 +138,7 @@ nearest-is : (w k : ℕ) → (size w + 1) / 2 - 53 ≡ k → nearest_root w ≡ 
 unfolding nearest_root
 nearest-is w k e = ap (λ (x : ℕ). odd 53 false ((whole_root 54 (w / 4 ^ (x - 1)) + 1) / 2) x 1074) e
 
-pub nearest-scaled : (s e : ℕ) → H ≤ s → s < 2 * H → 54 ≤ e → nearest_root (s * 2 ^ e) ≡ odd 53 false ((whole_root 54 (s * 2 ^ (e % 2) * 2 ^ 54) + 1) / 2) (e / 2 - 26) 1074
+pub nearest-scaled : (s e : ℕ) → hidden_bit ≤ s → s < 2 * hidden_bit → 54 ≤ e → nearest_root (s * 2 ^ e) ≡ odd 53 false ((whole_root 54 (s * 2 ^ (e % 2) * 2 ^ 54) + 1) / 2) (e / 2 - 26) 1074
 nearest-scaled s e lo hi h =
     nearest-is (s * 2 ^ e) (e / 2 - 26) (ap (λ (x : ℕ). (x + 1) / 2 - 53) (size_is s e lo hi) ∙ dropped e)
     ∙ ap (λ (x : ℕ). odd 53 false ((whole_root 54 x + 1) / 2) (e / 2 - 26) 1074) (scaled s e h)

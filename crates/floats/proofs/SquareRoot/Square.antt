@@ -25,8 +25,8 @@ use Rattle.floats.specs.Nearest.{units_of}
 use Rattle.floats.proofs.Meaning.{unsigned, abs_is}
 use Rattle.floats.proofs.Rank.{ticks, ticks-less}
 use Rattle.floats.proofs.Rounding.{add_zero_pp, same-zero}
-use Rattle.floats.proofs.SquareRoot.Patterns.{H, normal, units_of_lem}
-use Rattle.floats.proofs.SquareRoot.Normal.{I}
+use Rattle.floats.proofs.SquareRoot.Patterns.{hidden_bit, normal, units_of_lem}
+use Rattle.floats.proofs.SquareRoot.Normal.{infinity_bits}
 use Rattle.floats.proofs.SquareRoot.Midpoint.{val, val_normal, val_up, val_down, val_down_power, twice, power-side, val_mono, Sides, found, only_sides, bits_in}
 
 -- ---- the nearest multiple of u is at most half of u away
@@ -67,22 +67,22 @@ less-half h r t p lo hi t_pos k =
     let c : 0 < (r + 1) * t = mul-pos (omega arith) t_pos in
     omega arith
 
-low_of : (r t p v : ℕ) → H ≤ r + 1 → r + 1 < 2 * H → 0 < t → H * p ≤ (r + 1) * (r + 1) * t → 2 * ((r + 1) * (r + 1) * t) ≤ 2 * v + p → (r + (r + 1)) * (r + (r + 1)) * t < 4 * v
-low_of r t p v lo hi t_pos h k = last (lt_of_mul-lt-mul_right H (less-half H r t p lo hi t_pos h)) k
+low_of : (r t p v : ℕ) → hidden_bit ≤ r + 1 → r + 1 < 2 * hidden_bit → 0 < t → hidden_bit * p ≤ (r + 1) * (r + 1) * t → 2 * ((r + 1) * (r + 1) * t) ≤ 2 * v + p → (r + (r + 1)) * (r + (r + 1)) * t < 4 * v
+low_of r t p v lo hi t_pos h k = last (lt_of_mul-lt-mul_right hidden_bit (less-half hidden_bit r t p lo hi t_pos h)) k
   where
     last : 2 * p < (4 * r + 3) * t → 2 * ((r + 1) * (r + 1) * t) ≤ 2 * v + p → (r + (r + 1)) * (r + (r + 1)) * t < 4 * v
     last a k = omega arith
 
-high_of : (q t p v : ℕ) → q < 2 * H → 0 < t → H * p ≤ q * q * t → 2 * v ≤ 2 * (q * q * t) + p → 4 * v < (q + (q + 1)) * (q + (q + 1)) * t
+high_of : (q t p v : ℕ) → q < 2 * hidden_bit → 0 < t → hidden_bit * p ≤ q * q * t → 2 * v ≤ 2 * (q * q * t) + p → 4 * v < (q + (q + 1)) * (q + (q + 1)) * t
 high_of q t p v hi t_pos h k =
-    let a : q * (q * t) ≤ 2 * H * (q * t) = mul-le-mul_right (q * t) (omega arith) in
+    let a : q * (q * t) ≤ 2 * hidden_bit * (q * t) = mul-le-mul_right (q * t) (omega arith) in
     omega arith
 
 -- ---- a square of n units of 2 ^ -1074, rounded: v units, half of p at most away, where p has 52 digits less than n
 
 pub record Rounded (n v p : ℕ) : Type 0 where
   pub value : HasValue (round binary64 false n (2 ^ 1074)) false v (2 ^ 1074)
-  pub digits : H * p ≤ n
+  pub digits : hidden_bit * p ≤ n
   pub near : Half v n p
 
 -- with l for 2 ^ 1074
@@ -92,17 +92,17 @@ halved n l k p L h v e =
     let b : 2 * n * l ≤ (2 * v + p) * l = let x = h.1 in omega arith in
     (le_of_mul-le-mul_right a L, le_of_mul-le-mul_right b L)
 
-digits_of : (n : ℕ) → H ≤ n → H * 2 ^ (size n - 53) ≤ n
+digits_of : (n : ℕ) → hidden_bit ≤ n → hidden_bit * 2 ^ (size n - 53) ≤ n
 digits_of n h =
     let a : 53 ≤ size n = enough n h in
     let b : 52 + (size n - 53) < size n = omega arith in
     subst (λ (x : ℕ). x ≤ n) (pow-add 2 52 (size n - 53)) (size_reaches n (52 + (size n - 53)) b)
   where
-    enough : (n : ℕ) → H ≤ n → 53 ≤ size n
+    enough : (n : ℕ) → hidden_bit ≤ n → 53 ≤ size n
     enough n h = lt_of_not-le (λ (g : size n ≤ 52). not-le_of_lt (lt_of_lt_of_le (size-lt n) (pow_mono g)) h)
 
 -- n * 2 ^ 1074 / 2 ^ 1074 is n
-rounded_by : (n l : ℕ) → 0 < l → H ≤ n → (v : ℕ) × Half v n (2 ^ (size n - 53)) × (v ≡ closest (n * l) (l * 2 ^ (size n - 53)) * 2 ^ (size n - 53))
+rounded_by : (n l : ℕ) → 0 < l → hidden_bit ≤ n → (v : ℕ) × Half v n (2 ^ (size n - 53)) × (v ≡ closest (n * l) (l * 2 ^ (size n - 53)) * 2 ^ (size n - 53))
 rounded_by n l L h =
     let p = 2 ^ (size n - 53) in
     let c = closest (n * l) (l * p) in
@@ -113,10 +113,10 @@ grid-is : (n : ℕ) → grid binary64 n (2 ^ 1074) ≡ closest (n * 2 ^ 1074) (2
 grid-is n = ap (λ (x : ℕ). closest (n * 2 ^ 1074) (2 ^ 1074 * 2 ^ (size x - 53)) * 2 ^ (size x - 53)) (mul-div_cancel n (pow_pos 1074))
 
 -- at most twice n
-under : (n v p m : ℕ) → H * p ≤ n → Half v n p → 2 * n < m → v < m
+under : (n v p m : ℕ) → hidden_bit * p ≤ n → Half v n p → 2 * n < m → v < m
 under n v p m h k l = let x = k.0 in omega arith
 
-pub rounded : (n : ℕ) → H ≤ n → 2 * n < 2 ^ 2098 → (v : ℕ) × (p : ℕ) × Rounded n v p
+pub rounded : (n : ℕ) → hidden_bit ≤ n → 2 * n < 2 ^ 2098 → (v : ℕ) × (p : ℕ) × Rounded n v p
 rounded n h l =
     let p = 2 ^ (size n - 53) in
     let z = rounded_by n (2 ^ 1074) (pow_pos 1074) h in
@@ -154,12 +154,12 @@ squared q e t l h = let b : q * q * l * (e * e) ≡ q * q * l * (t * l) = ap (λ
 abbrev Root : Float → Type 0
 Root x = T (positive (x ⊗ x)) × (sqrt (x ⊗ x) ≡ x)
 
-module _ (k q : ℕ) (lo : H ≤ q) (hi : q < 2 * H) (k-lo : 537 ≤ k) (k-hi : k ≤ 1500) where
+module _ (k q : ℕ) (lo : hidden_bit ≤ q) (hi : q < 2 * hidden_bit) (k-lo : 537 ≤ k) (k-hi : k ≤ 1500) where
   abbrev n : ℕ
   n = q * q * (2 ^ (k - 537) * 2 ^ (k - 537))
 
   abbrev x : Float
-  x = of_bits binary64 (k * H + q)
+  x = of_bits binary64 (k * hidden_bit + q)
 
   t_pos : 0 < 2 ^ (k - 537) * 2 ^ (k - 537)
   t_pos = mul-pos (pow_pos (k - 537)) (pow_pos (k - 537))
@@ -170,10 +170,10 @@ module _ (k q : ℕ) (lo : H ≤ q) (hi : q < 2 * H) (k-lo : 537 ≤ k) (k-hi : 
       split : (a b c d : ℕ) → a ≡ b * c → c * c ≡ d → a * a ≡ b * b * d
       split a b c d p s = let y : b * b * (c * c) ≡ b * b * d = ap (λ (y : ℕ). b * b * y) s in rw p (omega arith)
 
-  n-lo : H ≤ n
+  n-lo : hidden_bit ≤ n
   n-lo = go (2 ^ (k - 537) * 2 ^ (k - 537)) t_pos
     where
-      go : (t : ℕ) → 0 < t → H ≤ q * q * t
+      go : (t : ℕ) → 0 < t → hidden_bit ≤ q * q * t
       go t T = let a : 1 * q ≤ q * q = mul-le-mul_right q (omega arith) in let b : 1 * (q * q) ≤ t * (q * q) = mul-le-mul_right (q * q) T in omega arith
 
   n-hi : 2 * n < 2 ^ 2098
@@ -198,59 +198,59 @@ module _ (k q : ℕ) (lo : H ≤ q) (hi : q < 2 * H) (k-lo : 537 ≤ k) (k-hi : 
       mul_at binary64 x x (q * 2 ^ k) (2 ^ 1074) (q * 2 ^ k) (2 ^ 1074) x_positive x_positive (pow_pos 1074) (pow_pos 1074) x-value x-value
       ∙ round_same binary64 false (q * 2 ^ k * (q * 2 ^ k)) (2 ^ 1074 * 2 ^ 1074) n (2 ^ 1074) (mul-pos (pow_pos 1074) (pow_pos 1074)) (pow_pos 1074) (squared q (2 ^ k) (2 ^ (k - 537) * 2 ^ (k - 537)) (2 ^ 1074) t-is)
 
-  here : val (k * H + q) ≡ q * 2 ^ k
+  here : val (k * hidden_bit + q) ≡ q * 2 ^ k
   here = let m : suc k < 2047 = omega arith in val_normal k q lo hi m
 
-  high-side : (v p : ℕ) → Rounded n v p → 4 * (v * 2 ^ 1074) < (val (k * H + q) + val (k * H + q + 1)) * (val (k * H + q) + val (k * H + q + 1))
+  high-side : (v p : ℕ) → Rounded n v p → 4 * (v * 2 ^ 1074) < (val (k * hidden_bit + q) + val (k * hidden_bit + q + 1)) * (val (k * hidden_bit + q) + val (k * hidden_bit + q + 1))
   high-side v p r =
-      let m : k * H + q + 1 < I = omega arith in
-      subst (λ (y : ℕ). 4 * (v * 2 ^ 1074) < (y + val (k * H + q + 1)) * (y + val (k * H + q + 1))) (sym here)
+      let m : k * hidden_bit + q + 1 < infinity_bits = omega arith in
+      subst (λ (y : ℕ). 4 * (v * 2 ^ 1074) < (y + val (k * hidden_bit + q + 1)) * (y + val (k * hidden_bit + q + 1))) (sym here)
       (subst (λ (y : ℕ). 4 * (v * 2 ^ 1074) < (q * 2 ^ k + y) * (q * 2 ^ k + y)) (sym (val_up k q lo hi m))
       (scale-high v (2 ^ 1074) q (2 ^ k) (2 ^ (k - 537) * 2 ^ (k - 537)) (pow_pos 1074) t-is (high_of q (2 ^ (k - 537) * 2 ^ (k - 537)) p v hi t_pos r.digits r.near.0)))
 
   -- the square of a power of two is exact
-  exact : H ≡ q → HasValue (round binary64 false n (2 ^ 1074)) false n (2 ^ 1074)
+  exact : hidden_bit ≡ q → HasValue (round binary64 false n (2 ^ 1074)) false n (2 ^ 1074)
   exact e =
       let i = 52 + (k - 537) in
       let s : i + i < 2098 = omega arith in
       let g : n ≡ 2 ^ (i + i) = go (2 ^ (k - 537)) (2 ^ i) (pow-add 2 52 (k - 537)) ∙ sym (pow-add 2 i i) in
       round_exact binary64 false n (2 ^ 1074) 1 (i + i) (pow_pos 1074) (lit< tt) (subst (λ (y : ℕ). y < 2 ^ 2098) (sym (one-mul (2 ^ (i + i)))) (pow-lt s)) (ap (λ (y : ℕ). y * 2 ^ 1074) (g ∙ sym (one-mul (2 ^ (i + i)))))
     where
-      go : (u y : ℕ) → y ≡ H * u → q * q * (u * u) ≡ y * y
+      go : (u y : ℕ) → y ≡ hidden_bit * u → q * q * (u * u) ≡ y * y
       go u y d = rw (sym e, d) (omega arith)
 
-  low_power : (v p : ℕ) → Rounded n v p → H ≡ q → (val (k * H + q - 1) + val (k * H + q)) * (val (k * H + q - 1) + val (k * H + q)) < 4 * (v * 2 ^ 1074)
+  low_power : (v p : ℕ) → Rounded n v p → hidden_bit ≡ q → (val (k * hidden_bit + q - 1) + val (k * hidden_bit + q)) * (val (k * hidden_bit + q - 1) + val (k * hidden_bit + q)) < 4 * (v * 2 ^ 1074)
   low_power v p r e =
       let i = k - 1 in
       let d : k ≡ suc i = omega arith in
       let m : suc (suc i) < 2047 = omega arith in
       let w : 2 ^ k ≡ 2 * 2 ^ i = ap (λ (y : ℕ). 2 ^ y) d ∙ twice i in
-      let a : val (k * H + q - 1) ≡ (2 * H - 1) * 2 ^ i = ap (λ (y : ℕ). val (k * H + y - 1)) (sym e) ∙ ap (λ (y : ℕ). val (y * H + H - 1)) d ∙ val_down_power i m in
-      let b : val (k * H + q) ≡ H * (2 * 2 ^ i) = here ∙ ap (λ (y : ℕ). y * 2 ^ k) (sym e) ∙ ap (λ (y : ℕ). H * y) w in
+      let a : val (k * hidden_bit + q - 1) ≡ (2 * hidden_bit - 1) * 2 ^ i = ap (λ (y : ℕ). val (k * hidden_bit + y - 1)) (sym e) ∙ ap (λ (y : ℕ). val (y * hidden_bit + hidden_bit - 1)) d ∙ val_down_power i m in
+      let b : val (k * hidden_bit + q) ≡ hidden_bit * (2 * 2 ^ i) = here ∙ ap (λ (y : ℕ). y * 2 ^ k) (sym e) ∙ ap (λ (y : ℕ). hidden_bit * y) w in
       let f : v ≡ n = sym (units_of_lem (round binary64 false n (2 ^ 1074)) v r.value) ∙ units_of_lem (round binary64 false n (2 ^ 1074)) n (exact e) in
-      let s : H * H * 4 * (2 ^ i * 2 ^ i) ≡ v * 2 ^ 1074 =
-      scale_power H (2 ^ 1074) (2 ^ k) (2 ^ i) (2 ^ (k - 537) * 2 ^ (k - 537)) w t-is ∙ ap (λ (y : ℕ). y * y * (2 ^ (k - 537) * 2 ^ (k - 537)) * 2 ^ 1074) e ∙ ap (λ (y : ℕ). y * 2 ^ 1074) (sym f) in
-      subst (λ (y : ℕ). (y + val (k * H + q)) * (y + val (k * H + q)) < 4 * (v * 2 ^ 1074)) (sym a)
-      (subst (λ (y : ℕ). ((2 * H - 1) * 2 ^ i + y) * ((2 * H - 1) * 2 ^ i + y) < 4 * (v * 2 ^ 1074)) (sym b)
-      (subst (λ (y : ℕ). ((2 * H - 1) * 2 ^ i + H * (2 * 2 ^ i)) * ((2 * H - 1) * 2 ^ i + H * (2 * 2 ^ i)) < 4 * y) s
-      (power-side (H * H * 4) (2 ^ i) (H - 1) (pow_pos i) (le_of_eq refl))))
+      let s : hidden_bit * hidden_bit * 4 * (2 ^ i * 2 ^ i) ≡ v * 2 ^ 1074 =
+      scale_power hidden_bit (2 ^ 1074) (2 ^ k) (2 ^ i) (2 ^ (k - 537) * 2 ^ (k - 537)) w t-is ∙ ap (λ (y : ℕ). y * y * (2 ^ (k - 537) * 2 ^ (k - 537)) * 2 ^ 1074) e ∙ ap (λ (y : ℕ). y * 2 ^ 1074) (sym f) in
+      subst (λ (y : ℕ). (y + val (k * hidden_bit + q)) * (y + val (k * hidden_bit + q)) < 4 * (v * 2 ^ 1074)) (sym a)
+      (subst (λ (y : ℕ). ((2 * hidden_bit - 1) * 2 ^ i + y) * ((2 * hidden_bit - 1) * 2 ^ i + y) < 4 * (v * 2 ^ 1074)) (sym b)
+      (subst (λ (y : ℕ). ((2 * hidden_bit - 1) * 2 ^ i + hidden_bit * (2 * 2 ^ i)) * ((2 * hidden_bit - 1) * 2 ^ i + hidden_bit * (2 * 2 ^ i)) < 4 * y) s
+      (power-side (hidden_bit * hidden_bit * 4) (2 ^ i) (hidden_bit - 1) (pow_pos i) (le_of_eq refl))))
 
-  low_other : (v p : ℕ) → Rounded n v p → H < q → (val (k * H + q - 1) + val (k * H + q)) * (val (k * H + q - 1) + val (k * H + q)) < 4 * (v * 2 ^ 1074)
+  low_other : (v p : ℕ) → Rounded n v p → hidden_bit < q → (val (k * hidden_bit + q - 1) + val (k * hidden_bit + q)) * (val (k * hidden_bit + q - 1) + val (k * hidden_bit + q)) < 4 * (v * 2 ^ 1074)
   low_other v p r l =
       let m : suc k < 2047 = omega arith in
       let f : q ≡ q - 1 + 1 = omega arith in
-      let b : val (k * H + q) ≡ (q - 1 + 1) * 2 ^ k = here ∙ ap (λ (y : ℕ). y * 2 ^ k) f in
-      subst (λ (y : ℕ). (y + val (k * H + q)) * (y + val (k * H + q)) < 4 * (v * 2 ^ 1074)) (sym (val_down k q l hi m))
+      let b : val (k * hidden_bit + q) ≡ (q - 1 + 1) * 2 ^ k = here ∙ ap (λ (y : ℕ). y * 2 ^ k) f in
+      subst (λ (y : ℕ). (y + val (k * hidden_bit + q)) * (y + val (k * hidden_bit + q)) < 4 * (v * 2 ^ 1074)) (sym (val_down k q l hi m))
       (subst (λ (y : ℕ). ((q - 1) * 2 ^ k + y) * ((q - 1) * 2 ^ k + y) < 4 * (v * 2 ^ 1074)) (sym b)
       (scale-low v (2 ^ 1074) (q - 1) (2 ^ k) (2 ^ (k - 537) * 2 ^ (k - 537)) (pow_pos 1074) t-is (down (2 ^ (k - 537) * 2 ^ (k - 537)) t_pos (q - 1) f r.digits r.near.1)))
     where
-      down : (t : ℕ) → 0 < t → (s : ℕ) → q ≡ s + 1 → H * p ≤ q * q * t → 2 * (q * q * t) ≤ 2 * v + p → (s + (s + 1)) * (s + (s + 1)) * t < 4 * v
-      down t T s e c d = low_of s t p v (subst (λ (y : ℕ). H ≤ y) e lo) (subst (λ (y : ℕ). y < 2 * H) e hi) T (subst (λ (y : ℕ). H * p ≤ y * y * t) e c) (subst (λ (y : ℕ). 2 * (y * y * t) ≤ 2 * v + p) e d)
+      down : (t : ℕ) → 0 < t → (s : ℕ) → q ≡ s + 1 → hidden_bit * p ≤ q * q * t → 2 * (q * q * t) ≤ 2 * v + p → (s + (s + 1)) * (s + (s + 1)) * t < 4 * v
+      down t T s e c d = low_of s t p v (subst (λ (y : ℕ). hidden_bit ≤ y) e lo) (subst (λ (y : ℕ). y < 2 * hidden_bit) e hi) T (subst (λ (y : ℕ). hidden_bit * p ≤ y * y * t) e c) (subst (λ (y : ℕ). 2 * (y * y * t) ≤ 2 * v + p) e d)
 
-  sides : (v p : ℕ) → Rounded n v p → Sides (v * 2 ^ 1074) (k * H + q)
+  sides : (v p : ℕ) → Rounded n v p → Sides (v * 2 ^ 1074) (k * hidden_bit + q)
   sides v p r = (elim (eq-or-lt_of_le lo) [ inl e ↦ low_power v p r e | inr l ↦ low_other v p r l ], high-side v p r)
 
-  above-none : (n v p : ℕ) → H ≤ n → H * p ≤ n → 2 * n ≤ 2 * v + p → 0 < v
+  above-none : (n v p : ℕ) → hidden_bit ≤ n → hidden_bit * p ≤ n → 2 * n ≤ 2 * v + p → 0 < v
   above-none n v p h d e = omega arith
 
   -- x is the only value that far from its neighbours' midpoints
@@ -268,9 +268,9 @@ module _ (k q : ℕ) (lo : H ≤ q) (hi : q < 2 * H) (k-lo : 537 ≤ k) (k-hi : 
       let e : of_bits binary64 b ≡ w = of_bits-to_bits binary64 w f in
       let u : v ≡ val b = sym (ap units_of e ∙ units_of_lem w v h) in
       let s = found b i.0 i.1 in
-      let c : 0 < k * H + q = omega arith in
-      let d : k * H + q < I = omega arith in
-      let o = only_sides (val b * 2 ^ 1074) s.0 (k * H + q) s.1.pos s.1.fin c d s.1.sides (subst (λ (y : ℕ). Sides (y * 2 ^ 1074) (k * H + q)) u (sides v z.1 r)) in
+      let c : 0 < k * hidden_bit + q = omega arith in
+      let d : k * hidden_bit + q < infinity_bits = omega arith in
+      let o = only_sides (val b * 2 ^ 1074) s.0 (k * hidden_bit + q) s.1.pos s.1.fin c d s.1.sides (subst (λ (y : ℕ). Sides (y * 2 ^ 1074) (k * hidden_bit + q)) u (sides v z.1 r)) in
       (g, sym (ap sqrt e) ∙ s.1.is ∙ ap (of_bits binary64) (sym o))
 
 -- ---- the same for an f64 between 1e-140 and 1e140
@@ -309,7 +309,7 @@ between_positive (inf true) h k = absurd (true≢false (sym h))
 between_positive (inf false) h k = absurd (true≢false (sym k))
 between_positive (fin s m e) h k = lt_positive lowest (fin s m e) tt tt h
 
-pattern_of : (x : Float) → Fits x → T (positive x) → (a : ℕ) → a < I → units_of (of_bits binary64 a) < units_of x → a < to_bits binary64 x
+pattern_of : (x : Float) → Fits x → T (positive x) → (a : ℕ) → a < infinity_bits → units_of (of_bits binary64 a) < units_of x → a < to_bits binary64 x
 pattern_of x f p a A h =
     let b = to_bits binary64 x in
     let e : of_bits binary64 b ≡ x = of_bits-to_bits binary64 x f in
@@ -330,11 +330,11 @@ root-between x f h k =
   where
     at-pattern : (c : ℕ) → 0x22DE7C5F127BD87E < c → c < 0x5D00CB70D24B7379 → (x : Float) → of_bits binary64 c ≡ x → Root x
     at-pattern c a b x e =
-        let k = c / H - 1 in
-        let q = c % H + H in
-        let d : k * H + q ≡ c = omega arith in
-        let lo : H ≤ q = omega arith in
-        let hi : q < 2 * H = omega arith in
+        let k = c / hidden_bit - 1 in
+        let q = c % hidden_bit + hidden_bit in
+        let d : k * hidden_bit + q ≡ c = omega arith in
+        let lo : hidden_bit ≤ q = omega arith in
+        let hi : q < 2 * hidden_bit = omega arith in
         let k-lo : 537 ≤ k = omega arith in
         let k-hi : k ≤ 1500 = omega arith in
         subst Root (ap (of_bits binary64) d ∙ e) (root_is k q lo hi k-lo k-hi)

@@ -1,4 +1,4 @@
--- The whole part of a square root: `wholeRoot` finds it, and there is only one. Nothing here is about floats. Assumes nothing.
+-- The whole part of a square root: `whole_root` finds it, and there is only one. Nothing here is about floats. Assumes nothing.
 use mathlib.Core.Path.{◌≡◌, subst}
 use Prim.Native.Nat.{ℕ, zero, suc, ◌+◌, ◌*◌, ◌/◌, ◌^◌, ◌≤◌, ◌<◌, zero-le}
 use native.Mathlib.Nat.{mul-le-mul, lt_of_not-le, not-le_of_lt, lt_of_le_of_lt, pow-succ'}
