@@ -60,7 +60,7 @@
 extern "C" {
 #endif
 
-#define PISKORLU_VERSION "3.0.6"
+#define PISKORLU_VERSION "3.0.5"
 
 /* The most stack of a call that has no number of its own. */
 #define PISKORLU_CALL_STACK 4096

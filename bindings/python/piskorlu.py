@@ -39,7 +39,7 @@ __all__ = [
     "VERSION",
 ]
 
-VERSION = "3.0.6"
+VERSION = "3.0.5"
 
 MOST = 32
 SOLVE_WORKSPACE = 2304

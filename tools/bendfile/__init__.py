@@ -1,3 +1,3 @@
 """Bend files, their readable descriptions, and the answers of bendsolve."""
 
-VERSION = "3.0.6"
+VERSION = "3.0.5"
