@@ -8,9 +8,9 @@ over what a check of the crate as it stands proved. What it tried once, or `rt c
 changed that it stands on. Here an edit that cannot be applied is told before anything is tried, and each verdict names the function whose
 body the edit changes.
 
-A refusal counts only if a fact failed. Where rt says that an edit is refused only because a proof file names what it took away, the edit
-shows nothing and fails here, as do those that are not refused, that are bad, that were not tried, and that rt says nothing of. The last line
-is 'N passed, M failed'.
+A refusal counts only if a fact failed. Where rt says that an edit is refused only because a proof file names what it took away, or only by a
+limit of the prover, the edit shows nothing and fails here, as do those that are not refused, that are bad, that were not tried, and that rt
+says nothing of. The last line is 'N passed, M failed'.
 """
 import collections
 import glob
@@ -21,9 +21,10 @@ import sys
 
 ROOT = os.path.dirname(os.path.dirname(os.path.abspath(__file__)))
 
-# What rt says of an edit, after its name, where the prover refuses it; and where that is for a name alone, and for no fact.
+# What rt says of an edit, after its name, where the prover refuses it; and where that is for a name alone, or because it gave up, and for no
+# fact.
 REFUSED = "refused, as it must be"
-SHOWS_NOTHING = re.compile(re.escape(REFUSED) + r" \(only because a proof file names what the edit took away")
+SHOWS_NOTHING = re.compile(re.escape(REFUSED) + r" \(only (because a proof file names what the edit took away|by a limit of the prover)")
 
 # rt's line on an edit, and its line on a file that is no edit, or lies where none is read.
 VERDICT = re.compile(r"rt: must-fail (\w+)/([\w.-]+)\.edit: (.*)")

@@ -193,6 +193,10 @@ class Refusals(unittest.TestCase):
         said = "refused, as it must be (only because a proof file names what the edit took away, so this says little of the contract: change a value and keep the names): proofs/at/Answers.antt:3:5: error: `at`: module `x.Goals` has no `at`"
         self.assertEqual(must_fail.wrong_of(said), "SHOWS NOTHING: " + said.removeprefix("refused, as it must be "))
 
+    def test_a_limit_of_the_prover_does_not(self):
+        said = "refused, as it must be (only by a limit of the prover, which gave no verdict, so this says less of the contract: choose a change that it refuses sooner): error: out of memory"
+        self.assertEqual(must_fail.wrong_of(said), "SHOWS NOTHING: " + said.removeprefix("refused, as it must be "))
+
     def test_what_else_rt_says_does_not(self):
         for said in (
             "NOT REFUSED: the crate is still proved with this edit (one that means the same as before cannot be refused: remove it)",
