@@ -3,6 +3,7 @@
 
 usage: tools/respell.py [--check]        at the top of the repository; --check writes nothing and lists the names that change
        tools/respell.py --constants      the numbers of CONSTANTS alone, in their files
+       tools/respell.py --labels         the labels of LABELS alone
 
 A name is the repository's own if a file of specs/ or proofs/ declares it: a definition, a lemma, a field of a record, a case of a data type.
 What changes, in the clauses of src/, in specs/, proofs/ and the must-fail edits (comments and pages too, where they name it):
@@ -10,7 +11,7 @@ What changes, in the clauses of src/, in specs/, proofs/ and the must-fail edits
   NaN (a number)       nan_bits, since a constant of specs/ is no type
   row-end, tab-length  row_end, tab-length: the dash stays only before the name of a definition, as `length`
 The goals that Rattle names, as `returns-2`, and names that a proof gives to its goals keep their spelling. Functions of src/, exported names
-and strings are not touched. It was run once, right after the kit's port.py, and once more with --constants.
+and strings are not touched. It was run once, right after the kit's port.py, and once more each with --constants and --labels.
 """
 
 import glob
@@ -61,6 +62,13 @@ CONSTANTS = {
     "nearest/proofs/Steps.antt": {"H": "hidden_bit", "S": "sign_bit", "I": "infinity_bits"},
     "nearest/proofs/Units.antt": {"L": "low_digit"},
 }
+
+# labels of records, which are Rust identifiers; three would be called as the definition that they cite
+LABELS = {
+    w: w.replace("-", "_")
+    for w in """answer-is at-coords at-link at-start b-le before-long coords-is e-hi e-lo few-moving few-rows free-motion kept-is marks-long nu-is
+of-nu of-rows of-states r-lt rank-small residual-is result-is sign-is tally-is tolerance-is workspace-left""".split()
+} | {"a-left": "a_is", "b-left": "b_is", "x-left": "x_is"}
 
 
 def snake(name):
@@ -138,6 +146,13 @@ def main(argv):
             t = open(path, encoding="utf-8").read()
             open(path, "w", encoding="utf-8").write(WORD.sub(lambda m: words.get(m[0], m[0]), t))
         return 0
+    if "--labels" in argv:
+        for path in [*texts(root), *glob.glob("crates/*/src/**/*.rt", recursive=True), *glob.glob("crates/*/must-fail/*.edit")]:
+            t = open(path, encoding="utf-8").read()
+            n = WORD.sub(lambda m: LABELS.get(m[0], m[0]), t)
+            if n != t:
+                open(path, "w", encoding="utf-8").write(n)
+        return 0
     out = table(root)
     if "--check" in argv:
         for old in sorted(out):
@@ -145,7 +160,14 @@ def main(argv):
         for p, new, olds in collisions(root, out):
             print("fall together:", p, new, olds)
         return 0
-    turn = lambda t, may=lambda w: True: WORD.sub(lambda m: out[m[0]] if m[0] in out and may(m[0]) else m[0], t)
+    STRING = re.compile(r'("(?:[^"\\]|\\.)*")')
+
+    def turn(t, may=lambda w: True):
+        """The words of the text, but for those of strings."""
+        parts = STRING.split(t)
+        parts[::2] = [WORD.sub(lambda m: out[m[0]] if m[0] in out and may(m[0]) else m[0], x) for x in parts[::2]]
+        return "".join(parts)
+
     camel = lambda w: bool(re.search("[a-z][A-Z]", w)) and "-" not in w
 
     def lines(t, may=lambda w: True):

@@ -38,8 +38,8 @@ first =
     (0 ∷ 0 ∷ 0 ∷ 0 ∷ []) (0xFFD5555555555555 ∷ 0xFFD5555555555555 ∷ 0xFFEFFFFFFFFFFFFF ∷ −two ∷ [])
     (0 ∷ 1 ∷ 2 ∷ 7 ∷ [])) ∷
     showing
-    ("growth: a nan_bits multiplier counts" ∷ "motion test: a nan_bits coordinate counts" ∷ "motion test: the sum over coordinates" ∷
-    "motion test: the last coordinate alone" ∷ "residual: a nan_bits row turns it nan_bits" ∷ "ray: hi need not be infinite" ∷ [])
+    ("growth: a NaN multiplier counts" ∷ "motion test: a NaN coordinate counts" ∷ "motion test: the sum over coordinates" ∷
+    "motion test: the last coordinate alone" ∷ "residual: a NaN row turns it NaN" ∷ "ray: hi need not be infinite" ∷ [])
     (solving (problem (0x0000000000000001 ∷ []) (0xC008000000000000 ∷ []) (∞ ∷ []) (0x6126C2D4256FFCC3 ∷ [])
     (one ∷ []) (−one ∷ []) one) (0 ∷ []) (solves (counts 1 1 true false 0 0)) (0 ∷ []) (nan_bits ∷ []) (7 ∷ [])) ∷
     showing
@@ -79,7 +79,7 @@ second =
     (solving (problem (one ∷ []) (0xC135F5C0DA1BCB9C ∷ []) (−∞ ∷ []) (∞ ∷ []) (0x3FF706D5EB0B4545 ∷ []) [] 0) (0 ∷ [])
     (solves (counts 1 1 true true 0 0)) (0 ∷ []) (0x4135F5C0DA1BCB9C ∷ []) (7 ∷ [])) ∷
     showing
-    ("Idle not where W_ii is nan_bits" ∷ [])
+    ("Idle not where W_ii is NaN" ∷ [])
     (solving (problem
     (nan_bits ∷ −one ∷ −one ∷ one ∷ −one ∷ 0x8010000000000000 ∷ 0 ∷ −one ∷ −one ∷ 0 ∷ −∞ ∷ 0 ∷ one ∷ −one ∷ 0 ∷ 0x8010000000000000 ∷ [])
     (0xC008000000000000 ∷ two ∷ 0 ∷ −one ∷ []) (−two ∷ −two ∷ 0 ∷ 0x8000000000000000 ∷ [])
@@ -110,7 +110,7 @@ third =
     (one ∷ []) [] 0x3E112E0BE826D695) (two ∷ []) (solves (counts 1 1 true true 0 0)) (2 ∷ [])
     (0x3FDC6C2C19718408 ∷ []) (7 ∷ [])) ∷
     showing
-    ("pass: a nan_bits left by the free rows counts" ∷ [])
+    ("pass: a NaN left by the free rows counts" ∷ [])
     (solving (problem (one ∷ []) (nan_bits ∷ []) (0 ∷ []) (∞ ∷ []) (one ∷ []) [] 0) (0 ∷ []) (solves (counts 1 1 true true 0 0)) (0 ∷ []) (nan_bits ∷ []) (7 ∷ [])) ∷
     showing
     ("state: lo need not be finite" ∷ [])
@@ -134,7 +134,7 @@ third-table = refl
 unfoldable pub fourth : List Row
 fourth =
     showing
-    ("ray: a nan_bits linear part rejects" ∷ "ray: < for <= 0 in the quadratic part" ∷ [])
+    ("ray: a NaN linear part rejects" ∷ "ray: < for <= 0 in the quadratic part" ∷ [])
     (solving (problem (0x2050000000000000 ∷ 0xA050000000000000 ∷ 0xA050000000000000 ∷ 0x2050000000000000 ∷ [])
     (0xE028000000000000 ∷ 0x6010000000000000 ∷ []) (0 ∷ 0 ∷ []) (∞ ∷ ∞ ∷ [])
     (0x7EA2AA4F4A405BE2 ∷ 0x7EA2AA4F4A405BE2 ∷ []) [] 0) (0 ∷ 0 ∷ [])

@@ -19,7 +19,7 @@ further =
     named "No growth where a million scales overflow"
     (solving (problem (one ∷ []) (0xFFE1CCF385EBC8A0 ∷ []) (0 ∷ []) (∞ ∷ []) (0x7ED754E31CD072DA ∷ []) [] 0) (0 ∷ [])
     (solves (counts 1 1 true false 0 0)) (0 ∷ []) (0x7FE1CCF385EBC8A0 ∷ []) (7 ∷ [])) ∷
-    named "A nan_bits linear part goes on"
+    named "A NaN linear part goes on"
     (solving (problem (0x20B0000000000000 ∷ 0xA0B0000000000000 ∷ 0xA0B0000000000000 ∷ 0x20B0000000000000 ∷ [])
     (0xE028000000000000 ∷ 0x6010000000000000 ∷ []) (0 ∷ 0 ∷ []) (∞ ∷ ∞ ∷ [])
     (0x7E37E43C8800759C ∷ 0x7E37E43C8800759C ∷ []) [] 0) (0 ∷ 0 ∷ [])
@@ -36,7 +36,7 @@ further =
     (∞ ∷ ∞ ∷ []) (one ∷ one ∷ []) [] 0) (0 ∷ 0 ∷ [])
     (fights cause.Sweep (0 ∷ 1 ∷ []) (counts 2 2 false false 0x3FFFFFFFED35A2FC 0)) (0 ∷ 0 ∷ [])
     (0x4007FFFFFBF93536 ∷ 0x400FFFFFF7F26A6C ∷ []) (0 ∷ 1 ∷ [])) ∷
-    named "A nan_bits row adds nothing to the residual"
+    named "A NaN row adds nothing to the residual"
     (solving (problem (one ∷ []) (nan_bits ∷ []) (0 ∷ []) (∞ ∷ []) (one ∷ []) [] 0) (0 ∷ []) (solves (counts 1 1 true true 0 0)) (0 ∷ []) (nan_bits ∷ []) (7 ∷ [])) ∷
     named "An inverted box"
     (solving (problem (one ∷ []) (−one ∷ []) (one ∷ []) (−one ∷ []) (one ∷ []) [] 0) (0 ∷ []) (solves (counts 1 1 true true two 0)) (1 ∷ []) (one ∷ []) (7 ∷ [])) ∷
@@ -63,7 +63,7 @@ further =
     (∞ ∷ ∞ ∷ []) (one ∷ one ∷ []) (one ∷ one ∷ []) 0) (0 ∷ 0 ∷ [])
     (solves (counts 1 1 true true 0x3CE0000000000000 0)) (0 ∷ 0 ∷ []) (0xC010D79435E50D71 ∷ 0x4017286BCA1AF27E ∷ [])
     (7 ∷ 7 ∷ [])) ∷
-    named "A nan_bits diagonal is Idle, its column counts in row sums"
+    named "A NaN diagonal is Idle, its column counts in row sums"
     (solving (problem (nan_bits ∷ two ∷ two ∷ four ∷ []) (one ∷ 0xC020000000000000 ∷ []) (one ∷ 0 ∷ [])
     (0x4008000000000000 ∷ ∞ ∷ []) (one ∷ one ∷ []) [] 0) (0x4022000000000000 ∷ 0 ∷ [])
     (solves (counts 1 1 true true 0 1)) (3 ∷ 0 ∷ []) (one ∷ 0x3FF8000000000000 ∷ []) (7 ∷ 7 ∷ [])) ∷ []

@@ -17,7 +17,7 @@ refusals =
     named "7: nu too short" (refusing (row (one ∷ []) (0 ∷ []) (0 ∷ [])) [] 0 0 0 7) ∷
     named "8: a scale of 0, before short buffers" (refusing (row (one ∷ []) (0 ∷ []) (0 ∷ [])) (0 ∷ []) 0 0 0 8) ∷
     named "8: an infinite scale" (refusing (row (one ∷ []) (0 ∷ []) (∞ ∷ [])) (0 ∷ []) 0 0 0 8) ∷
-    named "8: a nan_bits scale" (refusing (row (one ∷ []) (0 ∷ []) (nan_bits ∷ [])) (0 ∷ []) 0 0 0 8) ∷
+    named "8: a NaN scale" (refusing (row (one ∷ []) (0 ∷ []) (nan_bits ∷ [])) (0 ∷ []) 0 0 0 8) ∷
     named "8: a negative scale" (refusing (row (one ∷ []) (0 ∷ []) (−one ∷ [])) (0 ∷ []) 1 1 2304 8) ∷
     named "9: motion of 1 value for 2 rows" (refusing (problem (replicate 4 one) (0 ∷ 0 ∷ []) (0 ∷ 0 ∷ []) (0 ∷ 0 ∷ []) (one ∷ one ∷ []) (0 ∷ []) 0) (0 ∷ 0 ∷ []) 0 0 0 9) ∷
     named "10: a workspace of 2,303" (refusing (row (one ∷ []) (0 ∷ []) (one ∷ [])) (0 ∷ []) 1 1 2303 10) ∷

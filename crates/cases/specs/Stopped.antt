@@ -29,7 +29,7 @@ stopped =
     (stopping (problem (one ∷ []) (−one ∷ []) (0 ∷ []) (0x4014000000000000 ∷ []) (one ∷ []) [] 0) (0x4022000000000000 ∷ []) 0) ∷
     named "NaN: none"
     (stopping (problem (one ∷ []) (nan_bits ∷ []) (0 ∷ []) (∞ ∷ []) (one ∷ []) [] 0) (0 ∷ []) 0) ∷
-    named "nan_bits bounds: none"
+    named "NaN bounds: none"
     (stopping (problem (one ∷ []) (four ∷ []) (nan_bits ∷ []) (nan_bits ∷ []) (one ∷ []) [] 0) (0 ∷ []) 0) ∷
     named "inverted box 1, -1: low, since v < lo comes first"
     (stopping (problem (one ∷ []) (0 ∷ []) (one ∷ []) (−one ∷ []) (one ∷ []) [] 0) (0 ∷ []) 1) ∷

@@ -33,7 +33,7 @@ triangles =
     named "9: three rows, nine values (the full matrix): 16"
     (lower (four ∷ one ∷ two ∷ one ∷ 0x4014000000000000 ∷ 0x4008000000000000 ∷ two ∷ 0x4008000000000000 ∷ 0x4018000000000000 ∷ []) (problem [] (−one ∷ −two ∷ 0xC008000000000000 ∷ []) (0 ∷ 0 ∷ 0 ∷ []) (∞ ∷ ∞ ∷ ∞ ∷ []) (one ∷ one ∷ one ∷ []) [] 0)
     (0 ∷ 0 ∷ 0 ∷ []) 3 3 2304 (refuses 16) (9 ∷ 9 ∷ 9 ∷ []) (0 ∷ 0 ∷ 0 ∷ []) (7 ∷ 7 ∷ 7 ∷ [])) ∷
-    named "10: a nan_bits below the diagonal is mirrored"
+    named "10: a NaN below the diagonal is mirrored"
     (lower (one ∷ nan_bits ∷ one ∷ []) (problem [] (−one ∷ −one ∷ []) (0 ∷ 0 ∷ []) (∞ ∷ ∞ ∷ []) (one ∷ one ∷ []) [] 0)
     (0 ∷ 0 ∷ []) 2 2 2304 (solves (counts 1 1 true true 0 0)) (0 ∷ 0 ∷ []) (nan_bits ∷ nan_bits ∷ []) (7 ∷ 7 ∷ [])) ∷
     named "11: a diagonal of -0: Idle"

@@ -236,7 +236,7 @@ cases =
     case "a dead cell between two solves that end well: neither flag is won back" joins.NOTHING (exact 2304 ∷ dead ∷ exact 2304 ∷ []) (counts 3 3 3 0 false false 0)
     (0 ∷ 0 ∷ 0 ∷ []) ∷
     case "the same in another order" joins.NOTHING (dead ∷ exact 2304 ∷ exact 2304 ∷ []) (counts 3 3 3 0 false false 0) (0 ∷ 0 ∷ 0 ∷ []) ∷
-    case "a refused solve joins nothing, nan_bits or not" joins.NOTHING (refuses_dead ∷ []) joins.NOTHING (8 ∷ []) ∷
+    case "a refused solve joins nothing, NaN or not" joins.NOTHING (refuses_dead ∷ []) joins.NOTHING (8 ∷ []) ∷
     case "a dead cell on a full tally" (tally_of 4294967295 0 0 0) (dead ∷ []) (tally_of 4294967295 0 0 0) (11 ∷ []) ∷
     case "11 by rows stopped, though this solve would stop none" (tally_of 0 0 0 4294967264) (exact 2304 ∷ []) (tally_of 0 0 0 4294967264) (11 ∷ []) ∷
     case "one row stopped below, then 11" (tally_of 0 0 0 4294967263) (stops ∷ empty ∷ []) (tally_of 1 1 1 4294967264) (0 ∷ 11 ∷ []) ∷
@@ -276,14 +276,14 @@ takings : List Taking
 takings =
     taking "a solve that ends well" (exact 2304) true true (0x4000000000000000 ∷ []) (tally_of 1 1 1 0) ∷
     taking "a dead cell: the report says converged and exact, the tally neither" dead true true (nan ∷ []) (counts 1 1 1 0 false false 0) ∷
-    taking "nan_bits in the last row alone" dead_last true true (0 ∷ nan ∷ []) (counts 1 1 1 1 false false 0) ∷
-    taking "nan_bits in every row" dead_first true true (nan ∷ nan ∷ []) (counts 1 1 1 0 false false 0) ∷
-    taking "nan_bits in the first row alone" dead_beside_idle true true (nan ∷ 0 ∷ []) (counts 1 1 1 0 false false 0) ∷
-    taking "an Idle row's nan_bits motion and a nan_bits tolerance reach no multiplier" (within_nan (idle_beside nan 0)) true true (0 ∷ 0x4000000000000000 ∷ []) (tally_of 1 1 1 0) ∷
-    taking "an Idle row's start of nan_bits is not left" (idle_beside 0 nan) true true (0 ∷ 0x4000000000000000 ∷ []) (tally_of 1 1 1 0) ∷
-    taking "an acting row's start of nan_bits is" dead_start true true (nan ∷ []) (counts 1 1 1 0 false false 0) ∷
-    taking "an infinite multiplier is no nan_bits" infinite true false (∞ ∷ []) (counts 1 1 1 0 true false 0) ∷
-    taking "a nan_bits bound" boundless true true (one ∷ []) (tally_of 1 1 1 0) ∷
+    taking "NaN in the last row alone" dead_last true true (0 ∷ nan ∷ []) (counts 1 1 1 1 false false 0) ∷
+    taking "NaN in every row" dead_first true true (nan ∷ nan ∷ []) (counts 1 1 1 0 false false 0) ∷
+    taking "NaN in the first row alone" dead_beside_idle true true (nan ∷ 0 ∷ []) (counts 1 1 1 0 false false 0) ∷
+    taking "an Idle row's NaN motion and a NaN tolerance reach no multiplier" (within_nan (idle_beside nan 0)) true true (0 ∷ 0x4000000000000000 ∷ []) (tally_of 1 1 1 0) ∷
+    taking "an Idle row's start of NaN is not left" (idle_beside 0 nan) true true (0 ∷ 0x4000000000000000 ∷ []) (tally_of 1 1 1 0) ∷
+    taking "an acting row's start of NaN is" dead_start true true (nan ∷ []) (counts 1 1 1 0 false false 0) ∷
+    taking "an infinite multiplier is no NaN" infinite true false (∞ ∷ []) (counts 1 1 1 0 true false 0) ∷
+    taking "a NaN bound" boundless true true (one ∷ []) (tally_of 1 1 1 0) ∷
     taking "growth beside a dead cell" grows_beside_dead false false (0x4170000000000000 ∷ nan ∷ []) (counts 1 1 0 0 false false 0) ∷
     taking "all rows Idle" dead_idle true true (0 ∷ []) (tally_of 1 0 0 0) ∷
     taking "converged by a sweep" dead_by_sweeps true false (nan ∷ nan ∷ []) (counts 1 1 1 0 false false 0) ∷ []
