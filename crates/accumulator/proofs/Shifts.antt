@@ -15,8 +15,8 @@ kept_and_out x b h = ap (λ (y : ℕ). y * base + x * 2 ^ b % base) (sym (pushed
 
 -- ---- the middle word does not overflow
 
-kept-is : (d k r x p q m : ℕ) → d * k + r ≡ x * p → q * p ≡ k → d * q + m ≡ x → r ≡ m * p
-kept-is d k r x p q m e f g =
+kept_is : (d k r x p q m : ℕ) → d * k + r ≡ x * p → q * p ≡ k → d * q + m ≡ x → r ≡ m * p
+kept_is d k r x p q m e f g =
     let a : d * (q * p) ≡ d * k = ap (λ (y : ℕ). d * y) f in
     let b : (d * q + m) * p ≡ x * p = ap (λ (y : ℕ). y * p) g in
     omega (arith, e, a, b)
@@ -31,7 +31,7 @@ middle-fits l h b g B =
     let m = h % q in
     let s : h / q ≡ h / 2 / 2 ^ (63 - b) = sym (shr-shr h 1 (63 - b)) in
     let d : h / 2 / 2 ^ (63 - b) * q + m ≡ h = ap (λ (y : ℕ). y * q + m) (sym s) ∙ div-add-mod' h q in
-    let r : h * p % base ≡ m * p = kept-is (h / 2 / 2 ^ (63 - b)) base (h * p % base) h p q m (kept_and_out h b B) (whole b B) d in
+    let r : h * p % base ≡ m * p = kept_is (h / 2 / 2 ^ (63 - b)) base (h * p % base) h p q m (kept_and_out h b B) (whole b B) d in
     let e : b + (1 + (63 - b)) ≡ 64 = omega (arith, B) in
     let t : l < 2 ^ (b + (1 + (63 - b))) = subst (λ (y : ℕ). l < 2 ^ y) (sym e) g in
     let o : l / 2 / 2 ^ (63 - b) < p = subst (λ (y : ℕ). y < p) (sym (shr-shr l 1 (63 - b))) (shr_lt b (1 + (63 - b)) t) in

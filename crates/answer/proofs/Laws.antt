@@ -113,7 +113,7 @@ module _ (f : List ℕ) (a b : read.Lent) (z : Sizes a) where
   asked p e g =
       let k = accepted_is_bend-file f p e in
       let v = k.values in
-      let s : Small p.rows p.coords = record { few = k.few-rows; square = mul-le-mul k.few-rows k.few-rows; moving = k.few-moving } in
+      let s : Small p.rows p.coords = record { few = k.few_rows; square = mul-le-mul k.few_rows k.few_rows; moving = k.few_moving } in
       subst (λ (t : Float). Asked f p.rows p.coords t b) (sym (ap (λ (x : read.Problem). x.tolerance) v))
       (asked-at _ p.rows p.coords s (e ∙ ap read.accepted v) (g ∙ ap (λ (x : read.Problem). read.filled (read.accepted x) a) v))
 

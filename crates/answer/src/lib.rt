@@ -99,7 +99,7 @@ fn solve_fronts(
         (def.printed
         (def.fronts n coords tolerance
         (record {
-          w = w.entry.now;
+          w = w.now;
           u_free = u_free.now;
           lo = lo.now;
           hi = hi.now;

@@ -187,13 +187,13 @@ module _ (f : List ℕ) where
       record {
         least = k.least;
         most = k.most;
-        at-start = refl;
+        at_start = refl;
         at_rows = refl;
-        at-coords = refl;
+        at_coords = refl;
         at_count = refl;
         mark = mark-is f (length f) (omega (arith, k.least)) (omega arith) k.mark;
-        few-rows = k.fair.few;
-        few-moving = k.fair.moving;
+        few_rows = k.fair.few;
+        few_moving = k.fair.moving;
         counted = k.full;
         reaching = k.reach;
         values = refl;
@@ -216,9 +216,9 @@ module _ (f : List ℕ) where
         most = b.most;
         mark = mark-back f (length f) (omega (arith, b.least)) (omega arith) b.mark;
         fair =
-            rw (b.at_rows, b.at-coords)
-            (record { few = b.few-rows; square = mul-le-mul b.few-rows b.few-rows; moving = b.few-moving });
-        full = rw (b.at_rows, b.at-coords, b.at_count) b.counted;
-        reach = rw (b.at-start, b.at_count) b.reaching;
+            rw (b.at_rows, b.at_coords)
+            (record { few = b.few_rows; square = mul-le-mul b.few_rows b.few_rows; moving = b.few_moving });
+        full = rw (b.at_rows, b.at_coords, b.at_count) b.counted;
+        reach = rw (b.at_start, b.at_count) b.reaching;
       } in
-      rw (kept_back f q, b.at-start, b.at_rows, b.at-coords, ← b.values)
+      rw (kept_back f q, b.at_start, b.at_rows, b.at_coords, ← b.values)

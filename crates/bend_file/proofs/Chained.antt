@@ -33,16 +33,16 @@ module _ (f : List ℕ) (end : ℕ) where
   step-is-file k =
       record {
         least = k.least;
-        at-start = refl;
+        at_start = refl;
         at_rows = refl;
-        at-coords = refl;
+        at_coords = refl;
         at_count = refl;
         mark = mark-is f end (omega (arith, k.least)) k.within k.mark;
-        few-rows = k.fair.few;
-        few-moving = k.fair.moving;
+        few_rows = k.fair.few;
+        few_moving = k.fair.moving;
         counted = k.full;
         preceded = k.room;
-        at-link = ap (u32 f) link-place;
+        at_link = ap (u32 f) link-place;
         backward = rw link-place k.back;
         reaching = omega (arith, k.reach);
         values = refl;
@@ -55,18 +55,18 @@ module _ (f : List ℕ) (end : ℕ) where
 
     same_start : start f end ≡ s
     unfolding start
-    same_start = b.at-start
+    same_start = b.at_start
 
     own-place : chain.link_at f end ≡ end - 16 - 8 * n - 4
     own-place = rw (← same_count) (sym link-place)
 
     pub same-link : chain.link f end ≡ l
     unfolding chain.link
-    same-link = rw own-place b.at-link
+    same-link = rw own-place b.at_link
 
     pub same-problem : chain.step_problem f end ≡ p
     unfolding chain.step_problem rows coords
-    same-problem = rw (same-link, same_start, b.at_rows, b.at-coords, ← b.values)
+    same-problem = rw (same-link, same_start, b.at_rows, b.at_coords, ← b.values)
 
     pub file-is-step : end ≤ length f → end ≤ 1048576 → Kept f end
     unfolding rows coords
@@ -77,9 +77,9 @@ module _ (f : List ℕ) (end : ℕ) where
           within = within;
           mark = mark-back f end (omega (arith, b.least)) within b.mark;
           fair =
-              rw (b.at_rows, b.at-coords)
-              (record { few = b.few-rows; square = mul-le-mul b.few-rows b.few-rows; moving = b.few-moving });
-          full = rw (b.at_rows, b.at-coords, same_count) b.counted;
+              rw (b.at_rows, b.at_coords)
+              (record { few = b.few_rows; square = mul-le-mul b.few_rows b.few_rows; moving = b.few_moving });
+          full = rw (b.at_rows, b.at_coords, same_count) b.counted;
           room = rw same_count b.preceded;
           back = rw (same-link, own-place) b.backward;
           reach = rw (same-link, same_start, same_count) (omega (arith, b.reaching, b.backward, b.preceded));

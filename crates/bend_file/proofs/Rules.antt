@@ -28,7 +28,7 @@ moving-fits n c h k = mul-le-mul {n₁ = c} {m₁ = n} {n₂ = 65536} {m₂ = 65
 pub record Kept (f : List ℕ) (n c s k : ℕ) : Type 0 where
   pub number_is : number f ≡ cond (not (eqb k (wanted n c))) 4 (cond (not (eqb (s + 8 * k + 16) (length f))) 4 0)
   pub rows_is : n ≡ u16 f (length f - 12)
-  pub coords-is : c ≡ u16 f (length f - 10)
+  pub coords_is : c ≡ u16 f (length f - 10)
   pub start_is : s ≡ u32 f (length f - 16)
 
 -- ---- the rules in their order
@@ -73,7 +73,7 @@ module _ (f : List ℕ) where
       kept e s k is-s is-k = record {
         number_is = to_rule_3 ∙ rw (e, is-n, is_c, is-s, is-k);
         rows_is = is-n;
-        coords-is = is_c;
+        coords_is = is_c;
         start_is = is-s;
       }
 
@@ -87,4 +87,4 @@ module _ (f : List ℕ) where
     pub shaped : s + 8 * k + 16 ≡ end → k ≡ wanted n c → At s n c ≡ shape f
     unfolding shape start rows coords
     shaped g i =
-        rw (r.number_is, eq-eqb k (wanted n c) i, eq-eqb (s + 8 * k + 16) end g, r.start_is, r.rows_is, r.coords-is)
+        rw (r.number_is, eq-eqb k (wanted n c) i, eq-eqb (s + 8 * k + 16) end g, r.start_is, r.rows_is, r.coords_is)

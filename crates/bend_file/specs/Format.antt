@@ -11,14 +11,14 @@ pub record BendFile (f : List ℕ) (start count : ℕ) (p : Problem) : Type 0 wh
   pub least : 16 ≤ length f
   pub most : length f ≤ 65536
   -- its last 16 bytes: start, rows, coords, count, mark
-  pub at-start : u32 f (length f - 16) ≡ start
+  pub at_start : u32 f (length f - 16) ≡ start
   pub at_rows : u16 f (length f - 12) ≡ p.rows
-  pub at-coords : u16 f (length f - 10) ≡ p.coords
+  pub at_coords : u16 f (length f - 10) ≡ p.coords
   pub at_count : u32 f (length f - 8) ≡ count
   pub mark : take 4 (drop (length f - 4) f) ≡ 0x42 ∷ 0x45 ∷ 0x4E ∷ 0x44 ∷ []
   -- n at most 32, coords * n at most 2,048
-  pub few-rows : p.rows ≤ 32
-  pub few-moving : p.coords * p.rows ≤ 2048
+  pub few_rows : p.rows ≤ 32
+  pub few_moving : p.coords * p.rows ≤ 2048
   -- the count and the length
   pub counted : count ≡ p.rows * p.rows + 5 * p.rows + p.coords * p.rows + 1
   pub reaching : start + 8 * count + 16 ≡ length f
@@ -29,18 +29,18 @@ pub record BendFile (f : List ℕ) (start count : ℕ) (p : Problem) : Type 0 wh
 pub record StepFile (f : List ℕ) (end link start count : ℕ) (p : Problem) : Type 0 where
   pub least : 16 ≤ end
   -- the 16 bytes before its end: start, rows, coords, count, mark
-  pub at-start : u32 f (end - 16) ≡ start
+  pub at_start : u32 f (end - 16) ≡ start
   pub at_rows : u16 f (end - 12) ≡ p.rows
-  pub at-coords : u16 f (end - 10) ≡ p.coords
+  pub at_coords : u16 f (end - 10) ≡ p.coords
   pub at_count : u32 f (end - 8) ≡ count
   pub mark : take 4 (drop (end - 4) f) ≡ 0x42 ∷ 0x45 ∷ 0x4E ∷ 0x44 ∷ []
   -- n at most 32, coords * n at most 2,048, and the count
-  pub few-rows : p.rows ≤ 32
-  pub few-moving : p.coords * p.rows ≤ 2048
+  pub few_rows : p.rows ≤ 32
+  pub few_moving : p.coords * p.rows ≤ 2048
   pub counted : count ≡ p.rows * p.rows + 5 * p.rows + p.coords * p.rows + 1
   -- the numbers' own place is known from the end and the count, and the four bytes just before them are the link
   pub preceded : 20 + 8 * count ≤ end
-  pub at-link : u32 f (end - 16 - 8 * count - 4) ≡ link
+  pub at_link : u32 f (end - 16 - 8 * count - 4) ≡ link
   -- the bytes between the linked offset and the link are free
   pub backward : link ≤ end - 16 - 8 * count - 4
   -- start and the length rule count from the linked offset

@@ -120,7 +120,7 @@ pub fn read_step(
 ) -> StepReading
     ensures { chain.ReadsStep file.now step result
         (record {
-          w = w.entry.now;
+          w = w.old;
           u_free = u_free.old;
           lo = lo.old;
           hi = hi.old;
@@ -129,7 +129,7 @@ pub fn read_step(
           motion = motion.old;
         })
         (record {
-          w = w.exit.now;
+          w = w.new;
           u_free = u_free.new;
           lo = lo.new;
           hi = hi.new;

@@ -37,7 +37,7 @@ pub fn read(
 ) -> Reading
     ensures { read.Reads file.now result
         (record {
-          w = w.entry.now;
+          w = w.old;
           u_free = u_free.old;
           lo = lo.old;
           hi = hi.old;
@@ -46,7 +46,7 @@ pub fn read(
           motion = motion.old;
         })
         (record {
-          w = w.exit.now;
+          w = w.new;
           u_free = u_free.new;
           lo = lo.new;
           hi = hi.new;

@@ -103,7 +103,7 @@ pub fn problem(
     requires { read.Room file.now start rows coords }
     ensures { read.Filled (read.problem file.now start rows coords) result
         (record {
-          w = w.entry.now;
+          w = w.old;
           u_free = u_free.old;
           lo = lo.old;
           hi = hi.old;
@@ -112,7 +112,7 @@ pub fn problem(
           motion = motion.old;
         })
         (record {
-          w = w.exit.now;
+          w = w.new;
           u_free = u_free.new;
           lo = lo.new;
           hi = hi.new;

@@ -81,9 +81,9 @@ module _ (file a rest : List ℕ) (s : Step) (is : file ≡ a ++ step_bytes (len
   unfolding rows
   rows_is = rw (by-trailer, place 12 4 refl) (u16-within front (trailer n c k) rest 4 (omega (arith, length-trailer n c k)) ∙ trailer-rows n c k (omega (arith, kept.few)))
 
-  coords-is : coords file end ≡ c
+  coords_is : coords file end ≡ c
   unfolding coords
-  coords-is = rw (by-trailer, place 10 6 refl) (u16-within front (trailer n c k) rest 6 (omega (arith, length-trailer n c k)) ∙ trailer-coords n c k (omega (arith, kept.narrow)))
+  coords_is = rw (by-trailer, place 10 6 refl) (u16-within front (trailer n c k) rest 6 (omega (arith, length-trailer n c k)) ∙ trailer-coords n c k (omega (arith, kept.narrow)))
 
   count-is : count file end ≡ k
   unfolding count
@@ -135,7 +135,7 @@ module _ (file a rest : List ℕ) (s : Step) (is : file ≡ a ++ step_bytes (len
   pub number_is : chain.step_number file end ≡ 0
   unfolding chain.step_number chain.fields_number chain.inside counted
   number_is =
-      rw (le-leb 16 end (omega (arith, is-end)), le-leb end 1048576 few, marked-is, rows_is, coords-is, count-is, small_is, eq-eqb k (wanted n c) kept.counted) link-kept
+      rw (le-leb 16 end (omega (arith, is-end)), le-leb end 1048576 few, marked-is, rows_is, coords_is, count-is, small_is, eq-eqb k (wanted n c) kept.counted) link-kept
 
   -- ---- the values
 
@@ -173,4 +173,4 @@ module _ (file a rest : List ℕ) (s : Step) (is : file ≡ a ++ step_bytes (len
 
     pub problem-is : chain.step_problem file end ≡ problem_of s
     unfolding chain.step_problem
-    problem-is = rw (link-is, start_is, rows_is, coords-is) problem-at
+    problem-is = rw (link-is, start_is, rows_is, coords_is) problem-at

@@ -61,8 +61,8 @@ multipliers (exact.Infeasible k) v nu = nu
 states_are : {nu : List Float} {st : List ℕ} {t : Trial} → trial nu st ≡ t → st ≡ t.states
 states_are e = ap (λ (t : Trial). t.states) e
 
-nu-is : {nu : List Float} {st : List ℕ} {t : Trial} → trial nu st ≡ t → nu ≡ t.nu
-nu-is e = ap (λ (t : Trial). t.nu) e
+nu_is : {nu : List Float} {st : List ℕ} {t : Trial} → trial nu st ≡ t → nu ≡ t.nu
+nu_is e = ap (λ (t : Trial). t.nu) e
 
 -- e is the pass's ending x
 pub settled : (e x : Exact) (v nu : List Float) (g : Sweeping) (nu' : List Float) → e ≡ x → g ≡ goes_on x → nu' ≡ multipliers x v nu → Settled e v nu g nu'
@@ -72,7 +72,7 @@ settled e x v nu g nu' i a n st₀ c (moved t) l₀ st l h =
     record { answer = rw (a, y); reached = rw (n, y, states_are h.tried); listed = h.listed }
 settled e x v nu g nu' i a n st₀ c (found t) l₀ st l h =
     let y = sym i ∙ h.answer in
-    record { answer = rw (a, y); reached = rw (n, y, states_are h.tried, nu-is h.tried); listed = h.listed }
+    record { answer = rw (a, y); reached = rw (n, y, states_are h.tried, nu_is h.tried); listed = h.listed }
 settled e x v nu g nu' i a n st₀ c (failed t) l₀ st l h =
     let y = sym i ∙ h.answer in
     record { answer = rw (a, y); reached = rw (n, y, states_are h.tried); listed = h.listed }

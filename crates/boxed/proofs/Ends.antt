@@ -33,8 +33,8 @@ states_left p sweeping.Exact s = s.states
 states_left p sweeping.Converged s = classified p s
 states_left p (sweeping.Infeasible c k) s = s.states
 
-nu-is : {nu : List Float} {st : List ℕ} {c : Counts} {s : Iterate} → iterate nu st c ≡ s → nu ≡ s.nu
-nu-is e = ap (λ (x : Iterate). x.nu) e
+nu_is : {nu : List Float} {st : List ℕ} {c : Counts} {s : Iterate} → iterate nu st c ≡ s → nu ≡ s.nu
+nu_is e = ap (λ (x : Iterate). x.nu) e
 
 states_are : {nu : List Float} {st : List ℕ} {c : Counts} {s : Iterate} → iterate nu st c ≡ s → st ≡ s.states
 states_are e = ap (λ (x : Iterate). x.states) e
@@ -44,15 +44,15 @@ module _ (p : box.Problem) (idle : ℕ) (g : Sweeping) (nu : List Float) (st : L
       → Answered p idle g nu st c a st'
   unfolding solve.result solve.unfound
   finished a st' e f (going s) l₀ l h =
-      let n = nu-is h.reached in
+      let n = nu_is h.reached in
       record { answer = rw (h.answer, h.reached) at e; multipliers = n; states = rw (← n, ← states_are h.reached) (rw h.answer at f); listed = h.listed }
   finished a st' e f (ended exact s) l₀ l h =
-      record { answer = rw (h.answer, h.reached) at e; multipliers = nu-is h.reached; states = (rw h.answer at f) ∙ states_are h.reached; listed = h.listed }
+      record { answer = rw (h.answer, h.reached) at e; multipliers = nu_is h.reached; states = (rw h.answer at f) ∙ states_are h.reached; listed = h.listed }
   finished a st' e f (ended converged s) l₀ l h =
-      let n = nu-is h.reached in
+      let n = nu_is h.reached in
       record { answer = rw (h.answer, h.reached) at e; multipliers = n; states = rw (← n, ← states_are h.reached) (rw h.answer at f); listed = h.listed }
   finished a st' e f (ended (conflict b r) s) l₀ l h =
-      record { answer = rw (h.answer, h.reached) at e; multipliers = nu-is h.reached; states = (rw h.answer at f) ∙ states_are h.reached; listed = h.listed }
+      record { answer = rw (h.answer, h.reached) at e; multipliers = nu_is h.reached; states = (rw h.answer at f) ∙ states_are h.reached; listed = h.listed }
 
   -- one law for each return: x is the residual, and q the report
   module _ (x : Float) (e : x ≡ sweep.residual p st nu (box.size p)) (q : BoxReport) where

@@ -83,7 +83,7 @@ module _ (cap : ℕ) (m : Watch) (i : ℕ) {p : box.Problem} {nu : List Float} {
   work₁ = keeping BEFORE (box.size p) work old
 
   kept : (w : List Float) → drop BEFORE w ≡ drop BEFORE work₁ → Keeps BEFORE (box.size p) work old w
-  kept w = keeps BEFORE (box.size p) work old w lent.check.lent.lists.matrix.few lent.check.lent.workspace swept.before-long
+  kept w = keeps BEFORE (box.size p) work old w lent.check.lent.lists.matrix.few lent.check.lent.workspace swept.before_long
 
   pub turn-grown : (k ≡ 0 → ⊥) → TurnCounted (told (sweeping.Infeasible cause.Growth k) c) nu₁ st rows₁ work₁
   turn-grown h =
@@ -141,9 +141,9 @@ module _ (cap : ℕ) (m : Watch) (i : ℕ) {p : box.Problem} {nu : List Float} {
 pub record Kept (cap : ℕ) (st₀ st : List ℕ) (nu₀ nu : List Float) (rows₀ rows : List ℕ) (work₀ work : List Float) (c : Counts) : Type 0 where
   pub sweeps : c.sweeps ≤ cap
   pub passes : c.passes ≤ c.sweeps
-  pub of-states : length st ≡ length st₀
-  pub of-nu : length nu ≡ length nu₀
-  pub of-rows : length rows ≡ length rows₀
+  pub of_states : length st ≡ length st₀
+  pub of_nu : length nu ≡ length nu₀
+  pub of_rows : length rows ≡ length rows₀
   pub of_work : length work ≡ length work₀
 
 abbrev pub initial : List Float → List ℕ → Iterate

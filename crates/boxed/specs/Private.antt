@@ -153,7 +153,7 @@ pub record Swept (w u_free lo hi : List Float) (st : List ℕ) (nu₀ nu old : L
   pub multipliers : nu ≡ sweep.sweep w u_free lo hi st nu₀ (length u_free)
   pub long : length nu ≡ length u_free
   pub before : old ≡ nu₀
-  pub before-long : length old ≡ length u_free
+  pub before_long : length old ≡ length u_free
   pub stopped : k ≡ sweep.stopped w u_free lo hi st nu₀ (length u_free)
 
 -- what the code tells of a run r, where the row list was l₀

@@ -38,9 +38,9 @@ module _ (t : SolveReport) (c : Call) (tally : List ℕ) (kept : List Float) (co
   unfolding tallies.reply tallies.counts_kept tallies.residual_kept
   no_room w h =
       rw h (record {
-        answer-is = record { number_is = refl; nu-is = refl; states_are = refl; rows_are = refl; counts_are = refl; residual-is = refl; workspace-left = refl };
-        tally-is = refl;
-        kept-is = refl;
+        answer_is = record { number_is = refl; nu_is = refl; states_are = refl; rows_are = refl; counts_are = refl; residual_is = refl; workspace_left = refl };
+        tally_is = refl;
+        kept_is = refl;
       })
 
   -- the solve is given the tally that was read, and the number r of the call is that of the answer
@@ -54,15 +54,15 @@ module _ (t : SolveReport) (c : Call) (tally : List ℕ) (kept : List Float) (co
       let x : Entered (tallied t c) s.tally s.answer nu' st' q' w w' = rw g at x' in
       let l = x.left in
       rw h (record {
-        answer-is = record {
+        answer_is = record {
           number_is = same ∙ n ∙ ap plain.number l.answer;
-          nu-is = l.multipliers;
+          nu_is = l.multipliers;
           states_are = l.states;
           rows_are = l.listed;
           counts_are = e ∙ ap (λ (y : BoxAnswer). plain.counts_left y counts) l.answer;
-          residual-is = f ∙ ap (λ (y : BoxAnswer). plain.residual_left y residual) l.answer;
-          workspace-left = l.workspace;
+          residual_is = f ∙ ap (λ (y : BoxAnswer). plain.residual_left y residual) l.answer;
+          workspace_left = l.workspace;
         };
-        tally-is = rw (same, ← x.tally) a;
-        kept-is = rw (same, ← x.tally) b;
+        tally_is = rw (same, ← x.tally) a;
+        kept_is = rw (same, ← x.tally) b;
       })

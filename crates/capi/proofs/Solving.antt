@@ -27,18 +27,18 @@ pub left-answered : (x : solve.Result) (counts : List ℕ) (residual : List Floa
 left-answered x counts residual a r nu' st' q' counts' residual' w w' l e c s =
     record {
       number_is = e ∙ ap plain.number l.answer;
-      nu-is = l.multipliers;
+      nu_is = l.multipliers;
       states_are = l.states;
       rows_are = l.listed;
       counts_are = c ∙ ap (λ (y : BoxAnswer). plain.counts_left y counts) l.answer;
-      residual-is = s ∙ ap (λ (y : BoxAnswer). plain.residual_left y residual) l.answer;
-      workspace-left = l.workspace;
+      residual_is = s ∙ ap (λ (y : BoxAnswer). plain.residual_left y residual) l.answer;
+      workspace_left = l.workspace;
     }
 
 module _ (p : Problem) (m : solve.Watch) (nu : List Float) (st q : List ℕ) (room : ℕ) (counts : List ℕ) (residual : List Float) where
   pub no_room : (w : List Float) → plain.taken counts residual ≡ false → plain.Answered (plain.reply (plain.taken counts residual) p m nu st q room) 10 nu st q counts counts residual residual w w
   unfolding plain.reply
-  no_room w h = rw h (record { number_is = refl; nu-is = refl; states_are = refl; rows_are = refl; counts_are = refl; residual-is = refl; workspace-left = refl })
+  no_room w h = rw h (record { number_is = refl; nu_is = refl; states_are = refl; rows_are = refl; counts_are = refl; residual_is = refl; workspace_left = refl })
 
   pub answered : (a : BoxAnswer) (r : ℕ) (nu' : List Float) (st' q' counts' : List ℕ) (residual' w w' : List Float) → plain.taken counts residual ≡ true
       → Left (solve.solve_reply p m nu st q room) a nu' st' q' w w' → r ≡ plain.number a → counts' ≡ plain.counts_left a counts → residual' ≡ plain.residual_left a residual

@@ -12,8 +12,8 @@ rank_after (promise.answered s) rank = set rank 0 s.rank
 
 pub record Answered (reply : promise.Reply) (r : ℕ) (a a' b b' x x' w w' : List Float) (rank rank' : List ℕ) : Type 0 where
   pub number_is : r ≡ promise.reply_number reply
-  pub a-left : a' ≡ promise.a_left reply a
-  pub b-left : b' ≡ promise.b_left reply b
-  pub x-left : x' ≡ promise.x_left reply x
-  pub workspace-left : drop (promise.used reply) w' ≡ drop (promise.used reply) w
+  pub a_is : a' ≡ promise.a_left reply a
+  pub b_is : b' ≡ promise.b_left reply b
+  pub x_is : x' ≡ promise.x_left reply x
+  pub workspace_left : drop (promise.used reply) w' ≡ drop (promise.used reply) w
   pub rank_left : rank' ≡ rank_after reply rank

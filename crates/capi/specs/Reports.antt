@@ -50,4 +50,4 @@ residual_left (joined r) l = set l 0 r.residual
 pub record Left (x : Answer) (r : ℕ) (counts counts' : List ℕ) (residual residual' : List Float) : Type 0 where
   pub number_is : r ≡ number x
   pub counts_are : counts' ≡ counts_left x counts
-  pub residual-is : residual' ≡ residual_left x residual
+  pub residual_is : residual' ≡ residual_left x residual

@@ -47,9 +47,9 @@ reply false p m nu st q room = record { outcome = solve.refused 10; nu = nu; sta
 -- nu, st and q are left in the multipliers, the states and the row list; of the other buffers each has what it held before and after
 pub record Answered (x : solve.Result) (r : ℕ) (nu : List Float) (st q counts counts' : List ℕ) (residual residual' w w' : List Float) : Type 0 where
   pub number_is : r ≡ number (solve.answer_of x.outcome)
-  pub nu-is : nu ≡ x.nu
+  pub nu_is : nu ≡ x.nu
   pub states_are : st ≡ x.states
   pub rows_are : q ≡ x.listed
   pub counts_are : counts' ≡ counts_left (solve.answer_of x.outcome) counts
-  pub residual-is : residual' ≡ residual_left (solve.answer_of x.outcome) residual
-  pub workspace-left : drop (solve.used x.outcome) w' ≡ drop (solve.used x.outcome) w
+  pub residual_is : residual' ≡ residual_left (solve.answer_of x.outcome) residual
+  pub workspace_left : drop (solve.used x.outcome) w' ≡ drop (solve.used x.outcome) w

@@ -23,6 +23,6 @@ reply true t c = tallied t c
 reply false t c = record { tally = t; answer = record { outcome = solve.refused 10; nu = c.nu; states = c.states; listed = c.listed } }
 
 pub record Answered (x : Tallied) (r : ℕ) (tally tally' : List ℕ) (kept kept' nu : List Float) (st q counts counts' : List ℕ) (residual residual' w w' : List Float) : Type 0 where
-  pub answer-is : plain.Answered x.answer r nu st q counts counts' residual residual' w w'
-  pub tally-is : tally' ≡ counts_kept r x.tally tally
-  pub kept-is : kept' ≡ residual_kept r x.tally kept
+  pub answer_is : plain.Answered x.answer r nu st q counts counts' residual residual' w w'
+  pub tally_is : tally' ≡ counts_kept r x.tally tally
+  pub kept_is : kept' ≡ residual_kept r x.tally kept

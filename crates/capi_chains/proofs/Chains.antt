@@ -52,7 +52,7 @@ module _ (f steps l : List ℕ) where
 
 module _ (f : List ℕ) (k : ℕ) (b : Lent) (shape : List ℕ) (tolerance : List Float) where
   refused-given : (n : ℕ) → def.given f k b shape tolerance ≡ refused n → def.Given (def.given f k b shape tolerance) n b b shape shape tolerance tolerance
-  refused-given n e = rw e (record { number_is = refl; buffers_are = refl; shape_is = refl; tolerance-is = refl })
+  refused-given n e = rw e (record { number_is = refl; buffers_are = refl; shape_is = refl; tolerance_is = refl })
 
   pub no-shape : length shape < 2 → def.Given (def.given f k b shape tolerance) 10 b b shape shape tolerance tolerance
   unfolding def.given
@@ -72,5 +72,5 @@ module _ (f : List ℕ) (k : ℕ) (b : Lent) (shape : List ℕ) (tolerance : Lis
         number_is = q.0 ∙ ap def.number_of e.result;
         buffers_are = e.buffers;
         shape_is = q.1 ∙ ap (λ (x : StepReading). def.shape_of x shape) e.result;
-        tolerance-is = q.2 ∙ ap (λ (x : StepReading). def.tolerance_of x tolerance) e.result;
+        tolerance_is = q.2 ∙ ap (λ (x : StepReading). def.tolerance_of x tolerance) e.result;
       })

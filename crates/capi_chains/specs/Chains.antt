@@ -55,4 +55,4 @@ pub record Given (v : Verdict Step) (r : ℕ) (b b' : Lent) (shape shape' : List
   pub number_is : r ≡ number_of (step_reading v)
   pub buffers_are : b' ≡ step_filled v b
   pub shape_is : shape' ≡ shape_of (step_reading v) shape
-  pub tolerance-is : tolerance' ≡ tolerance_of (step_reading v) tolerance
+  pub tolerance_is : tolerance' ≡ tolerance_of (step_reading v) tolerance

@@ -74,7 +74,7 @@ pub extern "C" fn piskorlu_chain_step(
     ensures { def.Given
         (def.given file.now step
         (record {
-          w = w.entry.now;
+          w = w.old;
           u_free = u_free.old;
           lo = lo.old;
           hi = hi.old;
@@ -85,7 +85,7 @@ pub extern "C" fn piskorlu_chain_step(
         shape.old tolerance.old)
         result
         (record {
-          w = w.entry.now;
+          w = w.old;
           u_free = u_free.old;
           lo = lo.old;
           hi = hi.old;
@@ -94,7 +94,7 @@ pub extern "C" fn piskorlu_chain_step(
           motion = motion.old;
         })
         (record {
-          w = w.exit.now;
+          w = w.new;
           u_free = u_free.new;
           lo = lo.new;
           hi = hi.new;

@@ -32,7 +32,7 @@ pub extern "C" fn piskorlu_chain_step(
     ensures { def.Given
         (def.given file.now step
         (record {
-          w = w.entry.now;
+          w = w.old;
           u_free = u_free.old;
           lo = lo.old;
           hi = hi.old;
@@ -43,7 +43,7 @@ pub extern "C" fn piskorlu_chain_step(
         shape.old tolerance.old)
         result
         (record {
-          w = w.entry.now;
+          w = w.old;
           u_free = u_free.old;
           lo = lo.old;
           hi = hi.old;
@@ -52,7 +52,7 @@ pub extern "C" fn piskorlu_chain_step(
           motion = motion.old;
         })
         (record {
-          w = w.exit.now;
+          w = w.new;
           u_free = u_free.new;
           lo = lo.new;
           hi = hi.new;

@@ -15,7 +15,7 @@ use Rattle.capi_exact.specs.ExactNearest.{taken, Answered}
 
 module _ (words : List ℕ) (result : List Float) where
   refusing : taken words result ≡ false → Answered words 10 result result
-  refusing e = record { number_is = rw e; result-is = rw e }
+  refusing e = record { number_is = rw e; result_is = rw e }
 
   few_words : length words < 67 → taken words result ≡ false
   unfolding taken
@@ -34,4 +34,4 @@ module _ (words : List ℕ) (result : List Float) where
   pub accepted : (sum : List ℕ) (v : Float) → 67 ≤ length words → 1 ≤ length result → sum ≡ take 67 words → v ≡ nearest (meaning sum) → Answered words 0 result (set result 0 v)
   accepted sum v h g e f =
       let t : taken words result ≡ true = some_words h ∙ le-leb 1 (length result) g in
-      record { number_is = rw t; result-is = rw t (ap (set result 0) (f ∙ ap (λ (x : List ℕ). nearest (meaning x)) e)) }
+      record { number_is = rw t; result_is = rw t (ap (set result 0) (f ∙ ap (λ (x : List ℕ). nearest (meaning x)) e)) }

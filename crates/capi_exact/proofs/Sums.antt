@@ -77,7 +77,7 @@ left-short x b words counts h = rw h (record { number_is = refl; words_are = ref
 -- ---- the sign
 
 pub sign-short : (words : List ℕ) (sign : List ℤ) → sign_taken words sign ≡ false → Signed (sign_taken words sign) 10 words sign sign
-sign-short words sign h = rw h (record { number_is = refl; sign-is = refl })
+sign-short words sign h = rw h (record { number_is = refl; sign_is = refl })
 
 -- a sign is stored in eight bits, and is the same when it is read there
 eight-bits : (y : ℤ) → to_z w8 (of_z w8 (sign_of y)) ≡ sign_of y
@@ -90,7 +90,7 @@ pub sign-long : (words l : List ℕ) (sign : List ℤ) (z : ℤ) → sign_taken 
 sign-long words l sign z h e f =
     let t : to_z w8 (of_z w8 z) ≡ sign_of (meaning (take 67 words))
     = ap (λ (y : ℤ). to_z w8 (of_z w8 y)) f ∙ eight-bits (meaning l) ∙ ap (λ (k : List ℕ). sign_of (meaning k)) e in
-    rw h (record { number_is = refl; sign-is = ap (λ (y : ℤ). set sign 0 y) t })
+    rw h (record { number_is = refl; sign_is = ap (λ (y : ℤ). set sign 0 y) t })
 
 -- ---- what the calls pass on
 

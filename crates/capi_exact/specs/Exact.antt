@@ -43,4 +43,4 @@ sign_taken words sign = leb 67 (length words) && leb 1 (length sign)
 
 pub record Signed (b : Bool) (r : ℕ) (words : List ℕ) (sign sign' : List ℤ) : Type 0 where
   pub number_is : r ≡ cond b 0 10
-  pub sign-is : sign' ≡ cond b (set sign 0 (sign_of (meaning (take 67 words)))) sign
+  pub sign_is : sign' ≡ cond b (set sign 0 (sign_of (meaning (take 67 words)))) sign

@@ -17,4 +17,4 @@ result_left false words result = result
 
 pub record Answered (words : List ℕ) (r : ℕ) (result result' : List Float) : Type 0 where
   pub number_is : r ≡ number (taken words result)
-  pub result-is : result' ≡ result_left (taken words result) words result
+  pub result_is : result' ≡ result_left (taken words result) words result

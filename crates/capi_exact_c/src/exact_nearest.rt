@@ -1,7 +1,7 @@
 // The f64 nearest to an exact row sum, by plain numbers.
 ghost use Rattle.capi_exact.specs.ExactNearest as def;
 
-// The f64 nearest to what the first 67 words mean: 0, and result[0] is the value; or 10 where a slice is too short,
+// The f64 nearest to what the first 67 words mean: 0, and res[0] is the value; or 10 where a slice is too short,
 // and nothing is written.
 #[unsafe(no_mangle)]
 pub extern "C" fn piskorlu_exact_nearest(words: &[u64], res: &mut [f64]) -> u32

@@ -13,10 +13,10 @@ use Rattle.demand3.proofs.Theorem.{demand3}
 told_is : (x : Result) (a : Told) (w w' : List Float) → Left x a.answer a.nu a.states a.listed w w' → a ≡ told_of x
 told_is x a w w' h = rw (← h.answer, ← h.multipliers, ← h.states, ← h.listed)
 
-workspace-left : (x : Outcome) (a : BoxAnswer) (w : Workspace) → a ≡ answer_of x → drop (used x) w.after ≡ drop (used x) w.before → WorkspaceLeft a w
-workspace-left (refused k) a w e h = rw e h
-workspace-left (solved r) a w e h = rw e h
-workspace-left (infeasible c l r) a w e h = rw e h
+workspace_left : (x : Outcome) (a : BoxAnswer) (w : Workspace) → a ≡ answer_of x → drop (used x) w.after ≡ drop (used x) w.before → WorkspaceLeft a w
+workspace_left (refused k) a w e h = rw e h
+workspace_left (solved r) a w e h = rw e h
+workspace_left (infeasible c l r) a w e h = rw e h
 
 made-is : (l : List Call) (t : SolveReport) (r : List Told) (ws : List Workspace) (u : SolveReport) → Made t l r ws u
     → (u ≡ (all t l).tally) × (r ≡ map told_of (all t l).answers) × WorkspacesLeft r ws
@@ -33,7 +33,7 @@ made-is (c ∷ l) t (a ∷ r) (w ∷ ws) u h =
     let d = told_is (tallied t c).answer a w.before w.after left in (
       g.0 ∙ ap (λ (s : SolveReport). (all s l).tally) e,
       ap (λ (b : Told). b ∷ r) d ∙ ap (λ (b : List Told). told_of (tallied t c).answer ∷ b) (g.1 ∙ ap (λ (s : SolveReport). map told_of (all s l).answers) e),
-      (workspace-left (tallied t c).answer.outcome a.answer w left.answer left.workspace, g.2),
+      (workspace_left (tallied t c).answer.outcome a.answer w left.answer left.workspace, g.2),
     )
 
 pub demand3_of_code : DemandOfCode

@@ -124,12 +124,12 @@ Called b t s c a =
 at_once : (t s : Buffers) (c : Lent) (a : Answer) → Called false t s c a → (s ≡ t) × AtOnce c a
 unfolding tallies.reply tallies.counts_kept tallies.residual_kept
 at_once t s c a h =
-    let x = h.answer-is in
+    let x = h.answer_is in
     let n = x.number_is in
-    let counts : s.counts ≡ t.counts = rw n at h.tally-is in
-    let residual : s.residual ≡ t.residual = rw n at h.kept-is in (
+    let counts : s.counts ≡ t.counts = rw n at h.tally_is in
+    let residual : s.residual ≡ t.residual = rw n at h.kept_is in (
       ap (λ (l : List ℕ). record { counts = l; residual = s.residual }) counts ∙ ap (λ (l : List Float). record { counts = t.counts; residual = l }) residual,
-      record { number = n; nu = x.nu-is; states = x.states_are; listed = x.rows_are; counts = x.counts_are; residual = x.residual-is; workspace = x.workspace-left },
+      record { number = n; nu = x.nu_is; states = x.states_are; listed = x.rows_are; counts = x.counts_are; residual = x.residual_is; workspace = x.workspace_left },
     )
 
 module _ (t s : Buffers) (c : Lent) (a : Answer) (long : Long t) (h : Called true t s c a) where
@@ -145,22 +145,22 @@ module _ (t s : Buffers) (c : Lent) (a : Answer) (long : Long t) (h : Called tru
   left : s ≡ next t long c.call (plain.number (answer_of x.answer.outcome)) x.tally
   unfolding tallies.reply
   left =
-      let n = h.answer-is.number_is in
-      ap (λ (l : List ℕ). record { counts = l; residual = s.residual }) (rw n at h.tally-is)
-      ∙ ap (λ (l : List Float). record { counts = tallies.counts_kept (plain.number (answer_of x.answer.outcome)) x.tally t.counts; residual = l }) (rw n at h.kept-is)
+      let n = h.answer_is.number_is in
+      ap (λ (l : List ℕ). record { counts = l; residual = s.residual }) (rw n at h.tally_is)
+      ∙ ap (λ (l : List Float). record { counts = tallies.counts_kept (plain.number (answer_of x.answer.outcome)) x.tally t.counts; residual = l }) (rw n at h.kept_is)
 
   tells : Tells c a told
   unfolding tallies.reply
   tells =
-      let y = h.answer-is in
-      record { number = y.number_is; nu = y.nu-is; states = y.states_are; listed = y.rows_are; counts = y.counts_are; residual = y.residual-is }
+      let y = h.answer_is in
+      record { number = y.number_is; nu = y.nu_is; states = y.states_are; listed = y.rows_are; counts = y.counts_are; residual = y.residual_is }
 
   entered : Entered x (held s) told.answer told.nu told.states told.listed c.workspace a.workspace
   unfolding tallies.reply
   entered =
       record {
         tally = ap held left ∙ reads t long c.call;
-        left = record { answer = refl; multipliers = refl; states = refl; listed = refl; workspace = h.answer-is.workspace-left };
+        left = record { answer = refl; multipliers = refl; states = refl; listed = refl; workspace = h.answer_is.workspace_left };
       }
 
 -- ---- a list of calls

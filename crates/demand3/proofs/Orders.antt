@@ -162,14 +162,14 @@ same_number n = go (eqb n 0) refl
     go false e = refl
 
 -- on a tally that is not full a solve is answered as it is alone
-answer-is : (t : SolveReport) (c : Call) → full t ≡ false → answer_on t c ≡ alone c
+answer_is : (t : SolveReport) (c : Call) → full t ≡ false → answer_on t c ≡ alone c
 unfolding answer_on number_on alone
-answer-is t c h =
+answer_is t c h =
     ap (reply SWEEP_CAP c.problem c.watch c.nu c.states c.listed) (ap (λ (b : Bool). cond (eqb (number c) 0) (cond b 11 0) (number c)) h ∙ same_number (number c))
 
 tallied-is : (k : ℕ) (t : SolveReport) (c : Call) → k < enough → Within k t → tallied t c ≡ record { tally = joined_to t (alone c).outcome (alone c).nu; answer = alone c }
 unfolding tallied with
-tallied-is k t c b w = ap (with t) (answer-is t c (not_full k t (omega arith) w))
+tallied-is k t c b w = ap (with t) (answer_is t c (not_full k t (omega arith) w))
 
 -- ---- the two laws, from what is known of each solve
 

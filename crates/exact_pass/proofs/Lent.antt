@@ -93,7 +93,7 @@ module _ {n : ℕ} {w lo hi scale : List Float} {st : List ℕ} {nu : List Float
       system-lent e =
           rw r.fit.values (record {
             square = (r.fit.sized.0, r.fit.sized.1);
-            free-motion = e;
+            free_motion = e;
             scales = r.fit.sized.4;
             states = r.fit.states;
             below = below;

@@ -72,7 +72,7 @@ pub record Going (p : box.Problem) (most : ℕ) (b n : Now) : Type 0 where
   pub span : n.mark.span ≤ 528
   pub lent : RunLent (box.size p) p.w p.lo p.hi p.scale n.st n.nu n.q n.work
   pub workspace : length n.work ≡ length b.work
-  pub marks-long : length n.marks ≡ 32
+  pub marks_long : length n.marks ≡ 32
   pub steps : pass.steps p (at b) most ≡ pass.steps p (at n) n.mark.remaining
   pub round : pass.steps p (marked n) n.mark.since ≡ moved (at n)
   pub listed : n.q ≡ b.q
@@ -90,7 +90,7 @@ module _ {p : box.Problem} {st₀ : List ℕ} {nu₀ : List Float} {q : List ℕ
         span = omega arith;
         lent = record { fit = refit r.fit kept-st kept-nu; list = r.list; workspace = rw kept-work r.workspace };
         workspace = refl;
-        marks-long = long;
+        marks_long = long;
         steps = refl;
         round = marked_new p nu _ st _ copied.part (rw (kept-st ∙ r.fit.states ∙ sym (kept-nu ∙ r.fit.values)) at noted);
         listed = refl;
@@ -138,7 +138,7 @@ module _ {p : box.Problem} {most : ℕ} {b n : Now} (g : Going p most b n) where
           span = a.span;
           lent = relent g.lent work h kept-work;
           workspace = kept-work ∙ h.1.1.1.0 ∙ g.workspace;
-          marks-long = kept-marks ∙ g.marks-long;
+          marks_long = kept-marks ∙ g.marks_long;
           steps = g.steps ∙ more ∙ a.remaining.steps p round;
           round = a.round p round;
           listed = o.1 ∙ g.listed;
@@ -150,7 +150,7 @@ module _ {p : box.Problem} {most : ℕ} {b n : Now} (g : Going p most b n) where
   after-lent kept-st kept-nu kept-work more_left =
       let f = g.lent.fit in
       record {
-        lent = rw (kept-nu, f.values) (record { states = kept-st ∙ f.states; few = f.sized.0; workspace = rw kept-work g.lent.workspace; long = rw g.marks-long f.sized.0 });
+        lent = rw (kept-nu, f.values) (record { states = kept-st ∙ f.states; few = f.sized.0; workspace = rw kept-work g.lent.workspace; long = rw g.marks_long f.sized.0 });
         some = more_left;
         since = omega (arith, g.since, g.bounded);
         span = g.span;

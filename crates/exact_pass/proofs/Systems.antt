@@ -51,9 +51,9 @@ unfolding private.residual_row
 residual_again r scale l z b j h c x v e = turns_again _ _ j _ _ h (rw (e, v, x, c))
 
 module _ (w scale : List Float) (l : List ℕ) (rhs z : List Float) (i : ℕ) where
-  pub residual-is : {a : ℕ} {r : List Float} {b s : Float} → a ≡ get_or l i 0 → r ≡ box.row w (length scale) a → b ≡ at rhs i → s ≡ private.residual_row r scale l z b (length l) → s ≡ pass.residual w scale l rhs z i
+  pub residual_is : {a : ℕ} {r : List Float} {b s : Float} → a ≡ get_or l i 0 → r ≡ box.row w (length scale) a → b ≡ at rhs i → s ≡ private.residual_row r scale l z b (length l) → s ≡ pass.residual w scale l rhs z i
   unfolding pass.residual private.residual_row
-  residual-is e f g h = rw (h, g, f, e)
+  residual_is e f g h = rw (h, g, f, e)
 
   pub too_large-is : {a : ℕ} {r : List Float} {x : Float} {b : Bool} → a ≡ get_or l i 0 → r ≡ box.row w (length scale) a → x ≡ pass.residual w scale l rhs z i → b ≡ private.too_large r scale a x → b ≡ private.too_large_at w scale l rhs z i
   too_large-is e f g h = rw (h, g, f, e)

@@ -93,7 +93,7 @@ pub record SizesLent (n : ℕ) (scale : List Float) (st : List ℕ) : Type 0 whe
 -- what shows whether a problem of n rows falls along the rows of l
 pub record FallsLent (n : ℕ) (w u_free : List Float) (l : List ℕ) : Type 0 where
   pub square : Square w n
-  pub free-motion : length u_free ≡ n
+  pub free_motion : length u_free ≡ n
   pub below : Below n l
 
 -- what the ratio test is lent, for the free rows l and their direction y
@@ -111,7 +111,7 @@ pub record DirectionLent (n : ℕ) (scale : List Float) (l : List ℕ) (z y : Li
 -- what the system of the free rows l is made from
 pub record SystemLent (n : ℕ) (w u_free scale : List Float) (st l : List ℕ) (work : List Float) : Type 0 where
   pub square : Square w n
-  pub free-motion : length u_free ≡ n
+  pub free_motion : length u_free ≡ n
   pub scales : length scale ≡ n
   pub states : length st ≡ n
   pub below : Below n l
@@ -145,7 +145,7 @@ pub record ColumnLent (n : ℕ) (w : List Float) (l : List ℕ) (rhs : List Floa
 -- what the right-hand side of the rows l is made from
 pub record RightHandLent (n : ℕ) (w u_free : List Float) (st l : List ℕ) (rhs : List Float) : Type 0 where
   pub square : Square w n
-  pub free-motion : length u_free ≡ n
+  pub free_motion : length u_free ≡ n
   pub states : length st ≡ n
   pub listed : Listed n l rhs
 

@@ -423,7 +423,7 @@ module _ (m n : ℕ) (a b x : List Float) (room : ℕ) where
   refuse w e =
       rw e
       (record
-      { number_is = refl; rank_is = refl; rank-small = omega arith; a-left = refl; b-left = refl; x-left = refl; workspace-left = refl })
+      { number_is = refl; rank_is = refl; rank_small = omega arith; a_is = refl; b_is = refl; x_is = refl; workspace_left = refl })
 
   pub answer : (rank : ℕ) (a1 b1 x1 w w1 : List Float) → least.solution rank a1 b1 x1 ≡ least.least_norm m n a b
       → drop 1056 w1 ≡ drop 1056 w → rank ≤ 32 → m ≤ 32 → n ≤ 32 → length a ≡ m * n → length b ≡ m → length x ≡ n
@@ -431,4 +431,4 @@ module _ (m n : ℕ) (a b x : List Float) (room : ℕ) where
   answer rank a1 b1 x1 w w1 ea ew er g h e f k l =
       rw (right_sizes g h e f k l, ← ea)
       (record
-      { number_is = refl; rank_is = refl; rank-small = er; a-left = refl; b-left = refl; x-left = refl; workspace-left = ew })
+      { number_is = refl; rank_is = refl; rank_small = er; a_is = refl; b_is = refl; x_is = refl; workspace_left = ew })

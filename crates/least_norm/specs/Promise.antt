@@ -56,8 +56,8 @@ used (answered s) = 1056
 pub record Replied (reply : Reply) (r : Outcome) (a a' b b' x x' w w' : List Float) : Type 0 where
   pub number_is : number r ≡ reply_number reply
   pub rank_is : rank r ≡ reply_rank reply
-  pub rank-small : rank r ≤ 32
-  pub a-left : a' ≡ a_left reply a
-  pub b-left : b' ≡ b_left reply b
-  pub x-left : x' ≡ x_left reply x
-  pub workspace-left : drop (used reply) w' ≡ drop (used reply) w
+  pub rank_small : rank r ≤ 32
+  pub a_is : a' ≡ a_left reply a
+  pub b_is : b' ≡ b_left reply b
+  pub x_is : x' ≡ x_left reply x
+  pub workspace_left : drop (used reply) w' ≡ drop (used reply) w

@@ -20,8 +20,8 @@ or_left : (a b : Bool) → a || b ≡ false → a ≡ false
 or_left true b h = h
 or_left false b h = refl
 
-pub few-rows : (n motion : ℕ) (q : Bool) → q ≡ (ltb 32 n || ltb 2048 motion) → q ≡ false → n ≤ 32
-few-rows n motion q e h = ltb-false 32 n (or_left _ _ (sym e ∙ h))
+pub few_rows : (n motion : ℕ) (q : Bool) → q ≡ (ltb 32 n || ltb 2048 motion) → q ≡ false → n ≤ 32
+few_rows n motion q e h = ltb-false 32 n (or_left _ _ (sym e ∙ h))
 
 pub right : (k n : ℕ) (z : Bool) → z ≡ not (eqb k (row_start n)) → z ≡ false → k ≡ row_start n
 right k n z e h = eqb-true k (row_start n) (not-false _ (sym e ∙ h))

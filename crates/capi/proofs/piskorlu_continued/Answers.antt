@@ -22,4 +22,4 @@ returns-then-taken c = rw (
     c.leave.ensures
 
 pub returns : goal.returns
-returns c = rw (← c.taken.ensures, c.if-taken.false) (record { number_is = refl; counts_are = refl; residual-is = refl })
+returns c = rw (← c.taken.ensures, c.if-taken.false) (record { number_is = refl; counts_are = refl; residual_is = refl })

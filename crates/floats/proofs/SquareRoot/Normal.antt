@@ -21,8 +21,8 @@ infinity_bits = 0x7ff0_0000_0000_0000
 pub record Norm (b s e : ℕ) : Type 0 where
   pub lo : hidden_bit ≤ s
   pub hi : s < 2 * hidden_bit
-  pub e-lo : 1000 ≤ e
-  pub e-hi : e ≤ 3119
+  pub e_lo : 1000 ≤ e
+  pub e_hi : e ≤ 3119
   pub val : units_of (of_bits binary64 b) * 2 ^ 1074 ≡ s * 2 ^ e
   pub is : sqrt (of_bits binary64 b) ≡ nearest_root (s * 2 ^ e)
 
@@ -39,8 +39,8 @@ of_normal b h k =
     record {
       lo = lo;
       hi = hi;
-      e-lo = omega arith;
-      e-hi = omega arith;
+      e_lo = omega arith;
+      e_hi = omega arith;
       val = ap (λ (y : ℕ). units_of (of_bits binary64 y) * 2 ^ 1074) split ∙ ap (λ (y : Float). units_of y * 2 ^ 1074) (normal x s lo hi top) ∙ ap (λ (y : ℕ). y * 2 ^ 1074) (units_odd s x) ∙ mul_assoc s (2 ^ x) (2 ^ 1074) ∙ ap (λ (y : ℕ). s * y) (sym (pow-add 2 x 1074)) ∙ ap (λ (y : ℕ). s * 2 ^ y) e;
       is = ap (λ (y : ℕ). sqrt (of_bits binary64 y)) split ∙ ap sqrt (normal x s lo hi top) ∙ sqrt_odd s x S ∙ ap (λ (y : ℕ). nearest_root (s * 2 ^ y)) e;
     }
@@ -86,8 +86,8 @@ of_subnormal b p h =
     (record {
       lo = l.low;
       hi = l.high;
-      e-lo = omega arith;
-      e-hi = omega arith;
+      e_lo = omega arith;
+      e_hi = omega arith;
       val = ap (λ (y : Float). units_of y * 2 ^ 1074) (subnormal b h) ∙ ap (λ (y : ℕ). y * 2 ^ 1074) (units_odd b 0 ∙ mul-one b) ∙ sym l.is;
       is = ap sqrt (subnormal b h) ∙ sqrt_odd b 0 p ∙ ap nearest_root (sym l.is);
     })
@@ -143,8 +143,8 @@ module _ {b s e : ℕ} (p : ℕ) (n : Norm b s e) (w : Whole (s * 2 ^ (e % 2) * 
       let k = e / 2 - 26 in
       let q = (p + 1) / 2 in
       let r = p_range in
-      let e-lo = n.e-lo in
-      let e-hi = n.e-hi in
+      let e_lo = n.e_lo in
+      let e_hi = n.e_hi in
       let q-lo : hidden_bit ≤ q = omega arith in
       let q-hi : q < 2 * hidden_bit = omega arith in
       let K : suc k < 2047 = omega arith in

@@ -56,6 +56,6 @@ returns c = record {
   long = omega arith;
   before = front_done c.args.nu.now c.args.before.now c.loop-i.i c.loop-i.before c.loop-i.invariant.5 (omega arith)
       ∙ front-whole c.args.nu.now c.args.before.now (omega arith);
-  before-long = omega arith;
+  before_long = omega arith;
   stopped = turns_done _ _ _ _ _ (omega arith) (omega arith) c.loop-i.invariant.7;
 }

@@ -20,7 +20,7 @@ slice_bounds-l-end c = simp length-take (omega arith)
 
 pub falls-requires : goal.falls-requires
 falls-requires c = let fit = c.requires.rows in
-    record { square = rw fit.values (fit.sized.0, fit.sized.1); free-motion = omega arith; below = search rules }
+    record { square = rw fit.values (fit.sized.0, fit.sized.1); free_motion = omega arith; below = search rules }
 
 pub front-requires : goal.front-requires
 front-requires c = simp length-take (omega arith)

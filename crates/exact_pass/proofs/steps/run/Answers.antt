@@ -41,7 +41,7 @@ returns-then-ended c = pass-ran c.requires c.start-acting.ensures c.start-acting
     (going-ended c.loop-m.invariant c.step-e.ensures c.loop-m-test.true (sym c.ended.ensures ∙ c.if-ended.true))
 
 pub slice_bounds-after_step-end : goal.slice_bounds-after_step-end
-slice_bounds-after_step-end c = omega (arith, c.loop-m.invariant.marks-long)
+slice_bounds-after_step-end c = omega (arith, c.loop-m.invariant.marks_long)
 
 pub after_step-m-requires : goal.after_step-m-requires
 after_step-m-requires c = after-lent c.loop-m.invariant c.step-e.auto.states c.step-e.auto.nu c.step-e.auto.work c.loop-m-test.true

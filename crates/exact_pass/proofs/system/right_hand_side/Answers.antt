@@ -3,7 +3,7 @@ use Rattle.exact_pass.proofs.Systems.{columns-start, columns_again, columns_done
 use Rattle.exact_pass.proofs.system.right_hand_side.Goals as goal
 
 pub right_hand_start-requires : goal.right_hand_start-requires
-right_hand_start-requires c = rw c.requires.free-motion c.requires.listed
+right_hand_start-requires c = rw c.requires.free_motion c.requires.listed
 
 pub loop-j-init : goal.loop-j-init
 loop-j-init c = (search rules, search rules, search rules, columns-start _ _ _ _ _ _ _ c.right_hand_start.ensures)

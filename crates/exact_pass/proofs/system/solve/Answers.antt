@@ -15,4 +15,4 @@ shape_of-work c = c.solve.auto.workspace
 
 pub returns : goal.returns
 returns c = let p = c.requires in
-    solved c.args.b.now p _ _ c.solve.ensures.x-left c.solve.ensures.workspace-left
+    solved c.args.b.now p _ _ c.solve.ensures.x_is c.solve.ensures.workspace_left

@@ -1,7 +1,7 @@
 use Rattle.loops.proofs.Common.{ap, ◌∙◌, arith, length}
 use Rattle.box_rows.proofs.Matrix.{row-length}
 use Rattle.exact_pass.proofs.Rows.{row_in}
-use Rattle.exact_pass.proofs.Systems.{residual-is, too_large-is, two-tested}
+use Rattle.exact_pass.proofs.Systems.{residual_is, too_large-is, two-tested}
 use Rattle.exact_pass.proofs.system.two_rows.Goals as goal
 
 pub row-first-requires : goal.row-first-requires
@@ -31,8 +31,8 @@ shape_of-y c = omega arith
 pub returns : goal.returns
 returns c = let n1 = c.row_number-a.ensures in
     let n2 = c.row_number-b.ensures in
-    let first = residual-is _ _ _ _ _ _ n1 c.row-first.ensures c.at.ensures c.residual_rows-r.ensures.first in
-    let second = residual-is _ _ _ _ _ _ n2 c.row-second.ensures c.at-2.ensures c.residual_rows-r.ensures.second in
+    let first = residual_is _ _ _ _ _ _ n1 c.row-first.ensures c.at.ensures c.residual_rows-r.ensures.first in
+    let second = residual_is _ _ _ _ _ _ n2 c.row-second.ensures c.at-2.ensures c.residual_rows-r.ensures.second in
     two-tested _ _ _ c.args.rhs.now c.args.z.now c.args.i c.args.e c.args.y.now c.put.ensures c.put-2.ensures first second
     (too_large-is _ _ _ _ _ _ n1 c.row-first.ensures first c.too_large.ensures)
     (too_large-is _ _ _ _ _ _ n2 c.row-second.ensures second c.too_large-2.ensures)
