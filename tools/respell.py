@@ -186,7 +186,7 @@ def main(argv):
             open(p, "w", encoding="utf-8").write(n)
     for p in sorted(glob.glob("crates/*/src/**/*.rt", recursive=True)):
         lines = open(p, encoding="utf-8").read().split("\n")
-        inside = [turn(l, (lambda w: True) if l.lstrip().startswith("ghost use") else camel) for l in lines]
+        inside = [turn(l, (lambda w: True) if l.lstrip().startswith("ghost use") else lambda w: camel(w) and w != "NaN") for l in lines]
         if inside != lines:
             open(p, "w", encoding="utf-8").write("\n".join(inside))
     for p in sorted(glob.glob("crates/*/must-fail/**/*.edit", recursive=True)):
