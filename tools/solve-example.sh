@@ -8,7 +8,7 @@ set -eu
 cd "$(dirname "$0")/.."
 
 echo "solve-example: proves and builds the program bendsolve where that was not done yet, and solves one load step."
-echo "From nothing it takes some 10 minutes of one processor and 2 GB of memory; later less than a second."
+echo "From nothing it takes some 8 minutes of processor time and 2 GB of memory; later some two seconds."
 tools/needs.sh kit python
 
 log=target/solve-example.log
