@@ -1,39 +1,21 @@
--- A row's sum, as the loop that takes it from the left has it.
-use Prim.Native.Nat.{ℕ, ◌+◌, ◌≤◌, ◌<◌}
-use mathlib.Core.Path.{◌≡◌, refl, sym, ◌∙◌}
-use mathlib.Core.Logic.{⊎_elim}
+-- A row's sum over lists of which one has ended.
+use Rattle.std.proofs.Common.{◌≡◌, refl, sym, length}
 use mathlib.Core.List.{List, [], ◌∷◌}
-use native.Mathlib.Omega.{arith}
-use native.Mathlib.Numerals.{add-one}
-use lib.ListN.{length, drop, drop_of_length-le}
-use lib.Seq.{drop-cons}
-use lib.Ieee.{Float, nan}
-use Rattle.floats.specs.Ops.{◌⊕◌, ◌⊗◌, at}
+use lib.Ieee.{Float}
+use Rattle.std.proofs.lemmas.List.{nil_from_length}
 use Rattle.box_rows.specs.Rows.{row_sum}
-use Rattle.box_rows.specs.Private.{Fewer}
 
-module _ (r : List Float) (u : Float) (nu : List Float) where
-  -- what is still to be added to s after j columns
-  pub record Summing (j : ℕ) (s : Float) : Type 0 where
-    pub rest : row_sum r u nu ≡ row_sum (drop j r) s (drop j nu)
+no_multiplier : (r : List Float) (u : Float) → row_sum r u [] ≡ u
+unfolding row_sum
+no_multiplier [] u = refl
+no_multiplier (a ∷ r) u = refl
 
-  pub sum-start : Summing 0 u
-  sum-start = record { rest = refl }
+no_entry : (nu : List Float) (u : Float) → row_sum [] u nu ≡ u
+unfolding row_sum
+no_entry nu u = refl
 
-  pub sum_again : (j : ℕ) (s : Float) → Summing j s → j < length r → j < length nu → Summing (j + 1) (s ⊕ at r j ⊗ at nu j)
-  unfolding row_sum
-  sum_again j s h a b = record { rest = rw (add-one) (rw (drop-cons r j nan a, drop-cons nu j nan b) at h.rest) }
+pub row_sum_ended : (r : List Float) (u : Float) (nu : List Float) → length r ≡ 0 → u ≡ row_sum r u nu
+row_sum_ended r u nu e = rw (nil_from_length r e) (sym (no_entry nu u))
 
-  over : (s : Float) (v : List Float) → row_sum v s [] ≡ s
-  unfolding row_sum
-  over s [] = refl
-  over s (a ∷ v) = refl
-
-  pub sum_done : (j n : ℕ) (s : Float) → Fewer (length r) (length nu) n → n ≤ j → Summing j s → s ≡ row_sum r u nu
-  unfolding row_sum
-  sum_done j n s f g h =
-      sym
-      (⊎_elim
-      (λ (e : n ≡ length r). h.rest ∙ rw (drop_of_length-le r {i = j} (omega arith)))
-      (λ (e : n ≡ length nu). h.rest ∙ rw (drop_of_length-le nu {i = j} (omega arith)) (over s (drop j r)))
-      f.one)
+pub row_sum_ended-2 : (r : List Float) (u : Float) (nu : List Float) → length nu ≡ 0 → u ≡ row_sum r u nu
+row_sum_ended-2 r u nu e = rw (nil_from_length nu e) (sym (no_multiplier r u))

@@ -1,6 +1,6 @@
 -- Words of private contracts, here and in the crates above: what they are lent. No promise of a public call stands
 -- on them. Definitions only.
-use Rattle.std.specs.Prelude.{ℕ, ◌+◌, ◌*◌, ◌≤◌, ◌<◌, ◌⊎◌, ◌≡◌, Bool, not, cond, List, eqb, length, Float}
+use Rattle.std.specs.Prelude.{ℕ, ◌+◌, ◌*◌, ◌≤◌, ◌<◌, ◌≡◌, Bool, not, cond, List, eqb, length, Float}
 use Rattle.std.specs.Float.Ieee.{lt}
 use Rattle.loops.specs.Loops.{counted, noted}
 use Rattle.floats.specs.Ops.{at, 0ᶠ}
@@ -9,12 +9,6 @@ use Rattle.floats.specs.declared.Clamped.{Clamped}
 use Rattle.box_rows.specs.declared.Row.{Row}
 use Rattle.box_rows.specs.declared.Blocking.{Blocking}
 use Rattle.box_rows.specs.Rows.{Problem, MAX_ROWS, size, row, update, update_side}
-
--- r is the smaller of a and b
-pub record Fewer (a b r : ℕ) : Type 0 where
-  pub first : r ≤ a
-  pub second : r ≤ b
-  pub one : (r ≡ a) ⊎ (r ≡ b)
 
 -- where a row's update puts its multiplier, and the side at which it is stopped
 pub record Updated (row : Row) (r : Clamped) : Type 0 where

@@ -6,6 +6,8 @@ ghost use Rattle.std.specs.Prelude.{◌≡◌};
 ghost use Rattle.box_rows.specs.Rows as box;
 ghost use Rattle.box_rows.specs.Private as private;
 
+pub mod problem;
+
 use floats::Clamped;
 
 // The most rows of a problem.
@@ -159,26 +161,13 @@ pub fn grows(y: f64, lo: f64, hi: f64) -> bool
     up | down
 }
 
-// The smaller of two lengths.
-fn fewer(a: usize, b: usize) -> usize
-    ensures { private.Fewer a b result }
-{
-    if a < b {
-        return a;
-    }
-    b
-}
-
 // u, then + each entry of the row times its multiplier, from the left, as long as there are both.
 pub fn row_sum(row: &[f64], u: f64, nu: &[f64]) -> f64
     ensures { result ≡ box.row_sum row.now u nu.now }
 {
-    let n = fewer(row.len(), nu.len());
     let mut s = u;
-    let mut j = 0;
-    while j < n {
-        s = s + row[j] * nu[j];
-        j += 1;
+    for (entry, multiplier) in row.iter().zip(nu) {
+        s = s + *entry * *multiplier;
     }
     s
 }

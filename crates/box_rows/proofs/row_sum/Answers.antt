@@ -1,19 +1,17 @@
-use Rattle.box_rows.proofs.Sums.{sum-start, sum_again, sum_done}
-use borrow.Author.Rules.{rules}
-use native.Mathlib.Omega.{arith}
+use Rattle.std.proofs.Common.{sym}
+use Rattle.std.proofs.Math.Logic.{⊎_elim}
+use mathlib.Core.Path.{◌∙◌}
+use Rattle.box_rows.specs.Rows.{row_sum}
+use Rattle.box_rows.proofs.Sums.{row_sum_ended, row_sum_ended-2}
 use Rattle.box_rows.proofs.row_sum.Goals as goal
 
-pub loop-j-init : goal.loop-j-init
-loop-j-init c = (search rules, search rules, sum-start _ _ _)
-
-pub bounds-row-j : goal.bounds-row-j
-bounds-row-j c = omega (arith, c.loop-j.invariant.1)
-
-pub bounds-nu-j : goal.bounds-nu-j
-bounds-nu-j c = omega (arith, c.loop-j.invariant.1)
-
-pub loop-j-preserved : goal.loop-j-preserved
-loop-j-preserved c = (search rules, search rules, sum_again _ _ _ _ _ c.loop-j.invariant.2 (omega (arith, c.loop-j.invariant.1)) (omega (arith, c.loop-j.invariant.1)))
+pub loop-entry-preserved : goal.loop-entry-preserved
+unfolding row_sum
+loop-entry-preserved c = rw (c.in-Some.ensures.steps.0, c.in-Some.ensures.steps.1) at c.loop-entry.invariant
 
 pub returns : goal.returns
-returns c = sum_done _ _ _ _ _ _ c.loop-j.invariant.1 (omega arith) c.loop-j.invariant.2
+returns c =
+    ⊎_elim
+    (λ e. row_sum_ended _ _ _ e.1.0 ∙ sym c.loop-entry.invariant)
+    (λ e. row_sum_ended-2 _ _ _ e.1.0 ∙ sym c.loop-entry.invariant)
+    c.in-None.ensures.steps
