@@ -8,7 +8,7 @@ use Rattle.floats.specs.Helpers.{none, larger}
 use Rattle.floats.specs.declared.Clamped.{Clamped}
 use Rattle.box_rows.specs.declared.Row.{Row}
 use Rattle.box_rows.specs.declared.Blocking.{Blocking}
-use Rattle.box_rows.specs.Rows.{Problem, MAX_ROWS, size, row, update, update_side}
+use Rattle.box_rows.specs.Rows.{Problem, MAX_ROWS, size, row, row_sum, update, update_side}
 
 -- where a row's update puts its multiplier, and the side at which it is stopped
 pub record Updated (row : Row) (r : Clamped) : Type 0 where
@@ -46,6 +46,12 @@ Sized n w lo hi scale = (n ≤ MAX_ROWS) × (length w ≡ n * n) × (length lo �
 -- the entry in row i and column j of a matrix in rows of n
 abbrev pub entry : List Float → ℕ → ℕ → ℕ → Float
 entry w n i j = at w (i * n + j)
+
+-- row i of a problem by its numbers, at the multipliers nu
+abbrev pub row_at : Problem → List Float → ℕ → Row
+row_at p nu i =
+    let r = row p.w (size p) i in
+    record { nu = at nu i; u = row_sum r (at p.u_free i) nu; diagonal = at r i; lo = at p.lo i; hi = at p.hi i }
 
 abbrev pub row_of : Problem → ℕ → List Float
 row_of p i = row p.w (size p) i

@@ -3,6 +3,8 @@ ghost use Rattle.std.specs.Prelude.{◌≡◌, ◌<◌, length};
 ghost use Rattle.box_rows.specs.Rows as box;
 ghost use Rattle.box_rows.specs.Private.{Sized};
 
+use crate::{Row, natural_residual, row_sum};
+
 // A problem's lists, where they fit one another: W by rows, and for each row its free motion, its bounds and its scale.
 #[derive(Clone, Copy)]
 pub struct BoxProblem<'a> {
@@ -15,6 +17,9 @@ pub struct BoxProblem<'a> {
 }
 
 impl<'a> BoxProblem<'a> {
+    ghost use Rattle.box_rows.specs.Private as private;
+    ghost use Rattle.box_rows.specs.Lent as lent;
+
     // How many rows it has.
     pub fn n(&self) -> usize
         ensures { result ≡ length self.now.u_free.now }
@@ -25,9 +30,35 @@ impl<'a> BoxProblem<'a> {
     // Row i of W.
     pub fn row(&self, i: usize) -> &'a [f64]
         requires { i < length self.now.u_free.now }
-        ensures { result.now ≡ box.row self.now.w.now (length self.now.u_free.now) i }
+        ensures row { result.now ≡ box.row self.now.w.now (length self.now.u_free.now) i }
+        ensures long { length result.now ≡ length self.now.u_free.now }
     {
         let n = self.n();
         &self.w[i * n..(i + 1) * n]
+    }
+
+    // Row i by its numbers, at the multipliers nu.
+    pub fn row_at(&self, i: usize, nu: &[f64]) -> Row
+        requires inside { i < length self.now.u_free.now }
+        requires multipliers { length nu.now ≡ length self.now.u_free.now }
+        ensures { result ≡ private.row_at (lent.of self.now) nu.now i }
+    {
+        let row = self.row(i);
+        Row {
+            nu: nu[i],
+            u: row_sum(row, self.u_free[i], nu),
+            diagonal: row[i],
+            lo: self.lo[i],
+            hi: self.hi[i],
+        }
+    }
+
+    // How far its update would move its multiplier, over its scale.
+    pub fn residual_at(&self, i: usize, nu: &[f64]) -> f64
+        requires inside { i < length self.now.u_free.now }
+        requires multipliers { length nu.now ≡ length self.now.u_free.now }
+        ensures { result ≡ box.residual_at (lent.of self.now) nu.now i }
+    {
+        natural_residual(self.row_at(i, nu), self.scale[i])
     }
 }
