@@ -4,7 +4,7 @@ use Rattle.std.specs.Prelude.{ℕ, ◌+◌, ◌*◌, ◌≤◌, ◌<◌, ◌≡�
 use Rattle.std.specs.Float.Ieee.{lt}
 use Rattle.loops.specs.Loops.{counted, noted}
 use Rattle.floats.specs.Ops.{at, 0ᶠ}
-use Rattle.floats.specs.Helpers.{none, larger}
+use Rattle.floats.specs.Helpers.{larger}
 use Rattle.floats.specs.declared.Clamped.{Clamped}
 use Rattle.box_rows.specs.declared.Row.{Row}
 use Rattle.box_rows.specs.declared.Blocking.{Blocking}
@@ -55,7 +55,3 @@ row_at p nu i =
 
 abbrev pub row_of : Problem → ℕ → List Float
 row_of p i = row p.w (size p) i
-
--- whether an update is stopped, by its side
-abbrev pub is_stopped : ℕ → Bool
-is_stopped s = not (eqb s none)

@@ -1,10 +1,11 @@
 -- The rows of a box problem, by document 01 and boxed.rs: the problem, a row's state, its update, its natural
 -- residual, its sum, and its part in an exact pass and in a ray. Definitions only.
-use Rattle.std.specs.Prelude.{ℕ, ◌+◌, ◌*◌, Bool, false, not, cond, ◌&&◌, ◌||◌, List, [], ◌∷◌, eqb, get_or, length, Float}
+use Rattle.std.specs.Prelude.{ℕ, ◌+◌, ◌*◌, Bool, false, not, cond, ◌&&◌, ◌||◌, List, [], ◌∷◌, Option, eqb, get_or, length, Float}
 use Rattle.std.specs.Float.Ieee.{lt, le, eq}
 use Rattle.loops.specs.Loops.{tab}
 use Rattle.floats.specs.Ops.{◌⊕◌, ◌⊖◌, ◌⊗◌, ◌⊘◌, at, 0ᶠ, 1e-9, ∞, −∞}
 use Rattle.floats.specs.Helpers.{clamp, side, abs, larger, nan_test, is_finite}
+use Rattle.floats.specs.declared.Side.{Side}
 use Rattle.box_rows.specs.declared.Blocking.{Blocking}
 
 -- ---- the problem, of at most 32 rows
@@ -82,8 +83,8 @@ row_sum (a ∷ r) u (v ∷ nu) = row_sum r (u ⊕ a ⊗ v) nu
 unfoldable pub update : Float → Float → Float → Float → Float → Float
 update v u d lo hi = clamp (v ⊖ u ⊘ d) lo hi
 
--- the side at which it is stopped
-unfoldable pub update_side : Float → Float → Float → Float → Float → ℕ
+-- the side at which it is stopped, if it is
+unfoldable pub update_side : Float → Float → Float → Float → Float → Option Side
 update_side v u d lo hi = side (v ⊖ u ⊘ d) lo hi
 
 unfoldable pub natural_residual : Float → Float → Float → Float → Float → Float → Float

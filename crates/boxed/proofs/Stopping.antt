@@ -10,7 +10,9 @@ use lib.Ieee.{Float, lt}
 use Rattle.floats.specs.Ops.{◌⊖◌, ◌⊘◌, at}
 use Rattle.floats.proofs.Box.{stops-past}
 use Rattle.box_rows.specs.Rows as box
-use Rattle.box_rows.specs.Private.{is_stopped}
+use Rattle.floats.specs.declared.Side.{Side}
+use Rattle.std.specs.Prelude.{Option}
+use Rattle.std.specs.Option.{is_some}
 use Rattle.boxed.specs.Private.{SweptRow}
 use Rattle.boxed.proofs.Rows.{row-idle, row-acts}
 use Rattle.loops.specs.Loops.{turns, counted}
@@ -24,7 +26,7 @@ counted-within true k i q e h = omega (arith, e)
 counted-within false k i q e h = omega (arith, e)
 
 -- an update is stopped where what it clamps is past a bound
-is-past : (v u d l h : Float) → is_stopped (box.update_side v u d l h) ≡ (lt (v ⊖ u ⊘ d) l || lt h (v ⊖ u ⊘ d))
+is-past : (v u d l h : Float) → is_some (box.update_side v u d l h) ≡ (lt (v ⊖ u ⊘ d) l || lt h (v ⊖ u ⊘ d))
 unfolding box.update_side
 is-past v u d l h = stops-past (v ⊖ u ⊘ d) l h
 
@@ -37,7 +39,7 @@ module _ (w u_free lo hi : List Float) (st : List ℕ) (i : ℕ) (nu : List Floa
   row_stays h = let a = row-idle st i q e h in record { multipliers = rw a; stopped = rw a; within = omega arith }
 
   -- r is the row and u its sum; its update puts the multiplier v, which d divides and l and h bound, at x, stopped at the side s
-  pub row_moves : (nu' r : List Float) (k' s : ℕ) (x v u d l h f : Float) → (q ≡ box.idle → ⊥) → nu' ≡ set nu i x → k' ≡ counted (is_stopped s) k
+  pub row_moves : (nu' r : List Float) (k' : ℕ) (s : Option Side) (x v u d l h f : Float) → (q ≡ box.idle → ⊥) → nu' ≡ set nu i x → k' ≡ counted (is_some s) k
       → x ≡ box.update v u d l h → s ≡ box.update_side v u d l h → u ≡ box.row_sum r f nu → f ≡ at u_free i → v ≡ at nu i → d ≡ at r i → l ≡ at lo i → h ≡ at hi i
       → r ≡ box.row w (length u_free) i → RowSwept nu' k'
   unfolding private.sweep_row private.stops

@@ -1,20 +1,20 @@
 // One sweep: each row that acts updates its multiplier, in order, and the rows that are stopped at a bound are counted.
 ghost use Rattle.std.specs.Prelude.{◌≡◌, ◌+◌, ◌<◌, length};
+ghost use Rattle.std.specs.Option.{is_some};
 ghost use Rattle.loops.specs.Loops.{counted};
-ghost use Rattle.box_rows.specs.Private.{CountedRow, is_stopped};
+ghost use Rattle.box_rows.specs.Private.{CountedRow};
 ghost use Rattle.boxed.specs.Private as private;
 
 use crate::read;
+use floats::Side;
 
-// k, and one more where an update is stopped at this side.
-fn count(side: u8, k: u32) -> u32
+// k, and one more where an update is stopped at a side.
+#[tactic(auto, unfolding(loops::specs::Loops::counted))]
+fn count(side: Option<Side>, k: u32) -> u32
     requires { k < private.MOST }
-    ensures { result ≡ counted (is_stopped side) k }
+    ensures { result ≡ counted (is_some side) k }
 {
-    if side == floats::NONE {
-        return k;
-    }
-    k + 1
+    if side.is_some() { k + 1 } else { k }
 }
 
 // Updates the multiplier of row i where the row acts. Answers how many rows up to it are stopped at a bound, k being

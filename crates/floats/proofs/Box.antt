@@ -5,7 +5,10 @@ use native.Mathlib.Omega.{arith}
 use lib.Dec.{T, eqb}
 use lib.Ieee.{Float, nan, inf, fin, lt, le, eq, ne}
 use lib.Ieee.Compare.{differs_from_itself}
-use Rattle.floats.specs.Helpers.{clamp, none, low, high, side}
+use Rattle.std.specs.Prelude.{Some, None}
+use Rattle.std.specs.Option.{is_some}
+use Rattle.floats.specs.Helpers.{clamp, side}
+use Rattle.floats.specs.declared.Side.TheVariants.{Low, High}
 use Rattle.floats.proofs.Order.{le_left, le_right, le_self, total, not-above}
 
 unfoldable pub in_box : Float → Float → Float → Bool
@@ -42,26 +45,26 @@ clamp-nan v lo hi h = rw (differs_from_itself v (subst T (sym h) tt)) (go lo hi)
 -- ---- the side at which a clamp stops
 
 -- it stops where v is past a bound, and nowhere else
-pub stops-past : (v lo hi : Float) → not (eqb (side v lo hi) none) ≡ (lt v lo || lt hi v)
+pub stops-past : (v lo hi : Float) → is_some (side v lo hi) ≡ (lt v lo || lt hi v)
 unfolding side
 stops-past v lo hi = go (lt v lo) (lt hi v)
   where
-    go : (a b : Bool) → not (eqb (cond a low (cond b high none)) none) ≡ (a || b)
+    go : (a b : Bool) → is_some (cond a (Some Low) (cond b (Some High) None)) ≡ (a || b)
     go true b = refl
     go false true = refl
     go false false = refl
 
 -- a value in its box is not stopped
-pub side-inside : (v lo hi : Float) → le lo v ≡ true → le v hi ≡ true → side v lo hi ≡ none
+pub side-inside : (v lo hi : Float) → le lo v ≡ true → le v hi ≡ true → side v lo hi ≡ None
 unfolding side
 side-inside v lo hi p q = rw (not-above v lo p, not-above hi v q)
 
 -- one that is not stopped stays
-pub unstopped : (v lo hi : Float) → side v lo hi ≡ none → clamp v lo hi ≡ v
+pub unstopped : (v lo hi : Float) → side v lo hi ≡ None → clamp v lo hi ≡ v
 unfolding side clamp
 unstopped v lo hi = go (lt v lo) (lt hi v)
   where
-    go : (a b : Bool) → cond a low (cond b high none) ≡ none → cond a lo (cond b hi v) ≡ v
-    go true b e = absurd (omega (arith, e))
-    go false true e = absurd (omega (arith, e))
+    go : (a b : Bool) → cond a (Some Low) (cond b (Some High) None) ≡ None → cond a lo (cond b hi v) ≡ v
+    go true b e = cc
+    go false true e = cc
     go false false e = refl

@@ -1,15 +1,17 @@
 -- Worked examples of the float helpers and of the square root, floats by their bit patterns, as one table that the checker computes.
-use Rattle.std.specs.Prelude.{◌≡◌, refl, Bool, true, false, ◌&&◌, List, [], ◌∷◌, ℕ, eqb, Float}
+use Rattle.std.specs.Prelude.{◌≡◌, refl, Bool, true, false, ◌&&◌, List, [], ◌∷◌, ℕ, eqb, Option, Some, None, Float}
 use Rattle.std.specs.Bool.{beq}
 use Rattle.std.specs.Float.{binary64}
 use Rattle.std.specs.Float.Ieee.{of_bits, to_bits, add, lt, eq, ne, neg}
-use Rattle.floats.specs.Helpers.{clamp, none, low, high, side, larger, abs, nan_test, is_finite}
+use Rattle.floats.specs.Helpers.{clamp, side, larger, abs, nan_test, is_finite}
 use Rattle.floats.specs.Sqrt.{sqrt, nearest_root, whole_root}
+use Rattle.floats.specs.declared.Side.{Side}
+use Rattle.floats.specs.declared.Side.TheVariants.{Low, High}
 
 -- ---- a case: what goes in, and last what must come out
 
 data Case : Type 0 where
-  clamps : ℕ → ℕ → ℕ → ℕ → ℕ → Case
+  clamps : ℕ → ℕ → ℕ → ℕ → Option Side → Case
   larger_of : ℕ → ℕ → ℕ → Case
   absolute : ℕ → ℕ → Case
   nan_tested finite-test : ℕ → Bool → Case
@@ -22,9 +24,16 @@ is v b = eqb (to_bits binary64 v) b
 abbrev d : ℕ → Float
 d b = of_bits binary64 b
 
+-- whether two sides are one
+abbrev same_side : Option Side → Option Side → Bool
+same_side None None = true
+same_side (Some Low) (Some Low) = true
+same_side (Some High) (Some High) = true
+same_side _ _ = false
+
 unfoldable passes : Case → Bool
 unfolding clamp side larger abs nan_test is_finite sqrt nearest_root whole_root of_bits to_bits add lt eq ne neg
-passes (clamps v lo hi r s) = is (clamp (d v) (d lo) (d hi)) r && eqb (side (d v) (d lo) (d hi)) s
+passes (clamps v lo hi r s) = is (clamp (d v) (d lo) (d hi)) r && same_side (side (d v) (d lo) (d hi)) s
 passes (larger_of x y r) = is (larger (d x) (d y)) r
 passes (absolute v r) = is (abs (d v)) r
 passes (nan_tested v r) = beq (nan_test (d v)) r
@@ -85,30 +94,30 @@ abbrev −∞ : ℕ
 cases : List Case
 cases =
     -- below, inside, above, on each bound, equal bounds; last the side: a value that equals a bound is not stopped
-    clamps one two three two low ∷
-    clamps two one three two none ∷
-    clamps three one two two high ∷
-    clamps one one two one none ∷
-    clamps two one two two none ∷
-    clamps three two two two high ∷
+    clamps one two three two (Some Low) ∷
+    clamps two one three two None ∷
+    clamps three one two two (Some High) ∷
+    clamps one one two one None ∷
+    clamps two one two two None ∷
+    clamps three two two two (Some High) ∷
     -- inverted bounds: lo is tested first; a NaN value stays; a NaN bound does not bind
-    clamps one three two three low ∷
-    clamps three two one one high ∷
-    clamps nan_bits one two nan_bits none ∷
-    clamps three nan_bits two two high ∷
-    clamps one two nan_bits two low ∷
-    clamps three nan_bits nan_bits three none ∷
+    clamps one three two three (Some Low) ∷
+    clamps three two one one (Some High) ∷
+    clamps nan_bits one two nan_bits None ∷
+    clamps three nan_bits two two (Some High) ∷
+    clamps one two nan_bits two (Some Low) ∷
+    clamps three nan_bits nan_bits three None ∷
     -- infinities and zeros: -0 is not below +0
-    clamps −∞ zero' ∞ zero' low ∷
-    clamps ∞ −∞ ∞ ∞ none ∷
-    clamps −zero zero' one −zero none ∷
-    clamps zero' −one −zero zero' none ∷
-    clamps −least zero' one zero' low ∷
+    clamps −∞ zero' ∞ zero' (Some Low) ∷
+    clamps ∞ −∞ ∞ ∞ None ∷
+    clamps −zero zero' one −zero None ∷
+    clamps zero' −one −zero zero' None ∷
+    clamps −least zero' one zero' (Some Low) ∷
     -- just past a bound on either side, a value that is past both, and boxes of one value
-    clamps least −one zero' zero' high ∷
-    clamps two three one three low ∷
-    clamps zero' −zero −zero zero' none ∷
-    clamps ∞ one one one high ∷
+    clamps least −one zero' zero' (Some High) ∷
+    clamps two three one three (Some Low) ∷
+    clamps zero' −zero −zero zero' None ∷
+    clamps ∞ one one one (Some High) ∷
     -- the larger of two: order, NaN on either side and on both, zeros in either order, infinities
     larger_of one two two ∷
     larger_of two one two ∷

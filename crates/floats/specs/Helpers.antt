@@ -1,25 +1,17 @@
 -- Document 01's float helpers, by the comparisons that the code has. Definitions only. What they mean in terms of the sign bit and of the order is proved in proofs/Meaning.antt and proofs/Order.antt.
-use Rattle.std.specs.Prelude.{ℕ, Bool, cond, ◌&&◌, Float}
+use Rattle.std.specs.Prelude.{Bool, cond, ◌&&◌, Option, Some, None, Float}
 use Rattle.std.specs.Float.Ieee.{lt, eq, ne, neg}
 use Rattle.floats.specs.Ops.{◌⊕◌, 0ᶠ, ∞, −∞}
+use Rattle.floats.specs.declared.Side.{Side}
+use Rattle.floats.specs.declared.Side.TheVariants.{Low, High}
 
 -- lo if v < lo, else hi if v > hi, else v
 unfoldable pub clamp : Float → Float → Float → Float
 clamp v lo hi = cond (lt v lo) lo (cond (lt hi v) hi v)
 
--- the side at which a clamp stops a value: a byte
-abbrev pub none : ℕ
-none = 0
-
-abbrev pub low : ℕ
-low = 1
-
-abbrev pub high : ℕ
-high = 2
-
--- low if v < lo, else high if v > hi, else none
-unfoldable pub side : Float → Float → Float → ℕ
-side v lo hi = cond (lt v lo) low (cond (lt hi v) high none)
+-- the side at which it stops v: Low if v < lo, else High if v > hi, else None
+unfoldable pub side : Float → Float → Float → Option Side
+side v lo hi = cond (lt v lo) (Some Low) (cond (lt hi v) (Some High) None)
 
 -- the one that isn't NaN; NaN if both are; of +0 and -0, +0, which is their sum
 unfoldable pub larger : Float → Float → Float

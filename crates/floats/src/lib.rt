@@ -8,18 +8,18 @@ ghost use Rattle.floats.specs.Sqrt as root;
 
 mod root;
 
-// The side at which a clamp stops a value is a byte: at neither bound, at the lower one, at the upper one.
-pub const NONE: u8 = 0;
+// The side at which a clamp stops a value: at its lower bound, or at its upper one.
+#[derive(Clone, Copy, PartialEq, Eq)]
+pub enum Side {
+    Low,
+    High,
+}
 
-pub const LOW: u8 = 1;
-
-pub const HIGH: u8 = 2;
-
-// A value put into its box, and the side at which it was stopped.
+// A value put into its box, and the side at which it was stopped, where it was.
 #[derive(Clone, Copy)]
 pub struct Clamped {
     pub value: f64,
-    pub side: u8,
+    pub side: Option<Side>,
 }
 
 // lo if v < lo, else hi if v > hi, else v: also for bounds that are NaN, infinite or inverted. Only a value that is
@@ -30,18 +30,18 @@ pub fn clamp(v: f64, lo: f64, hi: f64) -> Clamped
     if v < lo {
         return Clamped {
             value: lo,
-            side: LOW,
+            side: Some(Side::Low),
         };
     }
     if v > hi {
         return Clamped {
             value: hi,
-            side: HIGH,
+            side: Some(Side::High),
         };
     }
     Clamped {
         value: v,
-        side: NONE,
+        side: None,
     }
 }
 
