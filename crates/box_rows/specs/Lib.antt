@@ -1,3 +1,4 @@
 pub mod Rows
 pub mod Private
 pub mod Lent
+pub mod States

@@ -1,6 +1,6 @@
 -- Words of private contracts, here and in the crates above: what they are lent. No promise of a public call stands
 -- on them. Definitions only.
-use Rattle.std.specs.Prelude.{ℕ, ◌+◌, ◌*◌, ◌≤◌, ◌<◌, ◌≡◌, Bool, not, cond, List, eqb, length, Float}
+use Rattle.std.specs.Prelude.{ℕ, ◌+◌, ◌*◌, ◌≤◌, ◌<◌, ◌≡◌, Bool, not, cond, ◌&&◌, leb, List, eqb, length, Float}
 use Rattle.std.specs.Float.Ieee.{lt}
 use Rattle.loops.specs.Loops.{counted, noted}
 use Rattle.floats.specs.Ops.{at, 0ᶠ}
@@ -42,6 +42,12 @@ Square w n = (n ≤ MAX_ROWS) × (length w ≡ n * n)
 -- the lists of a problem of n rows
 abbrev pub Sized : ℕ → List Float → List Float → List Float → List Float → Type 0
 Sized n w lo hi scale = (n ≤ MAX_ROWS) × (length w ≡ n * n) × (length lo ≡ n) × (length hi ≡ n) × (length scale ≡ n)
+
+-- whether the lists of a problem fit one another
+abbrev pub sized : Problem → Bool
+sized p =
+    leb (size p) MAX_ROWS && eqb (length p.w) (size p * size p) && eqb (length p.lo) (size p)
+    && eqb (length p.hi) (size p) && eqb (length p.scale) (size p)
 
 -- the entry in row i and column j of a matrix in rows of n
 abbrev pub entry : List Float → ℕ → ℕ → ℕ → Float

@@ -5,6 +5,7 @@
 ghost use Rattle.std.specs.Prelude.{◌≡◌};
 ghost use Rattle.box_rows.specs.Rows as box;
 ghost use Rattle.box_rows.specs.Private as private;
+ghost use Rattle.box_rows.specs.States as states;
 
 pub mod problem;
 
@@ -16,14 +17,34 @@ pub const MAX_ROWS: usize = 32;
 // How near a bound, over the row's scale, a multiplier must be for its row to count as on the bound.
 pub const ON_A_BOUND: f64 = 1e-9;
 
-// A state is a byte: a row strictly inside its box, on its lower bound, on its upper bound, or unable to act.
-pub const INSIDE: u8 = 0;
+// A row's state. A list of states is lent by C, so that it has a byte for each row, which the constants name.
+#[derive(Clone, Copy, PartialEq, Eq)]
+pub enum RowState {
+    // Strictly inside the box.
+    Inside = 0,
+    // On the lower bound.
+    AtLo = 1,
+    // On the upper bound.
+    AtHi = 2,
+    // Unable to act.
+    Idle = 3,
+}
 
-pub const AT_LO: u8 = 1;
+pub const INSIDE: u8 = RowState::Inside as u8;
 
-pub const AT_HI: u8 = 2;
+pub const AT_LO: u8 = RowState::AtLo as u8;
 
-pub const IDLE: u8 = 3;
+pub const AT_HI: u8 = RowState::AtHi as u8;
+
+pub const IDLE: u8 = RowState::Idle as u8;
+
+impl From<RowState> for u8 {
+    ghost from_gives = { λ s b. b ≡ states.byte s };
+
+    fn from(state: RowState) -> u8 {
+        state as u8
+    }
+}
 
 // A row's numbers: its multiplier, its row sum, its diagonal and its box.
 #[derive(Clone, Copy)]
@@ -45,6 +66,7 @@ pub struct Blocking {
 }
 
 // Where a row's update puts its multiplier, and the side at which it is stopped.
+#[tactic(auto, unfolding(crate::specs::Rows::update, crate::specs::Rows::update_side))]
 pub fn update(row: Row) -> Clamped
     ensures { private.Updated row result }
 {
@@ -52,6 +74,7 @@ pub fn update(row: Row) -> Clamped
 }
 
 // How far the update would move the multiplier, over the row's scale.
+#[tactic(auto, unfolding(crate::specs::Rows::natural_residual))]
 pub fn natural_residual(row: Row, scale: f64) -> f64
     ensures { result ≡ box.natural_residual row.nu row.u row.diagonal row.lo row.hi scale }
 {
@@ -60,6 +83,7 @@ pub fn natural_residual(row: Row, scale: f64) -> f64
 }
 
 // Whether a bound is finite and the gap to it small.
+#[tactic(auto, unfolding(crate::specs::Rows::on_bound))]
 fn on_bound(bound: f64, gap: f64, s: f64) -> bool
     ensures { result ≡ box.on_bound bound gap s }
 {
@@ -70,19 +94,21 @@ fn on_bound(bound: f64, gap: f64, s: f64) -> bool
 }
 
 // The state that a multiplier v shows: near both bounds the lower one wins.
-pub fn state_of(lo: f64, hi: f64, s: f64, v: f64) -> u8
-    ensures { result ≡ box.state_of lo hi s v }
+#[tactic(auto, unfolding(crate::specs::Rows::state_of))]
+pub fn state_of(lo: f64, hi: f64, s: f64, v: f64) -> RowState
+    ensures { states.byte result ≡ box.state_of lo hi s v }
 {
     if on_bound(lo, v - lo, s) {
-        return AT_LO;
+        return RowState::AtLo;
     }
     if on_bound(hi, hi - v, s) {
-        return AT_HI;
+        return RowState::AtHi;
     }
-    INSIDE
+    RowState::Inside
 }
 
 // Whether a row cannot act: its diagonal is NaN or at most 0.
+#[tactic(auto, unfolding(crate::specs::Rows::is_idle))]
 pub fn is_idle(d: f64) -> bool
     ensures { result ≡ box.is_idle d }
 {
@@ -96,29 +122,27 @@ pub fn is_idle(d: f64) -> bool
 pub fn placed(lo: f64, hi: f64, state: u8, v: f64) -> f64
     ensures { result ≡ box.placed lo hi state v }
 {
-    if state == AT_LO {
-        return lo;
+    match state {
+        AT_LO => lo,
+        AT_HI => hi,
+        _ => v,
     }
-    if state == AT_HI {
-        return hi;
-    }
-    v
 }
 
 // Whether a row on a bound is pushed inside: u is its row sum.
+#[tactic(auto, unfolding(crate::specs::Rows::pushed))]
 pub fn pushed(state: u8, u: f64) -> bool
     ensures { result ≡ box.pushed state u }
 {
-    if state == AT_LO {
-        return u < 0.0;
+    match state {
+        AT_LO => u < 0.0,
+        AT_HI => u > 0.0,
+        _ => false,
     }
-    if state == AT_HI {
-        return u > 0.0;
-    }
-    false
 }
 
 // Row a blocks the step in that state, if its ratio is the smaller.
+#[tactic(auto, unfolding(crate::specs::Private::nearer))]
 fn nearer(a: usize, state: usize, ratio: f64, r: Blocking) -> Blocking
     ensures { result ≡ private.nearer a state ratio r }
 {
@@ -133,6 +157,7 @@ fn nearer(a: usize, state: usize, ratio: f64, r: Blocking) -> Blocking
 }
 
 // The ratio test of row a at v, which moves by y: r is that of the rows before it.
+#[tactic(auto, unfolding(crate::specs::Rows::ratio_row, crate::specs::Private::nearer))]
 pub fn ratio_row(a: usize, v: f64, y: f64, lo: f64, hi: f64, r: Blocking) -> Blocking
     ensures { result ≡ box.ratio_row a v y lo hi r }
 {
@@ -146,6 +171,7 @@ pub fn ratio_row(a: usize, v: f64, y: f64, lo: f64, hi: f64, r: Blocking) -> Blo
 }
 
 // How far a row of scale s moves along y, over its scale.
+#[tactic(auto, unfolding(crate::specs::Rows::size_of))]
 pub fn size_of(y: f64, s: f64) -> f64
     ensures { result ≡ box.size_of y s }
 {

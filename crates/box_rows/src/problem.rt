@@ -1,5 +1,5 @@
 // The problem that a solve is lent.
-ghost use Rattle.std.specs.Prelude.{◌≡◌, ◌<◌, length};
+ghost use Rattle.std.specs.Prelude.{◌≡◌, ◌<◌, IsTrue, MatchOption, not, length};
 ghost use Rattle.box_rows.specs.Rows as box;
 ghost use Rattle.box_rows.specs.Private.{Sized};
 
@@ -19,6 +19,31 @@ pub struct BoxProblem<'a> {
 impl<'a> BoxProblem<'a> {
     ghost use Rattle.box_rows.specs.Private as private;
     ghost use Rattle.box_rows.specs.Lent as lent;
+
+    // The problem of the lists, if they fit one another.
+    pub fn new(
+        w: &'a [f64],
+        u_free: &'a [f64],
+        lo: &'a [f64],
+        hi: &'a [f64],
+        scale: &'a [f64],
+    ) -> Option<BoxProblem<'a>>
+        ensures { let p = box.problem w.now u_free.now lo.now hi.now scale.now in
+            MatchOption result (IsTrue (not (private.sized p))) (λ q. lent.of q ≡ p) }
+    {
+        let n = u_free.len();
+        let few = n <= crate::MAX_ROWS;
+        if few && w.len() == n * n && lo.len() == n && hi.len() == n && scale.len() == n {
+            return Some(BoxProblem {
+                w,
+                u_free,
+                lo,
+                hi,
+                scale,
+            });
+        }
+        None
+    }
 
     // How many rows it has.
     pub fn n(&self) -> usize

@@ -40,7 +40,7 @@ fn classify_row(lo: &[f64], hi: &[f64], scale: &[f64], nu: &[f64], states: &mut 
         read::at(scale, i),
         read::at(nu, i),
     );
-    read::put_state(states, i, s);
+    read::put_state(states, i, u8::from(s));
 }
 
 // Sets the state of every row that acts to the one that its multiplier shows.

@@ -30,7 +30,7 @@ fn start_row(
     let v = read::at(nu, i);
     let low = read::at(lo, i);
     let high = read::at(hi, i);
-    let s = box_rows::state_of(low, high, read::at(scale, i), v);
+    let s = u8::from(box_rows::state_of(low, high, read::at(scale, i), v));
     read::put_state(states, i, s);
     read::put(nu, i, box_rows::placed(low, high, s, v));
     acting + 1

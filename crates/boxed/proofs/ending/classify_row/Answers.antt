@@ -37,6 +37,7 @@ unfolding private.classify_row
 returns c = rw (
   row-acts _ _ _ c.state.ensures c.if-state-eq-IDLE.false,
   c.put_state.ensures,
+  c.from.ensures,
   c.state_of-s.ensures,
   c.at-4.ensures,
   c.at-3.ensures,

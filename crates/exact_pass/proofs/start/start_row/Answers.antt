@@ -1,4 +1,4 @@
-use Rattle.loops.proofs.Common.{refl, arith}
+use Rattle.loops.proofs.Common.{refl, ◌∙◌, arith}
 use Rattle.exact_pass.proofs.Rows.{idle-started, row-started}
 use Rattle.exact_pass.proofs.start.start_row.Goals as goal
 
@@ -40,4 +40,4 @@ shape_of-nu c = c.put.auto.v
 
 pub returns : goal.returns
 returns c = row-started _ _ _ _ _ _ _ c.requires.count c.state.ensures c.if-state-eq-IDLE.false c.at-v.ensures c.at-low.ensures
-    c.at-high.ensures c.at.ensures c.state_of-s.ensures c.put_state.ensures c.placed.ensures c.put.ensures
+    c.at-high.ensures c.at.ensures (c.from-s.ensures ∙ c.state_of.ensures) c.put_state.ensures c.placed.ensures c.put.ensures
