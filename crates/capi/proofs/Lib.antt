@@ -1,4 +1,3 @@
-pub mod LeastNorm
 pub mod Room
 pub mod Lower
 pub mod Solving

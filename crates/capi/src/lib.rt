@@ -13,7 +13,8 @@ ghost use Rattle.capi.specs.Reports as report;
 ghost use Rattle.capi.specs.Solves as plain;
 
 use boxed::BoxSolver;
-use least_norm::{LeastNorm, Outcome};
+use least_norm::LeastNorm;
+use refusals::Refusal;
 
 mod bend;
 mod reports;
@@ -34,6 +35,7 @@ pub extern "C" fn piskorlu_sqrt(v: f64) -> f64
 }
 
 // LeastNorm::solve: 0, and rank[0] is the rank; or 12, and nothing is written, also where rank has no place.
+#[tactic(auto, unfolding(crate::specs::LeastNorm::reply))]
 #[unsafe(no_mangle)]
 pub extern "C" fn piskorlu_least_norm(
     a: &mut [f64],
@@ -50,16 +52,15 @@ pub extern "C" fn piskorlu_least_norm(
         result a.old a.new b.old b.new x.old x.new
         workspace.old workspace.new rank.old rank.new }
 {
-    if rank.len() < 1 {
-        return 12;
+    if rank.is_empty() {
+        return Refusal::LeastNorm.into();
     }
-    let outcome = LeastNorm::solve(a, m, n, b, x, workspace);
-    match outcome {
-        Outcome::Rank(r) => {
+    match LeastNorm::solve(a, m, n, b, x, workspace) {
+        Ok(r) => {
             rank[0] = r as u32;
             0
         }
-        Outcome::Refused => 12,
+        Err(refusal) => refusal.into(),
     }
 }
 

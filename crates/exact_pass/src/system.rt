@@ -10,6 +10,7 @@ ghost use Rattle.exact_pass.specs.Pass as pass;
 ghost use Rattle.exact_pass.specs.Private as private;
 
 use crate::{Residuals, read};
+use least_norm::LeastNorm;
 
 // The right-hand side before any column: minus the free motion of each free row.
 fn right_hand_start(u_free: &[f64], free: &[u8], rhs: &mut [f64])
@@ -220,12 +221,12 @@ pub fn residual(
     inconsistent
 }
 
-// A least-norm call that fits: k rows and columns.
+// A least-norm call that fits: k rows and columns. It is not refused, and nobody asks for the rank.
 pub fn solve(m: &mut [f64], b: &mut [f64], z: &mut [f64], work: &mut [f64])
     requires { private.SolveLent (length b.old) m.old z.old work.old }
     ensures { private.Solved m.old b.old work.old z.new
         work.new }
 {
     let k = b.len();
-    least_norm::LeastNorm::solve(m, k, k, b, z, work);
+    let _ = LeastNorm::solve(m, k, k, b, z, work);
 }

@@ -6,9 +6,10 @@ use mathlib.Core.List.{List, ◌++◌}
 use native.Mathlib.Omega.{arith}
 use native.Mathlib.Nat.{zero-add, add_comm, mul-one, not-suc-le-zero}
 use native.Mathlib.Numerals.{add-one}
-use borrow.Author.Tests.{eq-eqb, ne_eqb, lt-ltb, le-ltb, lt-leb, le-leb}
+use borrow.Author.Tests.{eq-eqb, ne_eqb, lt-ltb, le-ltb}
 use lib.ListN.{length, set, replicate, take, drop}
 use lib.Seq.{length-take-le, drop-append-add, drop-drop, get_or-set_same, get_or-set_other}
+use Rattle.std.specs.Prelude.{Ok}
 use lib.Ieee.{Float, nan, binary64, add, sub, lt, eq}
 use Rattle.loops.specs.Loops.{between, swap, tab, turns}
 use Rattle.loops.specs.Updates.{updated}
@@ -21,7 +22,6 @@ use Rattle.floats.proofs.Sums.{gathered_ext}
 use Rattle.least_norm.specs.declared.Pivot.{Pivot}
 use Rattle.least_norm.specs.declared.Scan.{Scan}
 use Rattle.least_norm.specs.declared.Householder.{Householder}
-use Rattle.least_norm.specs.declared.Outcome.TheVariants.{Rank, Refused}
 use Rattle.least_norm.specs.Reflector as reflector
 use Rattle.least_norm.specs.LeastNorm as least
 use Rattle.least_norm.specs.Private as private
@@ -373,62 +373,9 @@ least-run m n a b k c rank s x a2 ea er es ek = rw (← ek, ← es.factors, ← 
 -- ---- the public call
 
 module _ (m n : ℕ) (a b x : List Float) (room : ℕ) where
-  pub wrong_m : 32 < m → promise.reply m n a b x room ≡ promise.refused 12
-  unfolding promise.reply
-  wrong_m h = rw (lt-leb m 32 h)
-
-  pub wrong-n : m ≤ 32 → 32 < n → promise.reply m n a b x room ≡ promise.refused 12
-  unfolding promise.reply
-  wrong-n g h = rw (le-leb m 32 g, lt-leb n 32 h)
-
-  pub wrong-a : m ≤ 32 → n ≤ 32 → (length a ≡ m * n → ⊥) → promise.reply m n a b x room ≡ promise.refused 12
-  unfolding promise.reply
-  wrong-a g h e = rw (le-leb m 32 g, le-leb n 32 h, ne_eqb (length a) (m * n) e)
-
-  pub wrong-b : m ≤ 32 → n ≤ 32 → length a ≡ m * n → (length b ≡ m → ⊥) → promise.reply m n a b x room ≡ promise.refused 12
-  unfolding promise.reply
-  wrong-b g h e f = rw (le-leb m 32 g, le-leb n 32 h, eq-eqb (length a) (m * n) e, ne_eqb (length b) m f)
-
-  pub wrong-x : m ≤ 32 → n ≤ 32 → length a ≡ m * n → length b ≡ m → (length x ≡ n → ⊥) → promise.reply m n a b x room ≡ promise.refused 12
-  unfolding promise.reply
-  wrong-x g h e f k = rw (le-leb m 32 g, le-leb n 32 h, eq-eqb (length a) (m * n) e, eq-eqb (length b) m f, ne_eqb (length x) n k)
-
-  pub wrong-room : m ≤ 32 → n ≤ 32 → length a ≡ m * n → length b ≡ m → length x ≡ n → room < 1056 → promise.reply m n a b x room ≡ promise.refused 12
-  unfolding promise.reply
-  wrong-room g h e f k l =
-      rw (
-        le-leb m 32 g,
-        le-leb n 32 h,
-        eq-eqb (length a) (m * n) e,
-        eq-eqb (length b) m f,
-        eq-eqb (length x) n k,
-        lt-leb 1056 room l,
-      )
-
-  right_sizes : m ≤ 32 → n ≤ 32 → length a ≡ m * n → length b ≡ m → length x ≡ n → 1056 ≤ room
-      → promise.reply m n a b x room ≡ promise.answered (least.least_norm m n a b)
-  unfolding promise.reply
-  right_sizes g h e f k l =
-      rw (
-        le-leb m 32 g,
-        le-leb n 32 h,
-        eq-eqb (length a) (m * n) e,
-        eq-eqb (length b) m f,
-        eq-eqb (length x) n k,
-        le-leb 1056 room l,
-      )
-
-  pub refuse : (w : List Float) → promise.reply m n a b x room ≡ promise.refused 12
-      → promise.Replied (promise.reply m n a b x room) Refused a a b b x x w w
-  refuse w e =
-      rw e
-      (record
-      { number_is = refl; rank_is = refl; rank_small = omega arith; a_is = refl; b_is = refl; x_is = refl; workspace_left = refl })
-
   pub answer : (rank : ℕ) (a1 b1 x1 w w1 : List Float) → least.solution rank a1 b1 x1 ≡ least.least_norm m n a b
-      → drop 1056 w1 ≡ drop 1056 w → rank ≤ 32 → m ≤ 32 → n ≤ 32 → length a ≡ m * n → length b ≡ m → length x ≡ n
-      → 1056 ≤ room → promise.Replied (promise.reply m n a b x room) (Rank rank) a a1 b b1 x x1 w w1
-  answer rank a1 b1 x1 w w1 ea ew er g h e f k l =
-      rw (right_sizes g h e f k l, ← ea)
-      (record
-      { number_is = refl; rank_is = refl; rank_small = er; a_is = refl; b_is = refl; x_is = refl; workspace_left = ew })
+      → drop 1056 w1 ≡ drop 1056 w → rank ≤ 32 → promise.fits m n a b x room ≡ true
+      → promise.Replied (promise.reply m n a b x room) (Ok rank) a a1 b b1 x x1 w w1
+  unfolding promise.reply
+  answer rank a1 b1 x1 w w1 ea ew er e =
+      rw (e, ← ea) (record { result_is = refl; rank_small = er; a_is = refl; b_is = refl; x_is = refl; workspace_left = ew })

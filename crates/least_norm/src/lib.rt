@@ -20,6 +20,8 @@ mod solution;
 mod trapezoid;
 mod vector;
 
+use refusals::Refusal;
+
 // A column and its squared norm.
 #[derive(Clone, Copy)]
 pub struct Pivot {
@@ -49,13 +51,6 @@ pub struct Householder {
     pub beta: f64,
     pub v0: f64,
     pub vtv: f64,
-}
-
-// The rank; or the call was refused and nothing written, document 01's number 12.
-#[derive(Clone, Copy)]
-pub enum Outcome {
-    Rank(usize),
-    Refused,
 }
 
 fn fewer(m: usize, n: usize) -> usize
@@ -219,6 +214,18 @@ fn least_norm(
     rank
 }
 
+// Whether the call can be taken.
+fn fits(a: &[f64], m: usize, n: usize, b: &[f64], x: &[f64], workspace: &[f64]) -> bool
+    ensures { result ≡ promise.fits m n a.now b.now x.now (length workspace.now) }
+{
+    m <= 32
+        && n <= 32
+        && a.len() == m * n
+        && b.len() == m
+        && x.len() == n
+        && workspace.len() >= 1056
+}
+
 #[derive(Clone, Copy)]
 pub struct LeastNorm {}
 
@@ -233,37 +240,20 @@ impl LeastNorm {
         b: &mut [f64],
         x: &mut [f64],
         workspace: &mut [f64],
-    ) -> Outcome
+    ) -> Result<usize, Refusal>
         ensures { promise.Replied
             (promise.reply m n a.old b.old x.old (length workspace.old)) result
             a.old a.new b.old b.new x.old x.new
             workspace.old workspace.new }
     {
-        if m > 32 {
-            return Outcome::Refused;
-        }
-        if n > 32 {
-            return Outcome::Refused;
-        }
-        if a.len() != m * n {
-            return Outcome::Refused;
-        }
-        if b.len() != m {
-            return Outcome::Refused;
-        }
-        if x.len() != n {
-            return Outcome::Refused;
-        }
-        if workspace.len() < 1056 {
-            return Outcome::Refused;
+        if !fits(a, m, n, b, x, workspace) {
+            return Err(Refusal::LeastNorm);
         }
         if a.len() == 1 {
-            let rank = one::solve(a, b, x);
-            return Outcome::Rank(rank);
+            return Ok(one::solve(a, b, x));
         }
         let mut perm = [0u8; 32];
         let mut v = [0.0f64; 32];
-        let rank = least_norm(a, m, n, b, x, workspace, &mut perm[..n], &mut v);
-        Outcome::Rank(rank)
+        Ok(least_norm(a, m, n, b, x, workspace, &mut perm[..n], &mut v))
     }
 }

@@ -2,7 +2,7 @@
 ghost use Rattle.std.specs.Prelude.{◌≡◌, ◌+◌, ◌*◌, ◌≤◌, ◌<◌, length};
 
 use super::{input, words};
-use least_norm::{LeastNorm, Outcome};
+use least_norm::LeastNorm;
 use std::io::Read;
 use std::rt::Files;
 use std::{fs, io};
@@ -61,10 +61,9 @@ fn is_right(m: usize, n: usize, s: &[u8], a: &mut [f64], b: &mut [f64], x: &mut 
     fill(&s[at_b..], b);
     let at = at_b + 8 * b.len();
     let mut workspace = [0.0f64; 1056];
-    let outcome = LeastNorm::solve(a, m, n, b, x, &mut workspace);
-    match outcome {
-        Outcome::Refused => false,
-        Outcome::Rank(rank) => is_answer(rank, a, b, x, &s[at..]),
+    match LeastNorm::solve(a, m, n, b, x, &mut workspace) {
+        Err(_) => false,
+        Ok(rank) => is_answer(rank, a, b, x, &s[at..]),
     }
 }
 
