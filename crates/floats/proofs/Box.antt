@@ -1,8 +1,7 @@
 -- What a clamp leaves: with lo at most hi it is NaN or in the box, and it is the value itself where that is inside.
 use mathlib.Core.Path.{◌≡◌, refl, sym, subst}
-use mathlib.Core.Bool.{Bool, true, false, not, cond, ◌&&◌, ◌||◌}
-use native.Mathlib.Omega.{arith}
-use lib.Dec.{T, eqb}
+use mathlib.Core.Bool.{Bool, true, false, cond, ◌&&◌, ◌||◌}
+use lib.Dec.{T}
 use lib.Ieee.{Float, nan, inf, fin, lt, le, eq, ne}
 use lib.Ieee.Compare.{differs_from_itself}
 use Rattle.std.specs.Prelude.{Some, None}

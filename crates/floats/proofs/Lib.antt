@@ -11,3 +11,4 @@ pub mod Sums
 pub mod Rounding
 pub mod Bound
 pub mod SquareRoot
+pub mod Library

@@ -1,6 +1,5 @@
 -- The laws of the square root, from whole numbers up.
 pub mod Whole
-pub mod Digit
 pub mod Halves
 pub mod Patterns
 pub mod Normal

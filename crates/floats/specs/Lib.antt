@@ -5,3 +5,4 @@ pub mod Sqrt
 pub mod Nearest
 pub mod Examples
 pub mod Rough
+pub mod Private

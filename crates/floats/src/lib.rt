@@ -24,6 +24,7 @@ pub struct Clamped {
 
 // lo if v < lo, else hi if v > hi, else v: also for bounds that are NaN, infinite or inverted. Only a value that is
 // replaced by a bound is stopped: one that equals a bound is not.
+#[tactic(auto, unfolding(crate::specs::Helpers::clamp, crate::specs::Helpers::side))]
 pub fn clamp(v: f64, lo: f64, hi: f64) -> Clamped
     ensures { (result.value ≡ helpers.clamp v lo hi) × (result.side ≡ helpers.side v lo hi) }
 {
@@ -46,63 +47,46 @@ pub fn clamp(v: f64, lo: f64, hi: f64) -> Clamped
 }
 
 // The larger of two: the one that isn't NaN, NaN if both are, and of +0 and -0 +0.
+#[tactic(auto, using(crate::proofs::Library::larger_equal, crate::proofs::Library::larger_unequal))]
 pub fn larger(x: f64, y: f64) -> f64
     ensures { result ≡ helpers.larger x y }
 {
-    if x != x {
-        return y;
+    if x == y {
+        return if x == 0.0 { x + y } else { x };
     }
-    if y != y {
-        return x;
-    }
-    if x < y {
-        return y;
-    }
-    if y < x {
-        return x;
-    }
-    if x == 0.0 {
-        return x + y;
-    }
-    x
+    x.max(y)
 }
 
 // v without its sign.
+#[tactic(auto, using(crate::proofs::Library::abs_library))]
 pub fn abs(v: f64) -> f64
     ensures { result ≡ helpers.abs v }
 {
-    if v == 0.0 {
-        return 0.0;
-    }
-    if v < 0.0 {
-        return -v;
-    }
-    v
+    v.abs()
 }
 
+#[tactic(auto, using(crate::proofs::Meaning::nan_test_is_nan))]
 pub fn is_nan(v: f64) -> bool
     ensures { result ≡ helpers.nan_test v }
 {
-    v != v
+    v.is_nan()
 }
 
-// Neither NaN nor an infinity. (An infinity is no constant of the language; 1.0 / 0.0 is one.)
+// Neither NaN nor an infinity.
+#[tactic(auto, using(crate::proofs::Library::is_finite_library))]
 pub fn is_finite(v: f64) -> bool
     ensures { result ≡ helpers.is_finite v }
 {
-    if v > -1.0 / 0.0 {
-        return v < 1.0 / 0.0;
-    }
-    false
+    v.is_finite()
 }
 
-// The square root of v, with the pattern of a guess at it, or 0. The guess saves time where it is good.
-fn sqrt_guessed(v: f64, near: u64) -> f64
+// The square root of v, with a guess at it. The guess saves time where it is good.
+fn sqrt_guessed(v: f64, near: Option<f64>) -> f64
     ensures { result ≡ root.sqrt v }
 {
     if v > 0.0 {
-        let b = f64::to_bits(v);
-        if b < 0x7ff0_0000_0000_0000 {
+        let b = v.to_bits();
+        if b < root::INFINITY_BITS {
             return f64::from_bits(root::root_bits(b, near));
         }
         return v;
@@ -110,14 +94,14 @@ fn sqrt_guessed(v: f64, near: u64) -> f64
     if v == 0.0 {
         return v;
     }
-    0.0 / 0.0
+    f64::NAN
 }
 
 // The square root of v, rounded to nearest: of ±0 and +∞ that number, of NaN and negatives NaN.
 pub fn sqrt(v: f64) -> f64
     ensures { result ≡ root.sqrt v }
 {
-    sqrt_guessed(v, 0)
+    sqrt_guessed(v, None)
 }
 
 // The same, sooner where near is at most a little off.
@@ -125,18 +109,19 @@ pub fn sqrt_near(v: f64, near: f64) -> f64
     ensures { result ≡ root.sqrt v }
 {
     if near > 0.0 {
-        return sqrt_guessed(v, f64::to_bits(near));
+        return sqrt_guessed(v, Some(near));
     }
-    sqrt_guessed(v, 0)
+    sqrt_guessed(v, None)
 }
 
 // A rough square root of v for `sqrt_near`, or 0. It can be found early, while the value that it is near to is awaited.
+#[tactic(auto, using(crate::proofs::SquareRoot::Branches::no_nan), unfolding(crate::specs::Rough::rough))]
 pub fn sqrt_rough(v: f64) -> f64
     ensures { result ≡ rough.rough v }
 {
     if v > 0.0 {
-        let b = f64::to_bits(v);
-        if b < 0x7ff0_0000_0000_0000 {
+        let b = v.to_bits();
+        if b < root::INFINITY_BITS {
             return root::approximate(b);
         }
     }

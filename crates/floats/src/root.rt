@@ -1,71 +1,63 @@
-// The pattern of the root of a positive finite f64, from its pattern. A guess by products finds the first 27 digits of the root, an exact
-// division the other 27; a guess that does not serve costs time and nothing else, since the digits are then found one by one.
-ghost use Rattle.std.specs.Prelude.{◌≡◌, ◌+◌, ◌*◌, ◌^◌, ◌≤◌, ◌<◌};
+// The pattern of the root of a positive finite f64, from its pattern. A guess by products finds the first 27 digits of
+// the root, an exact division the other 27; a guess that does not serve costs time and nothing else, since the root is
+// then found in whole numbers.
+// `f64::sqrt` stays out: it takes the processor's root on trust, and this takes only sums, products and quotients so.
+ghost use Rattle.std.specs.Prelude.{◌≡◌, ◌*◌, ◌^◌, ◌<◌, IfSome};
 ghost use Rattle.std.specs.Float.{binary64};
 ghost use Rattle.std.specs.Float.Ieee.{of_bits};
 ghost use Rattle.floats.specs.Rough as rough;
 ghost use Rattle.floats.specs.Sqrt as root;
+ghost use Rattle.floats.specs.Private as private;
 
-// The whole part of √(s * 2^54), a binary digit a turn: r is the root of the digits taken so far, and rest what r * r leaves of them.
+// What a pattern has for the leading digit of a normal value, which it leaves out.
+const HIDDEN_BIT: u64 = 0x10_0000_0000_0000;
+
+// The pattern of the infinity.
+pub const INFINITY_BITS: u64 = 0x7ff0_0000_0000_0000;
+
+// The whole part of √(s * 2^54).
 fn digits(s: u64) -> u64
     requires { s < 2 ^ 54 }
-    ensures { (result * result ≤ s * 2 ^ 54) × (s * 2 ^ 54 < (result + 1) * (result + 1)) }
+    ensures { private.Whole (s * 2 ^ 54) result }
 {
-    let mut left = s;
-    let mut rest: u64 = 0;
-    let mut r: u64 = 0;
-    let mut i: u64 = 0;
-    while i < 54 {
-        rest = rest * 4 + left / 0x10_0000_0000_0000;
-        left = left % 0x10_0000_0000_0000 * 4;
-        let t = r * 4 + 1;
-        r = r * 2;
-        if t <= rest {
-            rest -= t;
-            r += 1;
-        }
-        i += 1;
-    }
-    r
+    (u128::from(s) << 54).isqrt() as u64
 }
 
-// The whole part of √(s * 2^54), from a guess a at that of √s. A good guess has s = a * a + u with u <= 2 * a: then b, 27 more digits, come by a
-// division, as s * 2^54 = (a * 2^27 + b)^2 + w * 2^27 - b * b.
-fn refine(s: u64, a: u64) -> u64
+// The same from a guess a at the whole part of √s, where that is good: s = a * a + u with u <= 2 * a. Then b, 27 more
+// digits, come by a division, as s * 2^54 = (a * 2^27 + b)^2 + w * 2^27 - b * b.
+fn refined(s: u64, a: u64) -> Option<u64>
     requires { s < 2 ^ 54 }
-    ensures { (result * result ≤ s * 2 ^ 54) × (s * 2 ^ 54 < (result + 1) * (result + 1)) }
+    ensures { IfSome result (private.Whole (s * 2 ^ 54)) }
 {
-    if a < 0x400_0000 {
-        return digits(s);
+    if a < 0x400_0000 || a >= 0x800_0000 {
+        return None;
     }
-    if a >= 0x800_0000 {
-        return digits(s);
-    }
-    let m = a * a;
-    if s < m {
-        return digits(s);
-    }
-    let u = s - m;
+    let u = s.checked_sub(a * a)?;
     let d = 2 * a;
     if d < u {
-        return digits(s);
+        return None;
     }
     let y = u * 0x800_0000;
     let b = y / d;
     let w = y - b * d;
     let p = a * 0x800_0000 + b;
-    let over = b * b;
-    if over <= w * 0x800_0000 {
-        return p;
-    }
-    p - 1
+    Some(if b * b <= w * 0x800_0000 { p } else { p - 1 })
 }
 
-// A guess at the root of the value whose pattern is x: three steps of Newton's method for 1 / √x, each written so that its products do not wait for
-// each other. No root depends on it; the constant of the last step is a little above 1.5 so that a root that is a whole number is not guessed one
-// too low.
+// The same, from any guess.
+fn refine(s: u64, a: u64) -> u64
+    requires { s < 2 ^ 54 }
+    ensures { private.Whole (s * 2 ^ 54) result }
+{
+    refined(s, a).unwrap_or_else(|| digits(s))
+}
+
+// A guess at the root of the value whose pattern is x: three steps of Newton's method for 1 / √x, each written so that
+// its products do not wait for each other. No root depends on it; the constant of the last step is a little above 1.5 so
+// that a root that is a whole number is not guessed one too low.
+#[tactic(auto, using(crate::proofs::SquareRoot::Branches::finite_bits), unfolding(crate::specs::Rough::approximated, crate::specs::Rough::newton))]
 pub fn approximate(x: u64) -> f64
-    requires { x < 0x7ff0_0000_0000_0000 }
+    requires { x < INFINITY_BITS }
     ensures { result ≡ rough.approximate x }
 {
     let v = f64::from_bits(x);
@@ -77,45 +69,36 @@ pub fn approximate(x: u64) -> f64
     v * y3
 }
 
-// A guess at the whole part of the same root, for a value from 2^52 to 2^54.
-fn newton(x: u64) -> u64
-    requires { x < 0x7ff0_0000_0000_0000 }
-{
-    let g = approximate(x);
+// The first 27 digits of a positive value. Nothing is promised of them.
+fn leading(g: f64) -> u64 {
     if g > 0.0 {
-        return (f64::to_bits(g) % 0x10_0000_0000_0000 + 0x10_0000_0000_0000) / 0x400_0000;
+        (g.to_bits() % HIDDEN_BIT + HIDDEN_BIT) / 0x400_0000
+    } else {
+        0
     }
-    0
 }
 
-// The same from the pattern of a value near the root, where that is not 0. Nothing is promised of it either.
-fn guess(x: u64, near: u64) -> u64
-    requires { x < 0x7ff0_0000_0000_0000 }
+// s and e, for which the value whose pattern is b is s * 2^e times 2^-2148, with 2^52 <= s < 2^53.
+fn scaled(b: u64) -> (u64, u64)
+    requires { (0 < b) × (b < INFINITY_BITS) }
+    ensures { private.Scaled b result.0 result.1 }
 {
-    if near > 0 {
-        return (near % 0x10_0000_0000_0000 + 0x10_0000_0000_0000) / 0x400_0000;
+    if b < HIDDEN_BIT {
+        let z = u64::from(b.leading_zeros()) - 11;
+        return (b << z, 1074 - z);
     }
-    newton(x)
+    (b % HIDDEN_BIT + HIDDEN_BIT, b / HIDDEN_BIT + 1073)
 }
 
 // The pattern of the root of the value whose pattern is b, which may be guessed to be near.
-pub fn root_bits(b: u64, near: u64) -> u64
-    requires { (0 < b) × (b < 0x7ff0_0000_0000_0000) }
-    ensures { (of_bits binary64 result ≡ root.sqrt (of_bits binary64 b)) × (result < 0x7ff0_0000_0000_0000) }
+pub fn root_bits(b: u64, near: Option<f64>) -> u64
+    requires { (0 < b) × (b < INFINITY_BITS) }
+    ensures { (of_bits binary64 result ≡ root.sqrt (of_bits binary64 b)) × (result < INFINITY_BITS) }
 {
-    // the value is s * 2^e times 2^-2148, with 2^52 <= s < 2^53
-    let t = b % 0x10_0000_0000_0000;
-    let mut s = t + 0x10_0000_0000_0000;
-    let mut e = b / 0x10_0000_0000_0000 + 1073;
-    if b < 0x10_0000_0000_0000 {
-        let z = u64::leading_zeros(b) as u64 - 11;
-        s = b << z;
-        e = 1074 - z;
-    }
+    let (s, e) = scaled(b);
+    let even = s << (e % 2);
+    let guess = near.unwrap_or_else(|| approximate((1074 + e % 2) * HIDDEN_BIT + s));
     // p has 54 digits, and the last rounds
-    let p = refine(
-        s << (e % 2),
-        guess((1074 + e % 2) * 0x10_0000_0000_0000 + s, near),
-    );
-    (e / 2 - 26) * 0x10_0000_0000_0000 + (p + 1) / 2
+    let p = refine(even, leading(guess));
+    (e / 2 - 26) * HIDDEN_BIT + (p + 1) / 2
 }

@@ -9,7 +9,7 @@ use lib.IntN.{ℤ}
 use lib.Dec.{T, leb, ltb, eqb, le→leb, nltb→le, eqb→eq, leb→le, nleb→lt}
 use lib.Arith.{le→nltb}
 use borrow.Author.Tests.{ltb-false}
-use lib.Ieee.{Float, nan, inf, fin, binary64, up, down, odd, of_fields, of_bits, to_bits, nan_bits, is_nan, fits, lt, eq, div}
+use lib.Ieee.{Float, nan, inf, fin, binary64, up, down, odd, of_fields, of_bits, to_bits, nan_bits, is_nan, fits, lt, eq}
 use lib.Ieee.Bits.{is_true, of_bits-to_bits, nan_bits_is, nan_bits_above}
 use lib.Ieee.Fits.{up_pos, and_l}
 use Rattle.floats.specs.Sqrt.{sqrt}
@@ -89,8 +89,8 @@ pub from_inf : (v : Float) → T (fits binary64 v) → lt zero_float v ≡ true 
 from_inf v f h k = let i = inf_only v f h k in i ∙ sym sqrt_inf ∙ ap sqrt (sym i)
 
 -- the pattern of a finite positive value is no NaN's
-pub finite-bits : (b : ℕ) → b < infinity_bits → T (not (nan_bits binary64 b))
-finite-bits b h =
+pub finite_bits : (b : ℕ) → b < infinity_bits → T (not (nan_bits binary64 b))
+finite_bits b h =
     let s : b < sign_bit = omega arith in
     subst (λ (t : Bool). T (not t)) (sym (nan_bits_above binary64 b ∙ ap (λ (x : ℕ). ltb infinity_bits x) (mod-eq_of_lt s))) (le→nltb infinity_bits b (omega arith))
 
@@ -119,8 +119,8 @@ clash s a b p q h =
 none : (e : ℤ) → 0 * 1 * down e ≡ 0
 none e = zero-mul (down e)
 
-pub neither : (v : Float) → lt zero_float v ≡ false → eq v zero_float ≡ false → div binary64 zero_float zero_float ≡ sqrt v
-unfolding lt eq sqrt div of_bits
+pub neither : (v : Float) → lt zero_float v ≡ false → eq v zero_float ≡ false → of_bits binary64 0x7FF8000000000000 ≡ sqrt v
+unfolding lt eq sqrt of_bits
 neither nan h k = refl
 neither (inf true) h k = refl
 neither (inf false) h k = absurd (true≢false h)

@@ -18,10 +18,11 @@ use Rattle.floats.proofs.Rank.{ticks, zero_is}
 use Rattle.floats.proofs.Order.{ticks_pos}
 use Rattle.floats.specs.Sqrt.{whole_root, sqrt}
 use Rattle.floats.specs.Nearest.{units_of, above, Between}
-use Rattle.floats.proofs.SquareRoot.Whole.{Whole, root-whole}
+use Rattle.floats.proofs.SquareRoot.Whole.{root-whole}
+use Rattle.floats.specs.Private.{Whole, Scaled}
 use Rattle.floats.proofs.SquareRoot.Patterns.{hidden_bit, normal, subnormal, units_odd, scaled-is, four_is}
-use Rattle.floats.proofs.SquareRoot.Normal.{infinity_bits, Norm, of_normal, of_subnormal, evened, p_range, root-pattern}
-use Rattle.floats.proofs.SquareRoot.Branches.{zero_float, finite-bits, bits_pos, inf_only}
+use Rattle.floats.proofs.SquareRoot.Normal.{infinity_bits, of_normal, of_subnormal, evened, p_range, root-pattern}
+use Rattle.floats.proofs.SquareRoot.Branches.{zero_float, finite_bits, bits_pos, inf_only}
 
 -- ---- the units of a pattern
 
@@ -204,10 +205,10 @@ module _ (j x p : ℕ) (X-lo : hidden_bit ≤ x) (w : Whole (x * 2 ^ 54) p) (r :
 
 -- ---- `sqrt` of a pattern's value is the value of a pattern with those sides
 
-normed : (b : ℕ) → 0 < b → b < infinity_bits → (s : ℕ) × (e : ℕ) × Norm b s e
+normed : (b : ℕ) → 0 < b → b < infinity_bits → (s : ℕ) × (e : ℕ) × Scaled b s e
 normed b p h = go (leb hidden_bit b) (leb→le hidden_bit b) (nleb→lt hidden_bit b)
   where
-    go : (t : Bool) → (T t → hidden_bit ≤ b) → (T (not t) → b < hidden_bit) → (s : ℕ) × (e : ℕ) × Norm b s e
+    go : (t : Bool) → (T t → hidden_bit ≤ b) → (T (not t) → b < hidden_bit) → (s : ℕ) × (e : ℕ) × Scaled b s e
     go true a c = (_, _, of_normal b (a tt) h)
     go false a c = (_, _, of_subnormal b p (c tt))
 
@@ -284,7 +285,7 @@ bits_in v f p = (
 )
 
 pattern : (R : ℕ) → R < infinity_bits → to_bits binary64 (of_bits binary64 R) ≡ R
-pattern R h = to_bits-of_bits binary64 R (lt_trans h (lit< tt)) (subst (λ (t : Bool). T (not t)) (nan_bits_is binary64 R) (finite-bits R h))
+pattern R h = to_bits-of_bits binary64 R (lt_trans h (lit< tt)) (subst (λ (t : Bool). T (not t)) (nan_bits_is binary64 R) (finite_bits R h))
 
 -- with v and r for the values of the patterns b and c
 between_of : (b c : ℕ) → c < infinity_bits → Sides (val b * 2 ^ 1074) c → Between (of_bits binary64 b) (of_bits binary64 c)

@@ -10,23 +10,15 @@ use lib.Count.{count_leading_zeros, leading_top}
 use lib.Ieee.{Float, binary64, odd, of_bits}
 use Rattle.floats.specs.Sqrt.{whole_root, nearest_root, sqrt}
 use Rattle.floats.specs.Nearest.{units_of}
-use Rattle.floats.proofs.SquareRoot.Whole.{Whole, root-lt, root-whole, whole_unique}
+use Rattle.floats.specs.Private.{Whole, Scaled}
+use Rattle.floats.proofs.SquareRoot.Whole.{root-lt, root-whole, whole_unique}
 use Rattle.floats.proofs.SquareRoot.Patterns.{hidden_bit, normal, subnormal, units_odd, sqrt_odd, pow_lt_back, nearest-scaled}
 
 -- the pattern of the infinity
 abbrev pub infinity_bits : ℕ
 infinity_bits = 0x7ff0_0000_0000_0000
 
--- b's value is s * 2 ^ e units of 2 ^ -2148
-pub record Norm (b s e : ℕ) : Type 0 where
-  pub lo : hidden_bit ≤ s
-  pub hi : s < 2 * hidden_bit
-  pub e_lo : 1000 ≤ e
-  pub e_hi : e ≤ 3119
-  pub val : units_of (of_bits binary64 b) * 2 ^ 1074 ≡ s * 2 ^ e
-  pub is : sqrt (of_bits binary64 b) ≡ nearest_root (s * 2 ^ e)
-
-pub of_normal : (b : ℕ) → hidden_bit ≤ b → b < infinity_bits → Norm b (b % hidden_bit + hidden_bit) (b / hidden_bit + 1073)
+pub of_normal : (b : ℕ) → hidden_bit ≤ b → b < infinity_bits → Scaled b (b % hidden_bit + hidden_bit) (b / hidden_bit + 1073)
 of_normal b h k =
     let x = b / hidden_bit - 1 in
     let s = b % hidden_bit + hidden_bit in
@@ -75,14 +67,14 @@ lead b p h =
 wide : (x : ℕ) → x < 2 * hidden_bit → x % 2 ^ 64 ≡ x
 wide x h = omega arith
 
-pub of_subnormal : (b : ℕ) → 0 < b → b < hidden_bit → Norm b (b * 2 ^ (count_leading_zeros 64 b - 11) % 2 ^ 64) (1074 - (count_leading_zeros 64 b - 11))
+pub of_subnormal : (b : ℕ) → 0 < b → b < hidden_bit → Scaled b (b * 2 ^ (count_leading_zeros 64 b - 11) % 2 ^ 64) (1074 - (count_leading_zeros 64 b - 11))
 of_subnormal b p h =
     let z = count_leading_zeros 64 b in
     let l = lead b p h in
     let e = 1074 - (z - 11) in
     let a = l.above in
     let c = l.below in
-    subst (λ (s : ℕ). Norm b s e) (sym (wide (b * 2 ^ (z - 11)) l.high))
+    subst (λ (s : ℕ). Scaled b s e) (sym (wide (b * 2 ^ (z - 11)) l.high))
     (record {
       lo = l.low;
       hi = l.high;
@@ -111,10 +103,10 @@ even s (suc (suc r)) h lo hi = absurd (too_large r h)
 bit : (e : ℕ) → e % 2 < 2
 bit e = omega arith
 
-pub evened : {b s e : ℕ} → Norm b s e → Even s (e % 2)
+pub evened : {b s e : ℕ} → Scaled b s e → Even s (e % 2)
 evened {b} {s} {e} n = even s (e % 2) (bit e) n.lo n.hi
 
-pub asked : {b s e : ℕ} → Norm b s e → s * 2 ^ (e % 2) % 2 ^ 64 < 2 ^ 54
+pub asked : {b s e : ℕ} → Scaled b s e → s * 2 ^ (e % 2) % 2 ^ 64 < 2 ^ 54
 asked n = let v = evened n in omega (arith, v.exact, v.high)
 
 -- the root of a number from 2 ^ 106 to 2 ^ 108 - 2 ^ 55 has 54 digits, and is not 2 ^ 54 - 1
@@ -124,10 +116,10 @@ root_range x p lo hi w =
     let b : p < 2 ^ 54 - 1 = root-lt p (2 ^ 54 - 1) (lt_of_le_of_lt w.low (omega arith)) in
     omega arith
 
-pub whole : {b s e : ℕ} (p : ℕ) → Norm b s e → p * p ≤ s * 2 ^ (e % 2) % 2 ^ 64 * 2 ^ 54 → s * 2 ^ (e % 2) % 2 ^ 64 * 2 ^ 54 < (p + 1) * (p + 1) → Whole (s * 2 ^ (e % 2) * 2 ^ 54) p
+pub whole : {b s e : ℕ} (p : ℕ) → Scaled b s e → p * p ≤ s * 2 ^ (e % 2) % 2 ^ 64 * 2 ^ 54 → s * 2 ^ (e % 2) % 2 ^ 64 * 2 ^ 54 < (p + 1) * (p + 1) → Whole (s * 2 ^ (e % 2) * 2 ^ 54) p
 whole p n lo hi = subst (λ (x : ℕ). Whole (x * 2 ^ 54) p) (evened n).exact (record { low = lo; high = hi })
 
-module _ {b s e : ℕ} (p : ℕ) (n : Norm b s e) (w : Whole (s * 2 ^ (e % 2) * 2 ^ 54) p) where
+module _ {b s e : ℕ} (p : ℕ) (n : Scaled b s e) (w : Whole (s * 2 ^ (e % 2) * 2 ^ 54) p) where
   pub p_range : (2 ^ 53 ≤ p) × (p ≤ 2 ^ 54 - 2)
   p_range = root_range (s * 2 ^ (e % 2)) p (evened n).low (evened n).high w
 

@@ -6,11 +6,7 @@ use native.Mathlib.Omega.{arith}
 use mathlib.Core.Bool.{Bool, true, false, not, cond}
 use lib.Dec.{T, leb, leb→le, nleb→lt}
 use Rattle.floats.specs.Sqrt.{step, whole_root}
-
--- r is the whole part of √n
-pub record Whole (n r : ℕ) : Type 0 where
-  pub low : r * r ≤ n
-  pub high : n < (r + 1) * (r + 1)
+use Rattle.floats.specs.Private.{Whole}
 
 -- of two squares, the larger is that of the larger number
 pub root-lt : (a b : ℕ) → a * a < b * b → a < b

@@ -3,23 +3,23 @@ use lib.Dec.{T}
 use lib.Ieee.{binary64}
 use lib.Ieee.Bits.{of_bits-to_bits}
 use Rattle.floats.specs.Sqrt.{sqrt}
-use Rattle.floats.proofs.SquareRoot.Branches.{no_nan, bits_pos, from_inf, finite-bits, at_zero, neither}
+use Rattle.floats.proofs.SquareRoot.Branches.{no_nan, bits_pos, from_inf, finite_bits, at_zero, neither}
 use Rattle.floats.proofs.sqrt_guessed.Goals as goal
 
 pub float_to_bits-b : goal.float_to_bits-b
 float_to_bits-b c = no_nan c.args.v c.if-v.true
 
 pub root_bits-requires : goal.root_bits-requires
-root_bits-requires c = (bits_pos c.args.v (subst T (sym c.well_formed.0.1) tt) c.if-v.true, c.if-b-lt9218868437227405312.true)
+root_bits-requires c = (bits_pos c.args.v (subst T (sym c.well_formed.0.1) tt) c.if-v.true, c.if-b-lt-INFINITY_BITS.true)
 
 pub float_from_bits-result : goal.float_from_bits-result
-float_from_bits-result c = finite-bits c.root_bits.result c.root_bits.ensures.1
+float_from_bits-result c = finite_bits c.root_bits.result c.root_bits.ensures.1
 
-pub returns-then-b-lt9218868437227405312 : goal.returns-then-b-lt9218868437227405312
-returns-then-b-lt9218868437227405312 c = c.root_bits.ensures.0 ∙ ap sqrt (of_bits-to_bits binary64 c.args.v (subst T (sym c.well_formed.0.1) tt))
+pub returns-then-b-lt-INFINITY_BITS : goal.returns-then-b-lt-INFINITY_BITS
+returns-then-b-lt-INFINITY_BITS c = c.root_bits.ensures.0 ∙ ap sqrt (of_bits-to_bits binary64 c.args.v (subst T (sym c.well_formed.0.1) tt))
 
 pub returns-then-v : goal.returns-then-v
-returns-then-v c = from_inf c.args.v (subst T (sym c.well_formed.0.1) tt) c.if-v.true c.if-b-lt9218868437227405312.false
+returns-then-v c = from_inf c.args.v (subst T (sym c.well_formed.0.1) tt) c.if-v.true c.if-b-lt-INFINITY_BITS.false
 
 pub returns-then-v-2 : goal.returns-then-v-2
 returns-then-v-2 c = at_zero c.args.v c.if-v-2.true
