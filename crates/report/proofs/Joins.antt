@@ -9,8 +9,10 @@ use borrow.Author.Rules.{rules}
 use native.Mathlib.Nat.{add_comm, add_assoc}
 use Rattle.floats.specs.Ops.{Fits}
 use Rattle.floats.proofs.Maximum.{larger-fits, larger_comm, larger_assoc}
+use Rattle.std.specs.Prelude.{Ok, Err}
+use Rattle.refusals.specs.declared.Refusal.TheVariants.{Join}
 use Rattle.report.specs.declared.SolveReport.{SolveReport}
-use Rattle.report.specs.Joins.{both, onward, sum_fits, sums_fit, all_sums_fit, Summable, AllSummable, Answer, refused, joined, and, continued, next}
+use Rattle.report.specs.Joins.{both, onward, sum_fits, sums_fit, all_sums_fit, Summable, AllSummable, Answer, and, continued, next}
 use Rattle.report.proofs.Sums.{summable, sums-fit, all_summable, all-sums-fit}
 
 -- the residual is a value that an f64 holds, as every f64 of the code is
@@ -58,28 +60,28 @@ both_assoc a b c p q r =
 
 -- ---- when a join answers, and what
 
-pub and_joins : (a b : SolveReport) → AllSummable a b → and a b ≡ joined (both a b)
+pub and_joins : (a b : SolveReport) → AllSummable a b → and a b ≡ Ok (both a b)
 unfolding and
 and_joins a b s = rw (all-sums-fit a b s)
 
 -- it refuses by 13 alone, and only where some sum is too large
-pub and-refuses : (a b : SolveReport) → (AllSummable a b → ⊥) → and a b ≡ refused 13
+pub and-refuses : (a b : SolveReport) → (AllSummable a b → ⊥) → and a b ≡ Err Join
 unfolding and
 and-refuses a b h = go (all_sums_fit a b) refl
   where
-    go : (t : Bool) → all_sums_fit a b ≡ t → cond t (joined (both a b)) (refused 13) ≡ refused 13
+    go : (t : Bool) → all_sums_fit a b ≡ t → cond t (Ok (both a b)) (Err Join) ≡ Err Join
     go true e = absurd (h (all_summable a b e))
     go false e = refl
 
-pub continued_joins : (a b : SolveReport) → Summable a b → continued a b ≡ joined (onward a b)
+pub continued_joins : (a b : SolveReport) → Summable a b → continued a b ≡ Ok (onward a b)
 unfolding continued
 continued_joins a b s = rw (sums-fit a b s)
 
-pub continued-refuses : (a b : SolveReport) → (Summable a b → ⊥) → continued a b ≡ refused 13
+pub continued-refuses : (a b : SolveReport) → (Summable a b → ⊥) → continued a b ≡ Err Join
 unfolding continued
 continued-refuses a b h = go (sums_fit a b) refl
   where
-    go : (t : Bool) → sums_fit a b ≡ t → cond t (joined (onward a b)) (refused 13) ≡ refused 13
+    go : (t : Bool) → sums_fit a b ≡ t → cond t (Ok (onward a b)) (Err Join) ≡ Err Join
     go true e = absurd (h (summable a b e))
     go false e = refl
 
@@ -104,8 +106,8 @@ and_is_comm a b p q = rw (all_sums_comm a b, both_comm a b p q)
 
 -- a joined to what b and others came to, if they came to a report
 abbrev pub before : SolveReport → Answer → Answer
-before a (refused number) = refused number
-before a (joined b) = and a b
+before a (Err e) = Err e
+before a (Ok b) = and a b
 
 module _ (a b c : SolveReport) where
   shift : AllSummable a b → AllSummable (both a b) c → AllSummable b c × AllSummable a (both b c)
@@ -124,7 +126,7 @@ module _ (a b c : SolveReport) where
 
       go : (x : Bool) → all_sums_fit a b ≡ x → (y : Bool) → all_sums_fit (both a b) c ≡ y → (z : Bool) → all_sums_fit b c ≡ z
           → (w : Bool) → all_sums_fit a (both b c) ≡ w
-          → next (cond x (joined (both a b)) (refused 13)) c ≡ before a (cond z (joined (both b c)) (refused 13))
+          → next (cond x (Ok (both a b)) (Err Join)) c ≡ before a (cond z (Ok (both b c)) (Err Join))
       go true i true j true k true l = rw (j, l, both_assoc a b c p q r)
       go true i true j true k false l =
           absurd (never _ l (all-sums-fit a (both b c) (shift (all_summable a b i) (all_summable (both a b) c j)).1))

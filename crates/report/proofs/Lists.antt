@@ -6,13 +6,16 @@ use mathlib.Core.List.{List, [], ◌∷◌, ◌++◌, Permᴰ}
 use native.Mathlib.Omega.{arith}
 use lib.Ieee.{binary64}
 use lib.Ieee.Bits.{of_bits-fits}
+use Rattle.std.specs.Prelude.{Ok, Err}
+use Rattle.refusals.specs.declared.Refusal.{Refusal}
+use Rattle.refusals.specs.declared.Refusal.TheVariants.{Join}
 use Rattle.report.specs.declared.SolveReport.{SolveReport}
-use Rattle.report.specs.Joins.{NOTHING, both, all_sums_fit, Answer, refused, joined, and, next, from, all}
+use Rattle.report.specs.Joins.{NOTHING, both, all_sums_fit, Answer, and, next, from, all}
 use Rattle.report.proofs.Joins.{Held, both-held, and_is_comm, and_is_assoc, before}
 
-pub from-refused : (number : ℕ) (l : List SolveReport) → from (refused number) l ≡ refused number
-from-refused number [] = refl
-from-refused number (b ∷ l) = from-refused number l
+pub from_refused : (e : Refusal) (l : List SolveReport) → from (Err e) l ≡ Err e
+from_refused e [] = refl
+from_refused e (b ∷ l) = from_refused e l
 
 pub from-append : (a : Answer) (l m : List SolveReport) → from a (l ++ m) ≡ from (from a l) m
 from-append a [] m = refl
@@ -29,10 +32,10 @@ total count (b ∷ l) = count b + total count l
 -- iterations, rejected, anchors, sweeps, exact_passes and stopped
 module _ (count : SolveReport → ℕ) (adds : (a b : SolveReport) → count (both a b) ≡ count a + count b) where
   abbrev counted : ℕ → Answer → Type 0
-  counted k (refused number) = Unit {0}
-  counted k (joined t) = count t ≡ k
+  counted k (Err e) = Unit {0}
+  counted k (Ok t) = count t ≡ k
 
-  pub from-total : (a : SolveReport) (l : List SolveReport) → counted (count a + total count l) (from (joined a) l)
+  pub from-total : (a : SolveReport) (l : List SolveReport) → counted (count a + total count l) (from (Ok a) l)
   unfolding and
   from-total a [] = omega arith
   from-total a (b ∷ l) = go (from-total (both a b) l) (all_sums_fit a b) refl
@@ -40,32 +43,32 @@ module _ (count : SolveReport → ℕ) (adds : (a b : SolveReport) → count (bo
       one : count (both a b) + total count l ≡ count a + (count b + total count l)
       one = omega (arith, adds a b)
 
-      none : (number : ℕ) (k : ℕ) → counted k (from (refused number) l)
-      none number k = rw (from-refused number l) tt
+      none : (e : Refusal) (k : ℕ) → counted k (from (Err e) l)
+      none e k = rw (from_refused e l) tt
 
-      go : counted (count (both a b) + total count l) (from (joined (both a b)) l) → (t : Bool) → all_sums_fit a b ≡ t
+      go : counted (count (both a b) + total count l) (from (Ok (both a b)) l) → (t : Bool) → all_sums_fit a b ≡ t
           → counted (count a + (count b + total count l)) (from (and a b) l)
       go h true e = rw (e, ← one) h
-      go h false e = rw e (none 13 (count a + (count b + total count l)))
+      go h false e = rw e (none Join (count a + (count b + total count l)))
 
 -- ---- order
 
 abbrev HeldIn : Answer → Type 0
-HeldIn (refused number) = Unit {0}
-HeldIn (joined a) = Held a
+HeldIn (Err e) = Unit {0}
+HeldIn (Ok a) = Held a
 
 next-held : (a : Answer) (b : SolveReport) → HeldIn a → Held b → HeldIn (next a b)
 unfolding and
-next-held (refused number) b p q = tt
-next-held (joined a) b p q = go (all_sums_fit a b) refl
+next-held (Err e) b p q = tt
+next-held (Ok a) b p q = go (all_sums_fit a b) refl
   where
     go : (t : Bool) → all_sums_fit a b ≡ t → HeldIn (and a b)
     go true e = rw e (both-held a b p q)
     go false e = rw e tt
 
 pub next-swap : (a : Answer) (b c : SolveReport) → HeldIn a → Held b → Held c → next (next a b) c ≡ next (next a c) b
-next-swap (refused number) b c p q r = refl
-next-swap (joined a) b c p q r = and_is_assoc a b c p q r ∙ ap (before a) (and_is_comm b c q r) ∙ sym (and_is_assoc a c b p r q)
+next-swap (Err e) b c p q r = refl
+next-swap (Ok a) b c p q r = and_is_assoc a b c p q r ∙ ap (before a) (and_is_comm b c q r) ∙ sym (and_is_assoc a c b p r q)
 
 abbrev pub AllHeld : List SolveReport → Type 0
 AllHeld [] = Unit {0}
@@ -89,4 +92,4 @@ from-perm (Permᴰ.trans d g) h a p = from-perm d h a p ∙ from-perm g (all_hel
 -- every order of the list gives the same answer, a refusal included
 pub all-perm : {l m : List SolveReport} → Permᴰ l m → AllHeld l → all l ≡ all m
 unfolding all
-all-perm d h = from-perm d h (joined NOTHING) (of_bits-fits binary64 0)
+all-perm d h = from-perm d h (Ok NOTHING) (of_bits-fits binary64 0)

@@ -1,11 +1,11 @@
 -- Reports of solves and their joins, as report.rs gives them, with document 01's larger of two residuals. Definitions
 -- only; their laws are in proofs/.
-use Rattle.std.specs.Prelude.{ℕ, ◌+◌, ◌≤◌, max, Bool, true, cond, ◌&&◌, List, [], ◌∷◌, leb}
+use Rattle.std.specs.Prelude.{ℕ, ◌+◌, ◌≤◌, max, Bool, true, cond, ◌&&◌, List, [], ◌∷◌, leb, Result, Ok, Err}
 use Rattle.floats.specs.Ops.{0ᶠ}
 use Rattle.floats.specs.Helpers.{larger}
 use Rattle.report.specs.declared.SolveReport.{SolveReport}
-use Rattle.report.specs.declared.Joined.{Joined}
-use Rattle.report.specs.declared.Joined.TheVariants.{Report, Refused}
+use Rattle.refusals.specs.declared.Refusal.{Refusal}
+use Rattle.refusals.specs.declared.Refusal.TheVariants.{Join}
 
 -- the report of no solve at all
 abbrev pub NOTHING : SolveReport
@@ -96,27 +96,38 @@ pub record AllSummable (a b : SolveReport) : Type 0 where
   pub increments : a.increments + b.increments ≤ most
   pub others : Summable a b
 
--- an answer, as document 01 has it: a number and nothing else, or a report
-pub data Answer : Type 0 where
-  refused : ℕ → Answer
-  joined : SolveReport → Answer
+-- an answer, as document 01 has it: a report, or a refusal and nothing else
+abbrev pub Answer : Type 0
+Answer = Result SolveReport Refusal
 
-abbrev pub answer : Joined → Answer
-answer (Refused number) = refused number
-answer (Report r) = joined r
+-- a with what both joins add up of it and b
+abbrev pub sums : SolveReport → SolveReport → SolveReport
+sums a b =
+    record a {
+      iterations = a.iterations + b.iterations;
+      rejected = a.rejected + b.rejected;
+      anchors = a.anchors + b.anchors;
+      sweeps = a.sweeps + b.sweeps;
+      exact_passes = a.exact_passes + b.exact_passes;
+      stopped = a.stopped + b.stopped;
+      exact = a.exact && b.exact;
+    }
+
+unfoldable pub added : SolveReport → SolveReport → Answer
+added a b = cond (sums_fit a b) (Ok (sums a b)) (Err Join)
 
 unfoldable pub and : SolveReport → SolveReport → Answer
-and a b = cond (all_sums_fit a b) (joined (both a b)) (refused 13)
+and a b = cond (all_sums_fit a b) (Ok (both a b)) (Err Join)
 
 unfoldable pub continued : SolveReport → SolveReport → Answer
-continued a b = cond (sums_fit a b) (joined (onward a b)) (refused 13)
+continued a b = cond (sums_fit a b) (Ok (onward a b)) (Err Join)
 
 -- ---- a list joined
 
 -- what was joined so far and one more; the first refusal stays
 abbrev pub next : Answer → SolveReport → Answer
-next (refused number) b = refused number
-next (joined a) b = and a b
+next (Err e) b = Err e
+next (Ok a) b = and a b
 
 -- the list's reports joined to what was joined so far, front to back
 abbrev pub from : Answer → List SolveReport → Answer
@@ -124,4 +135,4 @@ from a [] = a
 from a (b ∷ l) = from (next a b) l
 
 unfoldable pub all : List SolveReport → Answer
-all l = from (joined NOTHING) l
+all l = from (Ok NOTHING) l

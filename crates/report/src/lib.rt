@@ -1,9 +1,12 @@
-// Reports of solves, joined: report.rs, where a count's sum above 4,294,967,295 gets document 01's number 13. Each call
-// is total, and its contract is an equation with a definition of specs/.
+// Reports of solves, joined: report.rs, where a count's sum above 4,294,967,295 is refused, by document 01's number 13.
+// Each call is total, and its contract is an equation with a definition of specs/.
 #![tactic(auto)]
 
-ghost use Rattle.std.specs.Prelude.{◌≡◌, max as nat_max};
+ghost use Rattle.std.specs.Prelude.{◌≡◌, ◌+◌, ◌≤◌, ◌<◌, MatchResult};
+ghost use Rattle.refusals.specs.declared.Refusal.TheVariants.{Join};
 ghost use Rattle.report.specs.Joins as joins;
+
+use refusals::Refusal;
 
 // The counts and the residual of a solve, or of several added together.
 #[derive(Clone, Copy)]
@@ -32,13 +35,6 @@ pub struct SolveReport {
     pub residual: f64,
 }
 
-// What a join answers: the report of both together, or document 01's number.
-#[derive(Clone, Copy)]
-pub enum Joined {
-    Report(SolveReport),
-    Refused(u32),
-}
-
 impl SolveReport {
     // The report of no solve at all: nothing counted, nothing failed.
     pub const NOTHING: SolveReport = SolveReport {
@@ -57,121 +53,70 @@ impl SolveReport {
 
     // This increment's report, the increment then going on from where it stopped as `then` reports: one increment, its
     // steps and sweeps added up, and how it ended, `then`'s.
-    pub fn continued(self, then: SolveReport) -> Joined
-        ensures { joins.answer result ≡ joins.continued self then }
+    #[tactic(auto, unfolding(crate::specs::Joins::added, crate::specs::Joins::continued))]
+    pub fn continued(self, then: SolveReport) -> Result<SolveReport, Refusal>
+        ensures { result ≡ joins.continued self then }
     {
-        if sums_fit(self, then) {
-            return Joined::Report(onward(self, then));
-        }
-        Joined::Refused(13)
+        let added = self.added(then)?;
+        Ok(SolveReport {
+            increments: self.increments.max(then.increments),
+            most_iterations: added.iterations,
+            converged: then.converged,
+            residual: then.residual,
+            ..added
+        })
     }
 
     // This report and `other` together, as one procedure's.
-    pub fn and(self, other: SolveReport) -> Joined
-        ensures { joins.answer result ≡ joins.and self other }
+    #[tactic(auto, using(std::proofs::lemmas::Bool::Decides::nat_tests), unfolding(crate::specs::Joins::added, crate::specs::Joins::and, crate::specs::Joins::all_sums_fit, crate::specs::Joins::sum_fits))]
+    pub fn and(self, other: SolveReport) -> Result<SolveReport, Refusal>
+        ensures { result ≡ joins.and self other }
     {
-        if all_sums_fit(self, other) {
-            return Joined::Report(both(self, other));
-        }
-        Joined::Refused(13)
+        let added = self.added(other)?;
+        Ok(SolveReport {
+            increments: sum(self.increments, other.increments)?,
+            most_iterations: self.most_iterations.max(other.most_iterations),
+            converged: self.converged & other.converged,
+            residual: floats::larger(self.residual, other.residual),
+            ..added
+        })
+    }
+
+    // This report with what both joins add up of it and `other`.
+    #[tactic(auto, using(std::proofs::lemmas::Bool::Decides::nat_tests), unfolding(crate::specs::Joins::added, crate::specs::Joins::sums_fit, crate::specs::Joins::sum_fits))]
+    fn added(self, other: SolveReport) -> Result<SolveReport, Refusal>
+        ensures { result ≡ joins.added self other }
+    {
+        Ok(SolveReport {
+            iterations: sum(self.iterations, other.iterations)?,
+            rejected: sum(self.rejected, other.rejected)?,
+            anchors: sum(self.anchors, other.anchors)?,
+            sweeps: sum(self.sweeps, other.sweeps)?,
+            exact_passes: sum(self.exact_passes, other.exact_passes)?,
+            stopped: sum(self.stopped, other.stopped)?,
+            exact: self.exact & other.exact,
+            ..self
+        })
     }
 }
 
-// The reports joined by `and`, front to back from NOTHING; 13 at the first sum too large.
-pub fn join_all(reports: &[SolveReport]) -> Joined
-    ensures { joins.answer result ≡ joins.all reports.now }
+// The reports joined by `and`, front to back from NOTHING; refused at the first sum too large.
+#[tactic(auto, using(std::proofs::lemmas::Grind::common_steps, crate::proofs::Lists::from_refused), unfolding(crate::specs::Joins::all))]
+pub fn join_all(reports: &[SolveReport]) -> Result<SolveReport, Refusal>
+    ensures { result ≡ joins.all reports.now }
 {
-    let mut so_far = start();
-    let mut i = 0;
-    while i < reports.len() {
-        so_far = next(so_far, reports[i]);
-        i += 1;
+    let mut so_far = SolveReport::NOTHING;
+    for report in reports {
+        so_far = so_far.and(*report)?;
     }
-    so_far
+    Ok(so_far)
 }
 
-fn start() -> Joined
-    ensures { joins.answer result ≡ joins.Answer.joined joins.NOTHING }
+// The sum of two counts, where it is a count.
+fn sum(x: u32, y: u32) -> Result<u32, Refusal>
+    ensures { MatchResult result
+        (λ s. (s ≡ x + y) × (x + y ≤ joins.most))
+        (λ e. (e ≡ Join) × (joins.most < x + y)) }
 {
-    Joined::Report(SolveReport::NOTHING)
-}
-
-fn next(joined: Joined, report: SolveReport) -> Joined
-    ensures { joins.answer result ≡ joins.next (joins.answer joined) report }
-{
-    match joined {
-        Joined::Refused(number) => Joined::Refused(number),
-        Joined::Report(before) => before.and(report),
-    }
-}
-
-// Whether two counts have a sum that is at most 4,294,967,295.
-fn sum_fits(x: u32, y: u32) -> bool
-    ensures { result ≡ joins.sum_fits x y }
-{
-    y <= 4294967295 - x
-}
-
-// Whether the sums that both joins make fit.
-fn sums_fit(a: SolveReport, b: SolveReport) -> bool
-    ensures { result ≡ joins.sums_fit a b }
-{
-    sum_fits(a.iterations, b.iterations)
-        & sum_fits(a.rejected, b.rejected)
-        & sum_fits(a.anchors, b.anchors)
-        & sum_fits(a.sweeps, b.sweeps)
-        & sum_fits(a.exact_passes, b.exact_passes)
-        & sum_fits(a.stopped, b.stopped)
-}
-
-// Whether the sums that `and` makes fit.
-fn all_sums_fit(a: SolveReport, b: SolveReport) -> bool
-    ensures { result ≡ joins.all_sums_fit a b }
-{
-    sum_fits(a.increments, b.increments) & sums_fit(a, b)
-}
-
-fn max(x: u32, y: u32) -> u32
-    ensures { result ≡ nat_max x y }
-{
-    if x < y { y } else { x }
-}
-
-fn onward(a: SolveReport, b: SolveReport) -> SolveReport
-    requires { joins.Summable a b }
-    ensures { result ≡ joins.onward a b }
-{
-    let iterations = a.iterations + b.iterations;
-    SolveReport {
-        increments: max(a.increments, b.increments),
-        iterations,
-        most_iterations: iterations,
-        rejected: a.rejected + b.rejected,
-        anchors: a.anchors + b.anchors,
-        sweeps: a.sweeps + b.sweeps,
-        exact_passes: a.exact_passes + b.exact_passes,
-        stopped: a.stopped + b.stopped,
-        converged: b.converged,
-        exact: a.exact & b.exact,
-        residual: b.residual,
-    }
-}
-
-fn both(a: SolveReport, b: SolveReport) -> SolveReport
-    requires { joins.AllSummable a b }
-    ensures { result ≡ joins.both a b }
-{
-    SolveReport {
-        increments: a.increments + b.increments,
-        iterations: a.iterations + b.iterations,
-        most_iterations: max(a.most_iterations, b.most_iterations),
-        rejected: a.rejected + b.rejected,
-        anchors: a.anchors + b.anchors,
-        sweeps: a.sweeps + b.sweeps,
-        exact_passes: a.exact_passes + b.exact_passes,
-        stopped: a.stopped + b.stopped,
-        converged: a.converged & b.converged,
-        exact: a.exact & b.exact,
-        residual: floats::larger(a.residual, b.residual),
-    }
+    x.checked_add(y).ok_or(Refusal::Join)
 }

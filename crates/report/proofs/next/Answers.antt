@@ -1,8 +1,0 @@
-use mathlib.Core.Path.{◌∙◌}
-use Rattle.report.proofs.next.Goals as goal
-
-pub returns-in-Refused : goal.returns-in-Refused
-returns-in-Refused c = rw c.in-Refused.is
-
-pub returns-in-Report : goal.returns-in-Report
-returns-in-Report c = c.and.ensures ∙ rw c.in-Report.is
