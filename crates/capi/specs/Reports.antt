@@ -1,8 +1,10 @@
 -- A SolveReport as plain numbers: ten counts, the two flags among them as 0 or another number, and the residual beside them. Definitions only.
-use Rattle.std.specs.Prelude.{ℕ, ◌≡◌, Bool, true, false, ◌&&◌, List, leb, get_or, set, length, Float}
+use Rattle.std.specs.Prelude.{ℕ, ◌≡◌, Bool, true, false, ◌&&◌, List, leb, get_or, set, length, Ok, Err, Float}
 use Rattle.flags.specs.Flags.{flag, flagged}
 use Rattle.report.specs.declared.SolveReport.{SolveReport}
-use Rattle.report.specs.Joins.{Answer, refused, joined}
+use Rattle.refusals.specs.declared.Refusal.TheVariants.{Join}
+use Rattle.refusals.specs.Numbers as numbers
+use Rattle.report.specs.Joins.{Answer}
 
 -- counts in the order increments, iterations, most_iterations, rejected, anchors, sweeps, exact_passes, converged, exact, stopped
 unfoldable pub read : List ℕ → Float → SolveReport
@@ -33,19 +35,19 @@ taken a b counts residual = leb 10 (length a) && leb 10 (length b) && leb 10 (le
 
 abbrev pub reply : Bool → Answer → Answer
 reply true x = x
-reply false x = refused 13
+reply false x = Err Join
 
 abbrev pub number : Answer → ℕ
-number (refused k) = k
-number (joined r) = 0
+number (Err e) = numbers.number e
+number (Ok r) = 0
 
 abbrev pub counts_left : Answer → List ℕ → List ℕ
-counts_left (refused k) l = l
-counts_left (joined r) l = written r l
+counts_left (Err e) l = l
+counts_left (Ok r) l = written r l
 
 abbrev pub residual_left : Answer → List Float → List Float
-residual_left (refused k) l = l
-residual_left (joined r) l = set l 0 r.residual
+residual_left (Err e) l = l
+residual_left (Ok r) l = set l 0 r.residual
 
 pub record Left (x : Answer) (r : ℕ) (counts counts' : List ℕ) (residual residual' : List Float) : Type 0 where
   pub number_is : r ≡ number x

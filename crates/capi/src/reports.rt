@@ -1,10 +1,10 @@
 // Joins of reports by plain numbers.
 ghost use Rattle.std.specs.Prelude.{◌≡◌, ◌≤◌, length, set};
-ghost use Rattle.report.specs.Joins as joins;
 ghost use Rattle.capi.specs.Reports as report;
 
 use flags::{flag, flagged};
-use report::{Joined, SolveReport};
+use refusals::Refusal;
+use report::SolveReport;
 
 pub fn read(counts: &[u32], residual: f64) -> SolveReport
     requires { 10 ≤ length counts.now }
@@ -42,14 +42,15 @@ pub fn write(r: SolveReport, counts: &mut [u32])
 }
 
 // What a join came to, left in the lent slices: 0, or the number of a refusal and nothing written.
-pub fn leave(joined: Joined, counts: &mut [u32], residual: &mut [f64]) -> u32
+#[tactic(auto, unfolding(crate::specs::Reports::written))]
+pub fn leave(joined: Result<SolveReport, Refusal>, counts: &mut [u32], residual: &mut [f64]) -> u32
     requires { (10 ≤ length counts.old) × (1 ≤ length residual.old) }
-    ensures { report.Left (joins.answer joined) result counts.old counts.new
+    ensures { report.Left joined result counts.old counts.new
         residual.old residual.new }
 {
     match joined {
-        Joined::Refused(number) => number,
-        Joined::Report(r) => {
+        Err(refusal) => refusal.into(),
+        Ok(r) => {
             write(r, counts);
             residual[0] = r.residual;
             0

@@ -10,7 +10,8 @@ use lib.Arith.{lt_of_le-ne}
 use lib.ListN.{length}
 use lib.Ieee.{Float}
 use borrow.Author.Tests.{le-ltb, ltb-false, ne_eqb, eqb-true, eqb-false}
-use Rattle.report.specs.Joins.{NOTHING, both, most, joined, and, AllSummable}
+use Rattle.std.specs.Prelude.{Ok}
+use Rattle.report.specs.Joins.{NOTHING, both, most, and, AllSummable}
 use Rattle.report.specs.declared.SolveReport.{SolveReport}
 use Rattle.report.proofs.Joins.{Held, both-held, both_comm, both_assoc, and_joins}
 use Rattle.boxed.specs.Solve.{Outcome, refused, solved, infeasible, reply, SWEEP_CAP}
@@ -205,7 +206,7 @@ pub record Counts (t : SolveReport) : Type 0 where
   pub rejected : t.rejected ≤ most
   pub anchors : t.anchors ≤ most
 
-pub never-refused : (t : SolveReport) (r : BoxReport) (nu : List Float) → Counts t → full t ≡ false → Modest r → and t (taken r nu) ≡ joined (both t (taken r nu))
+pub never-refused : (t : SolveReport) (r : BoxReport) (nu : List Float) → Counts t → full t ≡ false → Modest r → and t (taken r nu) ≡ Ok (both t (taken r nu))
 unfolding full
 never-refused t r nu u h m =
     let z = or_false (eqb t.increments 4294967295 || ltb 4294967095 t.sweeps || ltb 4294967286 t.exact_passes) (ltb 4294967263 t.stopped) h in

@@ -1,17 +1,15 @@
 // Lists of three reports, joined one by one by value and as a list that is lent.
 use crate::{lend, same};
-use report::{Joined, SolveReport};
+use refusals::Refusal;
+use report::SolveReport;
 use std::io;
 
-fn next(joined: Joined, report: SolveReport) -> Joined {
-    match joined {
-        Joined::Refused(number) => Joined::Refused(number),
-        Joined::Report(before) => before.and(report),
-    }
-}
-
-fn by_value(first: SolveReport, second: SolveReport, third: SolveReport) -> Joined {
-    next(next(SolveReport::NOTHING.and(first), second), third)
+fn by_value(
+    first: SolveReport,
+    second: SolveReport,
+    third: SolveReport,
+) -> Result<SolveReport, Refusal> {
+    SolveReport::NOTHING.and(first)?.and(second)?.and(third)
 }
 
 // A report of so many increments, sweeps and passes.
@@ -25,10 +23,10 @@ fn report(increments: u32, sweeps: u32, passes: u32, residual: f64) -> SolveRepo
     r
 }
 
-fn print(rt: &impl Print, joined: Joined) -> io::Result<()> {
+fn print(rt: &impl Print, joined: Result<SolveReport, Refusal>) -> io::Result<()> {
     match joined {
-        Joined::Refused(number) => print!(rt; "joined: refused {number}"),
-        Joined::Report(both) => print!(rt; "joined: sweeps {}", both.sweeps),
+        Err(refusal) => print!(rt; "joined: refused {}", u32::from(refusal)),
+        Ok(both) => print!(rt; "joined: sweeps {}", both.sweeps),
     }
 }
 

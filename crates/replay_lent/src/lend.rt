@@ -7,7 +7,8 @@ ghost use Rattle.report.specs.Joins as joins;
 ghost use Rattle.tally.specs.Tally as def;
 ghost use Rattle.tallied.specs.Joining as joining;
 
-use report::{Joined, SolveReport};
+use refusals::Refusal;
+use report::SolveReport;
 use tallied::Tallied;
 
 // `solve_into` on a tally of its own, which it hands back beside the answer.
@@ -42,8 +43,12 @@ pub fn lend_tally(
 }
 
 // `join_all` on a list of its own of three reports.
-pub fn lend_list(first: SolveReport, second: SolveReport, third: SolveReport) -> Joined
-    ensures { joins.answer result ≡ joins.all (first ∷ second ∷ third ∷ []) }
+pub fn lend_list(
+    first: SolveReport,
+    second: SolveReport,
+    third: SolveReport,
+) -> Result<SolveReport, Refusal>
+    ensures { result ≡ joins.all (first ∷ second ∷ third ∷ []) }
 {
     let list = [first, second, third];
     report::join_all(&list)

@@ -1,6 +1,7 @@
 // Whether two reports, answers or lists are the same, all NaNs as one.
 use boxed::{BoxAnswer, BoxReport, Cause};
-use report::{Joined, SolveReport};
+use refusals::Refusal;
+use report::SolveReport;
 use std::io;
 
 // Whether two floats are the same number, or both NaN.
@@ -69,16 +70,11 @@ pub fn answer(a: BoxAnswer, b: BoxAnswer) -> bool {
     }
 }
 
-pub fn joined(a: Joined, b: Joined) -> bool {
-    match a {
-        Joined::Refused(number) => match b {
-            Joined::Refused(other) => number == other,
-            Joined::Report(_) => false,
-        },
-        Joined::Report(both) => match b {
-            Joined::Refused(_) => false,
-            Joined::Report(other) => report(both, other),
-        },
+pub fn joined(a: Result<SolveReport, Refusal>, b: Result<SolveReport, Refusal>) -> bool {
+    match (a, b) {
+        (Ok(both), Ok(other)) => report(both, other),
+        (Err(refusal), Err(other)) => refusal == other,
+        _ => false,
     }
 }
 

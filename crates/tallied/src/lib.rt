@@ -5,13 +5,12 @@
 ghost use Rattle.std.specs.Prelude.{◌≡◌, cond, eqb, length};
 ghost use Rattle.box_rows.specs.Rows as box;
 ghost use Rattle.boxed.specs.Solve as solve;
-ghost use Rattle.report.specs.Joins as joins;
 ghost use Rattle.tally.specs.Tally as def;
 ghost use Rattle.tallied.specs.Joining as joining;
 ghost use Rattle.tallied.specs.Private as private;
 
 use boxed::{BoxAnswer, BoxReport, BoxSolver};
-use report::{Joined, SolveReport};
+use report::SolveReport;
 
 pub mod triangles;
 
@@ -80,22 +79,14 @@ pub fn taken(report: BoxReport, nu: &[f64]) -> SolveReport
     turned(report, no_nan(nu))
 }
 
-// What a join leaves of the tally: a refused one all. Number 11 is there so that none is.
-fn kept(tally: SolveReport, joined: Joined) -> SolveReport
-    ensures { result ≡ def.kept tally (joins.answer joined) }
-{
-    match joined {
-        Joined::Refused(_) => tally,
-        Joined::Report(both) => both,
-    }
-}
-
-// A solve's report joined to the tally. It is told whether no multiplier left is NaN, and does not look for itself:
-// with the loop in it, it would be called and not inlined, some 20 ns a solve.
+// A solve's report joined to the tally, which stays where the join is refused: number 11 is there so that none is. It is
+// told whether no multiplier left is NaN, and does not look for itself: with the loop in it, it would be called and not
+// inlined, some 20 ns a solve.
+#[tactic(auto, unfolding(crate::specs::Private::added))]
 fn added(tally: SolveReport, report: BoxReport, none: bool) -> SolveReport
     ensures { result ≡ private.added tally report none }
 {
-    kept(tally, tally.and(turned(report, none)))
+    tally.and(turned(report, none)).unwrap_or(tally)
 }
 
 // The tally after such an answer, none of whose multipliers is NaN, or some.

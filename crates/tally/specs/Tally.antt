@@ -1,5 +1,5 @@
 -- The tallied solve of document 01: a solve whose report is joined to a tally, and a list of them. Definitions only.
-use Rattle.std.specs.Prelude.{ℕ, Bool, not, cond, ◌&&◌, ◌||◌, List, [], ◌∷◌, ltb, eqb, length, Float}
+use Rattle.std.specs.Prelude.{ℕ, Bool, not, cond, ◌&&◌, ◌||◌, List, [], ◌∷◌, ltb, eqb, length, Ok, Err, Float}
 use Rattle.loops.specs.Loops.{every}
 use Rattle.floats.specs.Ops.{at}
 use Rattle.floats.specs.Helpers.{nan_test}
@@ -61,8 +61,8 @@ taken r nu = turned r (no_nan nu)
 
 -- a join that is refused leaves the tally as it was; number 11 is there so that none is
 abbrev pub kept : SolveReport → joins.Answer → SolveReport
-kept t (joins.refused k) = t
-kept t (joins.joined s) = s
+kept t (Err e) = t
+kept t (Ok s) = s
 
 -- the tally after a solve that left the multipliers nu; a refused one joins nothing
 abbrev pub joined_to : SolveReport → Outcome → List Float → SolveReport
