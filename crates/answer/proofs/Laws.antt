@@ -18,7 +18,9 @@ use Rattle.bend_file.proofs.Values.{values_length}
 use Rattle.bend_file.proofs.Accepted.{accepted_is_bend-file}
 use Rattle.boxed.specs.Solve as solve
 use Rattle.boxed.specs.Solve.{Left}
-use Rattle.boxed.specs.declared.BoxAnswer.{BoxAnswer}
+use Rattle.boxed.specs.declared.BoxOutcome.{BoxOutcome}
+use Rattle.refusals.specs.declared.Refusal.{Refusal}
+use Rattle.std.specs.Prelude.{Result}
 use Rattle.printer.specs.Output as print
 use Rattle.printer.proofs.Lengths.{Word}
 use Rattle.answer.specs.Output as def
@@ -42,7 +44,7 @@ pub front-few : (n : ℕ) (l : List ℕ) → length l ≤ 32 → length (take n 
 front-few n l h = omega (arith, length-take n l)
 
 -- the lines of what a solve answered and left
-pub left_laid : (x : solve.Result) (r : BoxAnswer) (nu : List Float) (st q a b : List ℕ) (n : ℕ) (w w' : List Float) → Left x r nu st q w w' → def.Laid a b n (def.lines r st nu q) → def.Laid a b n (def.printed x)
+pub left_laid : (x : solve.Result) (r : Result BoxOutcome Refusal) (nu : List Float) (st q a b : List ℕ) (n : ℕ) (w w' : List Float) → Left x r nu st q w w' → def.Laid a b n (def.lines r st nu q) → def.Laid a b n (def.printed x)
 unfolding def.printed
 left_laid x r nu st q a b n w w' h p = rw (h.answer, h.multipliers, h.states, h.listed) at p
 

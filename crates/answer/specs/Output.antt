@@ -1,19 +1,21 @@
 -- What bendsolve writes for a file. Definitions only: the reader's, the solver's and the printer's, one after another.
-use Rattle.std.specs.Prelude.{ℕ, ◌*◌, ◌≤◌, ◌≡◌, cond, List, [], ◌++◌, ltb, Float, length, take, drop, replicate}
+use Rattle.std.specs.Prelude.{ℕ, ◌*◌, ◌≤◌, ◌≡◌, cond, List, [], ◌++◌, ltb, Float, length, take, drop, replicate, Result, Ok, Err}
 use Rattle.bend_file.specs.Trailer.{Small}
 use Rattle.bend_file.specs.Read as read
 use Rattle.box_rows.specs.Rows as box
 use Rattle.boxed.specs.Solve as solve
-use Rattle.boxed.specs.declared.BoxAnswer.{BoxAnswer}
-use Rattle.boxed.specs.declared.BoxAnswer.TheVariants.{Solved, Infeasible, Refused}
+use Rattle.boxed.specs.declared.BoxOutcome.{BoxOutcome}
+use Rattle.boxed.specs.declared.BoxOutcome.TheVariants.{Solved, Infeasible}
+use Rattle.refusals.specs.declared.Refusal.{Refusal}
+use Rattle.refusals.specs.Numbers.{number}
 use Rattle.printer.specs.Writing.{Wrote}
 use Rattle.printer.specs.Output as print
 
 -- the lines of an answer, with the states, multipliers and row list that the solve left; the rows that fight are the filled front of the row list
-abbrev pub lines : BoxAnswer → List ℕ → List Float → List ℕ → List ℕ
-lines (Refused k) states nu rows = print.refused k
-lines (Solved r) states nu rows = print.solved r states nu
-lines (Infeasible c n r) states nu rows = print.infeasible c r states nu (take n rows)
+abbrev pub lines : Result BoxOutcome Refusal → List ℕ → List Float → List ℕ → List ℕ
+lines (Err k) states nu rows = print.refused (number k)
+lines (Ok (Solved r)) states nu rows = print.solved r states nu
+lines (Ok (Infeasible c n r)) states nu rows = print.infeasible c r states nu (take n rows)
 
 unfoldable pub printed : solve.Result → List ℕ
 printed x = lines (solve.answer_of x.outcome) x.states x.nu x.listed

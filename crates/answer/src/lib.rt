@@ -8,28 +8,33 @@ ghost use Rattle.boxed.specs.Solve as solve;
 ghost use Rattle.answer.specs.Output as def;
 
 use bend_file::Reading;
-use boxed::{BoxAnswer, BoxSolver};
+use boxed::{BoxOutcome, BoxSolver};
+use refusals::Refusal;
 
 // Every output fits in a buffer of so many bytes.
 pub const ROOM: usize = 2048;
 
 // The lines of a solve's answer.
-fn print(answer: BoxAnswer, states: &[u8], nu: &[f64], rows: &[usize], out: &mut [u8]) -> usize
+fn print(
+    answer: Result<BoxOutcome, Refusal>,
+    states: &[u8],
+    nu: &[f64],
+    rows: &[usize],
+    out: &mut [u8],
+) -> usize
     requires { (length nu.now ≤ 32) × (length rows.now ≤ 32) }
     ensures { def.Laid out.old out.new result
         (def.lines answer states.now nu.now rows.now) }
 {
     match answer {
-        BoxAnswer::Refused(number) => printer::refused(number, out),
-        BoxAnswer::Solved(report) => printer::solved(report, states, nu, out),
-        BoxAnswer::Infeasible(cause, count, report) => printer::infeasible(
-            cause,
-            report,
-            states,
-            nu,
-            boxed::listed(rows, count),
-            out,
-        ),
+        Err(refusal) => printer::refused(u32::from(refusal), out),
+        Ok(outcome) => match outcome {
+            BoxOutcome::Solved(report) => printer::solved(report, states, nu, out),
+            BoxOutcome::Infeasible(cause, count, report) => {
+                let fighting = boxed::listed(rows, count);
+                printer::infeasible(cause, report, states, nu, fighting, out)
+            }
+        },
     }
 }
 

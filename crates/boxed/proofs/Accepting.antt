@@ -13,11 +13,14 @@ use Rattle.loops.specs.Loops.{every}
 use Rattle.loops.proofs.Every.{both_true}
 use Rattle.box_rows.specs.Rows.{Problem, MAX_ROWS, size}
 use Rattle.box_rows.specs.Private.{Sized}
+use Rattle.refusals.specs.declared.Refusal.{Refusal}
+use Rattle.refusals.specs.declared.Refusal.TheVariants.{TooLarge, NotSquare, Unequal, Scale, Motion, Short}
+use Rattle.std.specs.Prelude.{None}
 use Rattle.boxed.specs.Solve.{MAX_MOTION, WORKSPACE, first, refusal}
 use Rattle.boxed.specs.Private.{good_scale, good_scale_at, Matrix, Lent}
 
-first_false : (c : Bool) (k : ℕ) (l : List (Bool × ℕ)) → first ((c, suc k) ∷ l) ≡ 0 → (c ≡ false) × (first l ≡ 0)
-first_false true k l h = absurd (omega arith)
+first_false : (c : Bool) (k : Refusal) (l : List (Bool × Refusal)) → first ((c, k) ∷ l) ≡ None → (c ≡ false) × (first l ≡ None)
+first_false true k l h = cc
 first_false false k l h = (refl, h)
 
 pub or_false : (a b : Bool) → a || b ≡ false → (a ≡ false) × (b ≡ false)
@@ -32,14 +35,14 @@ pub record Accepted (p : Problem) (nu : List Float) (st l : List ℕ) (workspace
   pub listed : size p ≤ length l
 
 -- all six tests fail
-six : (a b c d e f : Bool) → first ((a, 5) ∷ (b, 6) ∷ (c, 7) ∷ (d, 8) ∷ (e, 9) ∷ (f, 10) ∷ []) ≡ 0 → (a ≡ false) × (b ≡ false) × (c ≡ false) × (f ≡ false)
+six : (a b c d e f : Bool) → first ((a, TooLarge) ∷ (b, NotSquare) ∷ (c, Unequal) ∷ (d, Scale) ∷ (e, Motion) ∷ (f, Short) ∷ []) ≡ None → (a ≡ false) × (b ≡ false) × (c ≡ false) × (f ≡ false)
 six a b c d e f h =
-    let h5 = first_false a 4 ((b, 6) ∷ (c, 7) ∷ (d, 8) ∷ (e, 9) ∷ (f, 10) ∷ []) h in
-    let h6 = first_false b 5 ((c, 7) ∷ (d, 8) ∷ (e, 9) ∷ (f, 10) ∷ []) h5.1 in
-    let h7 = first_false c 6 ((d, 8) ∷ (e, 9) ∷ (f, 10) ∷ []) h6.1 in
-    let h8 = first_false d 7 ((e, 9) ∷ (f, 10) ∷ []) h7.1 in
-    let h9 = first_false e 8 ((f, 10) ∷ []) h8.1 in
-    (h5.0, h6.0, h7.0, (first_false f 9 [] h9.1).0)
+    let h5 = first_false a TooLarge ((b, NotSquare) ∷ (c, Unequal) ∷ (d, Scale) ∷ (e, Motion) ∷ (f, Short) ∷ []) h in
+    let h6 = first_false b NotSquare ((c, Unequal) ∷ (d, Scale) ∷ (e, Motion) ∷ (f, Short) ∷ []) h5.1 in
+    let h7 = first_false c Unequal ((d, Scale) ∷ (e, Motion) ∷ (f, Short) ∷ []) h6.1 in
+    let h8 = first_false d Scale ((e, Motion) ∷ (f, Short) ∷ []) h7.1 in
+    let h9 = first_false e Motion ((f, Short) ∷ []) h8.1 in
+    (h5.0, h6.0, h7.0, (first_false f Short [] h9.1).0)
 
 -- four lists of n values each
 four : (a b c d n : ℕ) → not (eqb a n && eqb b n && eqb c n && eqb d n) ≡ false → (a ≡ n) × (b ≡ n) × (c ≡ n) × (d ≡ n)
@@ -49,7 +52,7 @@ four a b c d n h =
     let ab = both_true (eqb a n) (eqb b n) abc.0 in
     (eqb-true a n ab.0, eqb-true b n ab.1, eqb-true c n abc.1, eqb-true d n abcd.1)
 
-pub accepted : (p : Problem) (motion nu : List Float) (st l : List ℕ) (workspace : ℕ) → refusal p motion nu st l workspace ≡ 0 → Accepted p nu st l workspace
+pub accepted : (p : Problem) (motion nu : List Float) (st l : List ℕ) (workspace : ℕ) → refusal p motion nu st l workspace ≡ None → Accepted p nu st l workspace
 unfolding refusal good_scale
 accepted p motion nu st l workspace h =
     let n = size p in
@@ -69,15 +72,11 @@ accepted p motion nu st l workspace h =
       listed = ltb-false (length l) n ten.1;
     }
 
-pub accepted_by : (p : Problem) (motion nu : List Float) (st l : List ℕ) (workspace number : ℕ)
-    → number ≡ refusal p motion nu st l workspace → number ≡ 0 → Accepted p nu st l workspace
-accepted_by p motion nu st l workspace number e h = accepted p motion nu st l workspace (sym e ∙ h)
-
 -- the solve of the rows is lent enough
-pub lent : (p : Problem) (motion nu : List Float) (st l : List ℕ) (work : List Float) (number : ℕ)
-    → number ≡ refusal p motion nu st l (length work) → number ≡ 0 → Lent p (take (size p) st) nu l work
-lent p motion nu st l work number e h =
-    let a = accepted_by p motion nu st l (length work) number e h in
+pub lent : (p : Problem) (motion nu : List Float) (st l : List ℕ) (work : List Float) → refusal p motion nu st l (length work) ≡ None
+    → Lent p (take (size p) st) nu l work
+lent p motion nu st l work h =
+    let a = accepted p motion nu st l (length work) h in
     let s = a.sized in
     let matrix : Matrix (size p) p.w p.lo p.hi (take (size p) st) nu =
     record { few = s.0; square = s.1; lower = s.2; upper = s.3; states = length-take-le (size p) st a.states; multipliers = a.values } in

@@ -1,6 +1,7 @@
 -- The end of a solve: what the code answers and leaves is what the result of its run says.
 use Prim.Native.Nat.{ℕ}
 use mathlib.Core.Path.{◌≡◌, ap, ◌∙◌}
+use Rattle.std.specs.Prelude.{Ok}
 use mathlib.Core.Bool.{Bool, true, false}
 use mathlib.Core.List.{List}
 use lib.Ieee.{Float}
@@ -14,11 +15,11 @@ use Rattle.boxed.specs.declared.Sweeping.{Sweeping}
 use Rattle.boxed.specs.declared.Sweeping.TheVariants as sweeping
 use Rattle.boxed.specs.declared.Cause.{Cause}
 use Rattle.boxed.specs.declared.BoxReport.{BoxReport}
-use Rattle.boxed.specs.declared.BoxAnswer.{BoxAnswer}
-use Rattle.boxed.specs.declared.BoxAnswer.TheVariants.{Solved, Infeasible}
+use Rattle.boxed.specs.declared.BoxOutcome.{BoxOutcome}
+use Rattle.boxed.specs.declared.BoxOutcome.TheVariants.{Solved, Infeasible}
 
 -- the answer of a solve that had come to s when it ended so, and the states that are left
-abbrev answered : box.Problem → ℕ → Sweeping → Iterate → BoxAnswer
+abbrev answered : box.Problem → ℕ → Sweeping → Iterate → BoxOutcome
 answered p idle sweeping.Going s = Solved (solve.report_of p idle false false s)
 answered p idle sweeping.Exact s = Solved (solve.report_of p idle true true s)
 answered p idle sweeping.Converged s = Solved (solve.report_of p idle true false s)
@@ -40,19 +41,19 @@ states_are : {nu : List Float} {st : List ℕ} {c : Counts} {s : Iterate} → it
 states_are e = ap (λ (x : Iterate). x.states) e
 
 module _ (p : box.Problem) (idle : ℕ) (g : Sweeping) (nu : List Float) (st : List ℕ) (c : Counts) where
-  finished : (a : BoxAnswer) (st' : List ℕ) → a ≡ answered p idle g (iterate nu st c) → st' ≡ states_left p g (iterate nu st c)
+  finished : (a : BoxOutcome) (st' : List ℕ) → a ≡ answered p idle g (iterate nu st c) → st' ≡ states_left p g (iterate nu st c)
       → Answered p idle g nu st c a st'
   unfolding solve.result solve.unfound
   finished a st' e f (going s) l₀ l h =
       let n = nu_is h.reached in
-      record { answer = rw (h.answer, h.reached) at e; multipliers = n; states = rw (← n, ← states_are h.reached) (rw h.answer at f); listed = h.listed }
+      record { answer = ap Ok (rw (h.answer, h.reached) at e); multipliers = n; states = rw (← n, ← states_are h.reached) (rw h.answer at f); listed = h.listed }
   finished a st' e f (ended exact s) l₀ l h =
-      record { answer = rw (h.answer, h.reached) at e; multipliers = nu_is h.reached; states = (rw h.answer at f) ∙ states_are h.reached; listed = h.listed }
+      record { answer = ap Ok (rw (h.answer, h.reached) at e); multipliers = nu_is h.reached; states = (rw h.answer at f) ∙ states_are h.reached; listed = h.listed }
   finished a st' e f (ended converged s) l₀ l h =
       let n = nu_is h.reached in
-      record { answer = rw (h.answer, h.reached) at e; multipliers = n; states = rw (← n, ← states_are h.reached) (rw h.answer at f); listed = h.listed }
+      record { answer = ap Ok (rw (h.answer, h.reached) at e); multipliers = n; states = rw (← n, ← states_are h.reached) (rw h.answer at f); listed = h.listed }
   finished a st' e f (ended (conflict b r) s) l₀ l h =
-      record { answer = rw (h.answer, h.reached) at e; multipliers = nu_is h.reached; states = (rw h.answer at f) ∙ states_are h.reached; listed = h.listed }
+      record { answer = ap Ok (rw (h.answer, h.reached) at e); multipliers = nu_is h.reached; states = (rw h.answer at f) ∙ states_are h.reached; listed = h.listed }
 
   -- one law for each return: x is the residual, and q the report
   module _ (x : Float) (e : x ≡ sweep.residual p st nu (box.size p)) (q : BoxReport) where

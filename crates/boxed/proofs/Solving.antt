@@ -1,5 +1,5 @@
 -- A solve from what its calls promise, and the public call.
-use Prim.Native.Nat.{ℕ, zero, suc}
+use Prim.Native.Nat.{ℕ}
 use mathlib.Core.Path.{◌≡◌, refl, sym, ap}
 use mathlib.Core.List.{List, ◌++◌}
 use native.Mathlib.Omega.{arith}
@@ -17,8 +17,10 @@ use Rattle.boxed.proofs.Finishing.{solve_uses}
 use Rattle.boxed.specs.declared.BoxReport.{BoxReport}
 use Rattle.boxed.specs.declared.Counts.{Counts}
 use Rattle.boxed.specs.declared.Sweeping.{Sweeping}
-use Rattle.boxed.specs.declared.BoxAnswer.{BoxAnswer}
-use Rattle.boxed.specs.declared.BoxAnswer.TheVariants.{Solved, Refused}
+use Rattle.boxed.specs.declared.BoxOutcome.{BoxOutcome}
+use Rattle.boxed.specs.declared.BoxOutcome.TheVariants.{Solved}
+use Rattle.refusals.specs.declared.Refusal.{Refusal}
+use Rattle.std.specs.Prelude.{Option, None, Some, Ok, Err}
 
 -- ---- from the start of a solve: every row Idle, or not
 
@@ -31,15 +33,15 @@ module _ (cap : ℕ) (p : box.Problem) (m : Watch) (nu : List Float) (st l : Lis
   unfolding solve.solve
   solve-is h = rw (begun, ne_eqb idle (box.size p) h)
 
-  pub all-idle : idle ≡ box.size p → (r : BoxReport) → r ≡ private.nothing idle → (w : List Float) → Left (solve.solve cap p m nu st l) (Solved r) nu₁ st₁ l w w
+  pub all-idle : idle ≡ box.size p → (r : BoxReport) → r ≡ private.nothing idle → (w : List Float) → Left (solve.solve cap p m nu st l) (Ok (Solved r)) nu₁ st₁ l w w
   unfolding solve.solve
-  all-idle h r e w = rw (begun, eq-eqb idle (box.size p) h) (record { answer = ap Solved e; multipliers = refl; states = refl; listed = refl; workspace = refl })
+  all-idle h r e w = rw (begun, eq-eqb idle (box.size p) h) (record { answer = rw e refl; multipliers = refl; states = refl; listed = refl; workspace = refl })
 
   -- g is how the run has ended
-  pub some_act : (idle ≡ box.size p → ⊥) → (g : Sweeping) (nu₂ : List Float) (st₂ : List ℕ) (c : Counts) (r : BoxAnswer) (st' l' : List ℕ) (w w' : List Float)
+  pub some_act : (idle ≡ box.size p → ⊥) → (g : Sweeping) (nu₂ : List Float) (st₂ : List ℕ) (c : Counts) (r : BoxOutcome) (st' l' : List ℕ) (w w' : List Float)
       → Worked SOLVE_END (solve.run cap p m (iterate nu₁ st₁ (solve.counts 0 0 0)) cap) l w g nu₂ st₂ c l' w'
       → Answered p idle g nu₂ st₂ c r st'
-      → Left (solve.solve cap p m nu st l) r nu₂ st' l' w w'
+      → Left (solve.solve cap p m nu st l) (Ok r) nu₂ st' l' w w'
   some_act h g nu₂ st₂ c r st' l' w w' d k =
       let e = solve-is h in
       let f = k (solve.run cap p m (iterate nu₁ st₁ (solve.counts 0 0 0)) cap) l l' d.ran in
@@ -51,23 +53,20 @@ module _ (cap : ℕ) (p : box.Problem) (m : Watch) (nu : List Float) (st l : Lis
         workspace = rw (solve_uses cap p m nu st l) (later SOLVE_END solve.WORKSPACE w' w (omega arith) d.workspace);
       }
 
--- ---- a number refuses, and 0 does not
+-- ---- a call that is refused, and one that is not
 
-module _ (p : box.Problem) (m : Watch) (nu : List Float) (st l : List ℕ) (workspace number : ℕ) (e : number ≡ solve.refusal p m.motion nu st l workspace) where
-  refused : (k : ℕ) → (k ≡ 0 → ⊥) → (w : List Float) → Left (solve.reply solve.SWEEP_CAP p m nu st l k) (Refused k) nu st l w w
-  unfolding solve.reply
-  refused zero h w = absurd (h refl)
-  refused (suc k) h w = record { answer = refl; multipliers = refl; states = refl; listed = refl; workspace = refl }
-
-  pub is-refused : (number ≡ 0 → ⊥) → (w : List Float) → Left (solve.solve_reply p m nu st l workspace) (Refused number) nu st l w w
-  unfolding solve.solve_reply
-  is-refused h w = rw (← e) (refused number h w)
-
-  pub is-solved : number ≡ 0 → (r : BoxAnswer) (nu' : List Float) (st' l' : List ℕ) (w w' : List Float) → Left (solve.solve solve.SWEEP_CAP p m nu (take (box.size p) st) l) r nu' st' l' w w'
-      → Left (solve.solve_reply p m nu st l workspace) r nu' (st' ++ drop (box.size p) st) l' w w'
+module _ (p : box.Problem) (m : Watch) (nu : List Float) (st l : List ℕ) (workspace : ℕ) where
+  pub is-refused : (x : Refusal) → Some x ≡ solve.refusal p m.motion nu st l workspace → (w : List Float)
+      → Left (solve.solve_reply p m nu st l workspace) (Err x) nu st l w w
   unfolding solve.solve_reply solve.reply
-  is-solved h r nu' st' l' w w' f =
-      rw (← e, h)
+  is-refused x e w = rw (← e) (record { answer = refl; multipliers = refl; states = refl; listed = refl; workspace = refl })
+
+  pub is-solved : None ≡ solve.refusal p m.motion nu st l workspace → (r : BoxOutcome) (nu' : List Float) (st' l' : List ℕ) (w w' : List Float)
+      → Left (solve.solve solve.SWEEP_CAP p m nu (take (box.size p) st) l) (Ok r) nu' st' l' w w'
+      → Left (solve.solve_reply p m nu st l workspace) (Ok r) nu' (st' ++ drop (box.size p) st) l' w w'
+  unfolding solve.solve_reply solve.reply
+  is-solved e r nu' st' l' w w' f =
+      rw (← e)
       (record {
         answer = f.answer;
         multipliers = f.multipliers;

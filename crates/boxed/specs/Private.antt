@@ -1,7 +1,7 @@
 -- Words of private contracts: what the code tells of a run between two sweeps, and what it leaves. No promise of a
 -- public call rests on them; those are in Solve.antt.
 -- Definitions only.
-use Rattle.std.specs.Prelude.{ℕ, suc, ◌+◌, ◌*◌, ◌≤◌, ◌<◌, ◌≡◌, Bool, true, false, cond, ◌&&◌, ◌||◌, List, length, drop, set, Float}
+use Rattle.std.specs.Prelude.{ℕ, suc, ◌+◌, ◌*◌, ◌≤◌, ◌<◌, ◌≡◌, Bool, true, false, cond, ◌&&◌, ◌||◌, List, length, drop, set, Float, Ok}
 use Rattle.std.specs.Float.Ieee.{lt}
 use Rattle.loops.specs.Loops.{turns, tab, fronted}
 use Rattle.floats.specs.Ops.{◌⊕◌, ◌⊖◌, ◌⊗◌, ◌⊘◌, at, 0ᶠ, 1e6}
@@ -15,7 +15,7 @@ use Rattle.boxed.specs.declared.Progress.{Progress}
 use Rattle.boxed.specs.declared.Sweeping.{Sweeping}
 use Rattle.boxed.specs.declared.Sweeping.TheVariants as sweeping
 use Rattle.boxed.specs.declared.BoxReport.{BoxReport}
-use Rattle.boxed.specs.declared.BoxAnswer.{BoxAnswer}
+use Rattle.boxed.specs.declared.BoxOutcome.{BoxOutcome}
 use Rattle.boxed.specs.Sweep as sweep
 use Rattle.boxed.specs.Solve.{Run, going, ended, exact, converged, conflict}
 use Rattle.boxed.specs.Solve.{Iterate, iterate, passed, Outcome, Result, result, answer_of}
@@ -186,14 +186,14 @@ Settled e v nu g nu' =
 
 -- a solve that is not refused ends with this result: its answer, and what it leaves in the multipliers, the states and
 -- the row list
-pub record Finished (x : Result) (r : BoxAnswer) (nu : List Float) (st l : List ℕ) : Type 0 where
-  pub answer : r ≡ answer_of x.outcome
+pub record Finished (x : Result) (r : BoxOutcome) (nu : List Float) (st l : List ℕ) : Type 0 where
+  pub answer : Ok r ≡ answer_of x.outcome
   pub multipliers : nu ≡ x.nu
   pub states : st ≡ x.states
   pub listed : l ≡ x.listed
 
 -- the answer a, and the states st' left, where a run has come to the iterate of nu, st and c and goes on as g
-abbrev pub Answered : box.Problem → ℕ → Sweeping → List Float → List ℕ → Counts → BoxAnswer → List ℕ → Type 0
+abbrev pub Answered : box.Problem → ℕ → Sweeping → List Float → List ℕ → Counts → BoxOutcome → List ℕ → Type 0
 Answered p idle g nu st c a st' =
     (r : Run) (l₀ l : List ℕ) → Ran r l₀ g nu st c l → Finished (result p idle l₀ r) a nu st' l
 

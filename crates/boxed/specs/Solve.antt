@@ -1,6 +1,7 @@
 -- `BoxSolver::solve` of boxed.rs by document 01: the sweeps with their tests, the ending, the refusals.
 -- Definitions only.
-use Rattle.std.specs.Prelude.{ℕ, zero, suc, ◌*◌, ◌/◌, ◌%◌, ◌≡◌, Bool, true, false, not, cond, ◌&&◌, ◌||◌, List, [], ◌∷◌, ◌++◌, ltb, eqb, length, take, drop, Float}
+use Rattle.std.specs.Prelude.{ℕ, suc, ◌*◌, ◌/◌, ◌%◌, ◌≡◌, Bool, true, false, not, cond, ◌&&◌, ◌||◌, List, [], ◌∷◌, ◌++◌, ltb, eqb, length, take, drop, Float}
+use Rattle.std.specs.Prelude.{Option, None, Some, Result as ResultOf, Ok, Err}
 use Rattle.std.specs.Float.Ieee.{lt, le}
 use Rattle.loops.specs.Loops.{turns, tab, every, fronted}
 use Rattle.floats.specs.Ops.{◌⊖◌, at, 0ᶠ, 1e-9}
@@ -13,8 +14,10 @@ use Rattle.boxed.specs.declared.Cause.{Cause}
 use Rattle.boxed.specs.declared.Cause.TheVariants as cause
 use Rattle.boxed.specs.declared.Counts.{Counts}
 use Rattle.boxed.specs.declared.BoxReport.{BoxReport}
-use Rattle.boxed.specs.declared.BoxAnswer.{BoxAnswer}
-use Rattle.boxed.specs.declared.BoxAnswer.TheVariants.{Solved, Infeasible, Refused}
+use Rattle.boxed.specs.declared.BoxOutcome.{BoxOutcome}
+use Rattle.boxed.specs.declared.BoxOutcome.TheVariants.{Solved, Infeasible}
+use Rattle.refusals.specs.declared.Refusal.{Refusal}
+use Rattle.refusals.specs.declared.Refusal.TheVariants as by
 
 -- ---- constants of document 01
 
@@ -119,7 +122,7 @@ run cap p m s k = turns k (going s) (turn cap p m)
 -- ---- the whole
 
 pub data Outcome : Type 0 where
-  refused : ℕ → Outcome
+  refused : Refusal → Outcome
   solved : BoxReport → Outcome
   infeasible : Cause → List ℕ → BoxReport → Outcome
 
@@ -182,32 +185,32 @@ solve cap p m nu st l =
     cond (eqb b.idle (box.size p)) (record { outcome = solved r; nu = b.nu; states = b.states; listed = l })
     (result p b.idle l (run cap p m (iterate b.nu b.states (counts 0 0 0)) cap))
 
--- ---- refusals: a test and its number, in the order of document 01
+-- ---- refusals: a test and what it refuses by, in the order of document 01
 
--- the number of the first test that holds, or 0 where none does
-abbrev pub first : List (Bool × ℕ) → ℕ
-first [] = 0
-first (c ∷ l) = cond c.0 c.1 (first l)
+-- the refusal of the first test that holds
+abbrev pub first : List (Bool × Refusal) → Option Refusal
+first [] = None
+first (c ∷ l) = cond c.0 (Some c.1) (first l)
 
 -- `workspace` is the length of the workspace.
-unfoldable pub refusal : box.Problem → List Float → List Float → List ℕ → List ℕ → ℕ → ℕ
+unfoldable pub refusal : box.Problem → List Float → List Float → List ℕ → List ℕ → ℕ → Option Refusal
 refusal p motion nu st l workspace =
     let n = box.size p in
     first
-    ((ltb box.MAX_ROWS n || ltb MAX_MOTION (length motion), 5)
-    ∷ (not (eqb (length p.w) (n * n)), 6)
-    ∷ (not (eqb (length p.lo) n && eqb (length p.hi) n && eqb (length p.scale) n && eqb (length nu) n), 7)
-    ∷ (not (every (λ (i : ℕ). is_finite (at p.scale i) && lt 0ᶠ (at p.scale i)) n), 8)
-    ∷ (ltb 0 n && not (eqb (length motion % n) 0), 9)
-    ∷ (ltb workspace WORKSPACE || ltb (length st) n || ltb (length l) n, 10)
+    ((ltb box.MAX_ROWS n || ltb MAX_MOTION (length motion), by.TooLarge)
+    ∷ (not (eqb (length p.w) (n * n)), by.NotSquare)
+    ∷ (not (eqb (length p.lo) n && eqb (length p.hi) n && eqb (length p.scale) n && eqb (length nu) n), by.Unequal)
+    ∷ (not (every (λ (i : ℕ). is_finite (at p.scale i) && lt 0ᶠ (at p.scale i)) n), by.Scale)
+    ∷ (ltb 0 n && not (eqb (length motion % n) 0), by.Motion)
+    ∷ (ltb workspace WORKSPACE || ltb (length st) n || ltb (length l) n, by.Short)
     ∷ [])
 
 -- states past the n of the problem stay
-unfoldable pub reply : ℕ → box.Problem → Watch → List Float → List ℕ → List ℕ → ℕ → Result
-reply cap p m nu st l zero =
+unfoldable pub reply : ℕ → box.Problem → Watch → List Float → List ℕ → List ℕ → Option Refusal → Result
+reply cap p m nu st l None =
     let x = solve cap p m nu (take (box.size p) st) l in
     record { outcome = x.outcome; nu = x.nu; states = x.states ++ drop (box.size p) st; listed = x.listed }
-reply cap p m nu st l (suc k) = record { outcome = refused (suc k); nu = nu; states = st; listed = l }
+reply cap p m nu st l (Some r) = record { outcome = refused r; nu = nu; states = st; listed = l }
 
 unfoldable pub solve_reply : box.Problem → Watch → List Float → List ℕ → List ℕ → ℕ → Result
 solve_reply p m nu st l workspace = reply SWEEP_CAP p m nu st l (refusal p m.motion nu st l workspace)
@@ -216,10 +219,10 @@ solve_reply p m nu st l workspace = reply SWEEP_CAP p m nu st l (refusal p m.mot
 
 -- the code's answer to an outcome: the rows of an infeasible one are the filled front of the row list, of which it
 -- tells the length
-abbrev pub answer_of : Outcome → BoxAnswer
-answer_of (refused k) = Refused k
-answer_of (solved r) = Solved r
-answer_of (infeasible c l r) = Infeasible c (length l) r
+abbrev pub answer_of : Outcome → ResultOf BoxOutcome Refusal
+answer_of (refused k) = Err k
+answer_of (solved r) = Ok (Solved r)
+answer_of (infeasible c l r) = Ok (Infeasible c (length l) r)
 
 -- how many values at the workspace's front are free afterwards: none where the call is refused
 abbrev pub used : Outcome → ℕ
@@ -229,7 +232,8 @@ used (infeasible c l r) = WORKSPACE
 
 -- The answer r of a call is that of the result x, and so are the multipliers, the states and the row list that it
 -- leaves. The workspace held `work` before the call and `work'` after it.
-pub record Left (x : Result) (r : BoxAnswer) (nu : List Float) (st rows : List ℕ) (work work' : List Float)
+pub record Left (x : Result) (r : ResultOf BoxOutcome Refusal) (nu : List Float) (st rows : List ℕ)
+    (work work' : List Float)
     : Type 0 where
   pub answer : r ≡ answer_of x.outcome
   pub multipliers : nu ≡ x.nu

@@ -5,7 +5,7 @@ ghost use Rattle.box_rows.specs.Private.{AtRow};
 ghost use Rattle.boxed.specs.Sweep as sweep;
 ghost use Rattle.boxed.specs.Private as private;
 
-use crate::{BoxAnswer, BoxReport, Counts, Progress, Sweeping, read, tests};
+use crate::{BoxOutcome, BoxReport, Counts, Progress, Sweeping, read, tests};
 
 // The report where all rows are Idle, so that there is nothing to solve.
 pub fn nothing(idle: u32) -> BoxReport
@@ -93,7 +93,7 @@ pub fn answer(
     nu: &[f64],
     progress: Progress,
     idle: u32,
-) -> BoxAnswer
+) -> BoxOutcome
     requires { private.Lists (box.problem w.now u_free.now lo.now hi.now scale.now) states.old nu.now }
     ensures { private.Answered
         (box.problem w.now u_free.now lo.now hi.now scale.now)
@@ -104,16 +104,16 @@ pub fn answer(
     let s = progress.sweeping;
     let c = progress.counts;
     match s {
-        Sweeping::Exact => BoxAnswer::Solved(report(c, true, true, residual, idle)),
+        Sweeping::Exact => BoxOutcome::Solved(report(c, true, true, residual, idle)),
         Sweeping::Going => {
             classify(lo, hi, scale, nu, states);
-            BoxAnswer::Solved(report(c, false, false, residual, idle))
+            BoxOutcome::Solved(report(c, false, false, residual, idle))
         }
         Sweeping::Converged => {
             classify(lo, hi, scale, nu, states);
-            BoxAnswer::Solved(report(c, true, false, residual, idle))
+            BoxOutcome::Solved(report(c, true, false, residual, idle))
         }
-        Sweeping::Infeasible(cause, k) => BoxAnswer::Infeasible(
+        Sweeping::Infeasible(cause, k) => BoxOutcome::Infeasible(
             cause,
             k,
             report(c, false, false, residual, idle),

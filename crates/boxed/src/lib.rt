@@ -19,6 +19,9 @@ mod start;
 mod sweep;
 mod tests;
 
+pub use refusal::too_large;
+use refusals::Refusal;
+
 // The most values of a problem's motion.
 pub const MAX_MOTION: usize = 2048;
 
@@ -40,7 +43,7 @@ const CHECKPOINT_COUNT: usize = 8;
 pub const CHECKPOINTS: [u32; CHECKPOINT_COUNT] = [1, 2, 4, 8, 16, 32, 64, 128];
 
 // How a solve found that no motion meets every row: by growth, in an exact pass, or after a sweep.
-#[derive(Clone, Copy)]
+#[derive(Clone, Copy, PartialEq, Eq)]
 pub enum Cause {
     Growth,
     Pass,
@@ -67,13 +70,11 @@ pub struct BoxReport {
 }
 
 // How a solve ended. Solved: the multipliers are in the caller's slice. Infeasible: no motion meets every row; the rows
-// that fight are at the front of the row list, and the second value is how many they are. Refused: with document 01's
-// number.
+// that fight are at the front of the row list, and the second value is how many they are.
 #[derive(Clone, Copy)]
-pub enum BoxAnswer {
+pub enum BoxOutcome {
     Solved(BoxReport),
     Infeasible(Cause, usize, BoxReport),
-    Refused(u32),
 }
 
 // How a solve goes on after a sweep: with the next one; or it ended, by a pass that found the solution, by its own
@@ -122,7 +123,7 @@ fn solve_rows(
     states: &mut [u8],
     rows: &mut [usize],
     work: &mut [f64],
-) -> BoxAnswer
+) -> BoxOutcome
     requires { private.Lent (box.problem w.now u_free.now lo.now hi.now scale.now) states.old nu.old
         rows.old work.old }
     ensures { solve.Left
@@ -130,12 +131,12 @@ fn solve_rows(
         (box.problem w.now u_free.now lo.now hi.now scale.now)
         (solve.watch motion.now tolerance)
         nu.old states.old rows.old)
-        result nu.new states.new rows.new work.old work.new }
+        (Ok result) nu.new states.new rows.new work.old work.new }
 {
     let n = u_free.len();
     let idle = start::start(w, lo, hi, states, nu);
     if idle == n {
-        return BoxAnswer::Solved(ending::nothing(idle as u32));
+        return BoxOutcome::Solved(ending::nothing(idle as u32));
     }
     let limits = Limits {
         cap: SWEEP_CAP,
@@ -153,33 +154,9 @@ fn solve_rows(
 pub struct BoxSolver {}
 
 impl BoxSolver {
-    // The number with which `solve` refuses such a call, 5 to 10, or 0 where it takes it. `workspace` is the
-    // length of the workspace.
-    pub fn refusal(
-        w: &[f64],
-        u_free: &[f64],
-        lo: &[f64],
-        hi: &[f64],
-        scale: &[f64],
-        motion: &[f64],
-        nu: &[f64],
-        states: &[u8],
-        rows: &[usize],
-        workspace: usize,
-    ) -> u32
-        ensures { result ≡ solve.refusal
-            (box.problem w.now u_free.now lo.now hi.now
-            scale.now)
-            motion.now nu.now states.now rows.now workspace }
-    {
-        refusal::refusal(
-            w, u_free, lo, hi, scale, motion, nu, states, rows, workspace,
-        )
-    }
-
     // From the multipliers in nu, those that solve the problem, in their place, with a state for each row; or the rows
-    // that fight at the front of the row list; or document 01's number, and nothing is changed. The first 2,304 values
-    // of the workspace are free after a call that is not refused.
+    // that fight at the front of the row list; or why the call is refused, and nothing is changed. The first 2,304
+    // values of the workspace are free after a call that is not refused.
     pub fn solve(
         w: &[f64],
         u_free: &[f64],
@@ -192,7 +169,7 @@ impl BoxSolver {
         states: &mut [u8],
         rows: &mut [usize],
         workspace: &mut [f64],
-    ) -> BoxAnswer
+    ) -> Result<BoxOutcome, Refusal>
         ensures { solve.Left
             (solve.solve_reply
             (box.problem w.now u_free.now lo.now hi.now
@@ -203,34 +180,12 @@ impl BoxSolver {
             workspace.old workspace.new }
     {
         let n = u_free.len();
-        let number = refusal::refusal(
-            w,
-            u_free,
-            lo,
-            hi,
-            scale,
-            motion,
-            nu,
-            states,
-            rows,
-            workspace.len(),
-        );
-        if number != 0 {
-            return BoxAnswer::Refused(number);
-        }
-        solve_rows(
-            w,
-            u_free,
-            lo,
-            hi,
-            scale,
-            motion,
-            tolerance,
-            nu,
-            &mut states[..n],
-            rows,
-            workspace,
-        )
+        let room = workspace.len();
+        BoxSolver::refusal(w, u_free, lo, hi, scale, motion, nu, states, rows, room)?;
+        let active = &mut states[..n];
+        Ok(solve_rows(
+            w, u_free, lo, hi, scale, motion, tolerance, nu, active, rows, workspace,
+        ))
     }
 }
 

@@ -8,7 +8,9 @@ use lib.ListN.{length}
 use lib.Ieee.{Float}
 use borrow.Author.Tests.{leb-true}
 use Rattle.loops.proofs.Every.{both_true}
-use Rattle.boxed.specs.declared.BoxAnswer.{BoxAnswer}
+use Rattle.boxed.specs.declared.BoxOutcome.{BoxOutcome}
+use Rattle.refusals.specs.declared.Refusal.{Refusal}
+use Rattle.std.specs.Prelude.{Result}
 use Rattle.report.specs.declared.SolveReport.{SolveReport}
 use Rattle.tally.specs.Tally.{Call, tallied}
 use Rattle.tallied.specs.Joining.{Entered}
@@ -35,7 +37,7 @@ module _ (tally : List ℕ) (kept : List Float) (counts : List ℕ) (residual : 
 module _ (t : SolveReport) (c : Call) (tally : List ℕ) (kept : List Float) (counts : List ℕ) (residual : List Float) where
   pub no_room : (w : List Float) → tallies.taken tally kept counts residual ≡ false
       → tallies.Answered (tallies.reply (tallies.taken tally kept counts residual) t c) 10 tally tally kept kept c.nu c.states c.listed counts counts residual residual w w
-  unfolding tallies.reply tallies.counts_kept tallies.residual_kept
+  unfolding tallies.reply
   no_room w h =
       rw h (record {
         answer_is = record { number_is = refl; nu_is = refl; states_are = refl; rows_are = refl; counts_are = refl; residual_is = refl; workspace_left = refl };
@@ -43,26 +45,18 @@ module _ (t : SolveReport) (c : Call) (tally : List ℕ) (kept : List Float) (co
         kept_is = refl;
       })
 
-  -- the solve is given the tally that was read, and the number r of the call is that of the answer
-  pub answered : (t' : SolveReport) (s : Tallied) (k r : ℕ) (nu' : List Float) (st' q' counts' : List ℕ) (residual' : List Float) (tally' : List ℕ) (kept' w w' : List Float)
+  -- the solve is given the tally that was read
+  pub answered : (t' : SolveReport) (s : Tallied) (r : ℕ) (nu' : List Float) (st' q' counts' : List ℕ) (residual' : List Float) (tally' : List ℕ) (kept' w w' : List Float)
       → tallies.taken tally kept counts residual ≡ true → t' ≡ t → Entered (tallied t' c) s.tally s.answer nu' st' q' w w'
-      → k ≡ plain.number s.answer → counts' ≡ plain.counts_left s.answer counts → residual' ≡ plain.residual_left s.answer residual
-      → r ≡ k → tally' ≡ tallies.counts_kept k s.tally tally → kept' ≡ tallies.residual_kept k s.tally kept
+      → tally' ≡ tallies.counts_kept s.answer s.tally tally → kept' ≡ tallies.residual_kept s.answer s.tally kept
+      → r ≡ plain.number s.answer → counts' ≡ plain.counts_left s.answer counts → residual' ≡ plain.residual_left s.answer residual
       → tallies.Answered (tallies.reply (tallies.taken tally kept counts residual) t c) r tally tally' kept kept' nu' st' q' counts counts' residual residual' w w'
   unfolding tallies.reply
-  answered t' s k r nu' st' q' counts' residual' tally' kept' w w' h g x' n e f same a b =
+  answered t' s r nu' st' q' counts' residual' tally' kept' w w' h g x' a b n e f =
       let x : Entered (tallied t c) s.tally s.answer nu' st' q' w w' = rw g at x' in
       let l = x.left in
       rw h (record {
-        answer_is = record {
-          number_is = same ∙ n ∙ ap plain.number l.answer;
-          nu_is = l.multipliers;
-          states_are = l.states;
-          rows_are = l.listed;
-          counts_are = e ∙ ap (λ (y : BoxAnswer). plain.counts_left y counts) l.answer;
-          residual_is = f ∙ ap (λ (y : BoxAnswer). plain.residual_left y residual) l.answer;
-          workspace_left = l.workspace;
-        };
-        tally_is = rw (same, ← x.tally) a;
-        kept_is = rw (same, ← x.tally) b;
+        answer_is = solving.left-answered (tallied t c).answer counts residual s.answer r nu' st' q' counts' residual' w w' l n e f;
+        tally_is = rw (← l.answer, ← x.tally) a;
+        kept_is = rw (← l.answer, ← x.tally) b;
       })

@@ -1,4 +1,3 @@
 pub mod Room
-pub mod Lower
 pub mod Solving
 pub mod Entering

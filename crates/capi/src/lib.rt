@@ -131,18 +131,20 @@ pub extern "C" fn piskorlu_solve(
 ) -> u32
     ensures { plain.Answered
         (plain.reply (plain.taken counts.old residual.old)
+        (solve.solve_reply
         (box.problem w.now u_free.now lo.now hi.now scale.now)
         (solve.watch motion.now tolerance)
         nu.old states.old rows.old (length workspace.old))
+        nu.old states.old rows.old)
         result nu.new states.new rows.new
         counts.old counts.new residual.old residual.new
         workspace.old workspace.new }
 {
-    if solves::taken(counts, residual) {
-        let answer = BoxSolver::solve(
-            w, u_free, lo, hi, scale, motion, tolerance, nu, states, rows, workspace,
-        );
-        return solves::leave(answer, counts, residual);
+    if !solves::taken(counts, residual) {
+        return Refusal::Short.into();
     }
-    10
+    let answer = BoxSolver::solve(
+        w, u_free, lo, hi, scale, motion, tolerance, nu, states, rows, workspace,
+    );
+    solves::leave(answer, counts, residual)
 }

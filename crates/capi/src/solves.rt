@@ -2,8 +2,9 @@
 ghost use Rattle.std.specs.Prelude.{◌≡◌, ◌≤◌, length, set};
 ghost use Rattle.capi.specs.Solves as plain;
 
-use boxed::{BoxAnswer, BoxReport, Cause};
+use boxed::{BoxOutcome, BoxReport, Cause};
 use flags::flag;
+use refusals::Refusal;
 
 fn cause_number(c: Cause) -> usize
     ensures { result ≡ plain.cause_number c }
@@ -15,6 +16,7 @@ fn cause_number(c: Cause) -> usize
     }
 }
 
+#[tactic(auto, unfolding(crate::specs::Solves::written))]
 fn write(outcome: usize, r: BoxReport, listed: usize, counts: &mut [usize])
     requires { 8 ≤ length counts.old }
     ensures { counts.new ≡ plain.written outcome r listed counts.old }
@@ -30,32 +32,30 @@ fn write(outcome: usize, r: BoxReport, listed: usize, counts: &mut [usize])
 }
 
 // An answer left in the lent slices: 0, or the number of a refusal and nothing written.
-pub fn leave(answer: BoxAnswer, counts: &mut [usize], residual: &mut [f64]) -> u32
+pub fn leave(answer: Result<BoxOutcome, Refusal>, counts: &mut [usize], residual: &mut [f64]) -> u32
     requires { (8 ≤ length counts.old) × (1 ≤ length residual.old) }
     ensures { (result ≡ plain.number answer) × (counts.new ≡ plain.counts_left answer counts.old)
         × (residual.new ≡ plain.residual_left answer residual.old) }
 {
     match answer {
-        BoxAnswer::Solved(r) => {
+        Ok(BoxOutcome::Solved(r)) => {
             write(0, r, 0, counts);
             residual[0] = r.residual;
             0
         }
-        BoxAnswer::Infeasible(cause, count, r) => {
+        Ok(BoxOutcome::Infeasible(cause, count, r)) => {
             write(cause_number(cause), r, count, counts);
             residual[0] = r.residual;
             0
         }
-        BoxAnswer::Refused(number) => number,
+        Err(refusal) => refusal.into(),
     }
 }
 
 // Whether the slices hold eight counts and one residual.
+#[tactic(auto, unfolding(crate::specs::Solves::taken))]
 pub fn taken(counts: &[usize], residual: &[f64]) -> bool
     ensures { result ≡ plain.taken counts.now residual.now }
 {
-    if counts.len() < 8 {
-        return false;
-    }
-    1 <= residual.len()
+    counts.len() >= 8 && residual.len() >= 1
 }

@@ -7,9 +7,10 @@ ghost use Rattle.tallied.specs.Joining as joining;
 ghost use Rattle.capi.specs.Reports as report;
 ghost use Rattle.capi.specs.Solves as plain;
 ghost use Rattle.capi.specs.Tallies as tallies;
-ghost use Rattle.capi.specs.Triangles as def;
 
 use crate::{reports, solves, tallying};
+use refusals::Refusal;
+use tallied::Sent;
 
 // triangle::solve: what piskorlu_solve answers and leaves of the mirrored matrix; or 5, 16 in the place of 6, or 7 to
 // 10, and nothing is written.
@@ -30,22 +31,24 @@ pub extern "C" fn piskorlu_solve_triangle(
     residual: &mut [f64],
 ) -> u32
     ensures { plain.Answered
-        (def.reply (plain.taken counts.old residual.old) (length t.now)
+        (plain.reply (plain.taken counts.old residual.old)
+        (triangle.triangle_reply (length t.now)
         (triangle.problem t.now u_free.now lo.now hi.now
         scale.now)
         (solve.watch motion.now tolerance)
         nu.old states.old rows.old (length workspace.old))
+        nu.old states.old rows.old)
         result nu.new states.new rows.new
         counts.old counts.new residual.old residual.new
         workspace.old workspace.new }
 {
-    if solves::taken(counts, residual) {
-        let answer = triangle::solve(
-            t, u_free, lo, hi, scale, motion, tolerance, nu, states, rows, workspace,
-        );
-        return solves::leave(answer, counts, residual);
+    if !solves::taken(counts, residual) {
+        return Refusal::Short.into();
     }
-    10
+    let answer = triangle::solve(
+        t, u_free, lo, hi, scale, motion, tolerance, nu, states, rows, workspace,
+    );
+    solves::leave(answer, counts, residual)
 }
 
 // A tallied solve of a triangle: as piskorlu_tallied of the mirrored matrix, with 16 in the place of 6.
@@ -72,7 +75,7 @@ pub extern "C" fn piskorlu_tallied_triangle(
         (tallies.taken tally.old tally_residual.old counts.old
         residual.old)
         (report.read tally.old (ops.at tally_residual.old 0))
-        (joining.triangle_call (length t.now)
+        (joining.call (triangle.triangle (length t.now))
         (triangle.problem t.now u_free.now lo.now hi.now
         scale.now)
         (solve.watch motion.now tolerance)
@@ -82,14 +85,14 @@ pub extern "C" fn piskorlu_tallied_triangle(
         counts.old counts.new residual.old residual.new
         workspace.old workspace.new }
 {
-    if tallying::taken(tally, tally_residual, counts, residual) {
-        let held = reports::read(tally, tally_residual[0]);
-        let s = tallied::triangles::tallied_triangle(
-            held, t, u_free, lo, hi, scale, motion, tolerance, nu, states, rows, workspace,
-        );
-        let answer = s.answer;
-        let number = solves::leave(answer, counts, residual);
-        return tallying::keep(number, s.tally, tally, tally_residual);
+    if !tallying::taken(tally, tally_residual, counts, residual) {
+        return Refusal::Short.into();
     }
-    10
+    let held = reports::read(tally, tally_residual[0]);
+    let sent = Sent::Triangle(t);
+    let s = tallied::tallied_solve(
+        held, sent, u_free, lo, hi, scale, motion, tolerance, nu, states, rows, workspace,
+    );
+    tallying::keep(s, tally, tally_residual);
+    solves::leave(s.answer, counts, residual)
 }

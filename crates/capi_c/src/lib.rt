@@ -102,9 +102,11 @@ pub extern "C" fn piskorlu_solve(
 ) -> u32
     ensures { plain.Answered
         (plain.reply (plain.taken counts.old residual.old)
+        (solve.solve_reply
         (box.problem w.now u_free.now lo.now hi.now scale.now)
         (solve.watch motion.now tolerance)
         nu.old states.old rows.old (length workspace.old))
+        nu.old states.old rows.old)
         result nu.new states.new rows.new
         counts.old counts.new residual.old residual.new
         workspace.old workspace.new }

@@ -3,6 +3,7 @@ ghost use Rattle.std.specs.Prelude.{length};
 ghost use Rattle.floats.specs.Ops as ops;
 ghost use Rattle.box_rows.specs.Rows as box;
 ghost use Rattle.boxed.specs.Solve as solve;
+ghost use Rattle.triangle.specs.Triangle as triangle;
 ghost use Rattle.tallied.specs.Joining as joining;
 ghost use Rattle.capi.specs.Reports as report;
 ghost use Rattle.capi.specs.Tallies as tallies;
@@ -31,7 +32,7 @@ pub extern "C" fn piskorlu_tallied(
         (tallies.reply
         (tallies.taken tally.old tally_residual.old counts.old residual.old)
         (report.read tally.old (ops.at tally_residual.old 0))
-        (joining.call
+        (joining.call triangle.whole
         (box.problem w.now u_free.now lo.now hi.now scale.now)
         (solve.watch motion.now tolerance)
         nu.old states.old rows.old (length workspace.old)))

@@ -7,7 +7,6 @@ ghost use Rattle.tallied.specs.Joining as joining;
 ghost use Rattle.capi.specs.Reports as report;
 ghost use Rattle.capi.specs.Solves as plain;
 ghost use Rattle.capi.specs.Tallies as tallies;
-ghost use Rattle.capi.specs.Triangles as def;
 
 // triangle::solve: what piskorlu_solve answers and leaves of the mirrored matrix; or 5, 16 in the place of 6, or 7 to
 // 10, and nothing is written.
@@ -28,11 +27,13 @@ pub extern "C" fn piskorlu_solve_triangle(
     residual: &mut [f64],
 ) -> u32
     ensures { plain.Answered
-        (def.reply (plain.taken counts.old residual.old) (length t.now)
+        (plain.reply (plain.taken counts.old residual.old)
+        (triangle.triangle_reply (length t.now)
         (triangle.problem t.now u_free.now lo.now hi.now
         scale.now)
         (solve.watch motion.now tolerance)
         nu.old states.old rows.old (length workspace.old))
+        nu.old states.old rows.old)
         result nu.new states.new rows.new
         counts.old counts.new residual.old residual.new
         workspace.old workspace.new }
@@ -66,7 +67,7 @@ pub extern "C" fn piskorlu_tallied_triangle(
         (tallies.taken tally.old tally_residual.old counts.old
         residual.old)
         (report.read tally.old (ops.at tally_residual.old 0))
-        (joining.triangle_call (length t.now)
+        (joining.call (triangle.triangle (length t.now))
         (triangle.problem t.now u_free.now lo.now hi.now
         scale.now)
         (solve.watch motion.now tolerance)

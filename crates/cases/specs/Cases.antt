@@ -19,6 +19,7 @@ use Rattle.exact_pass.specs.Pass as pass
 use Rattle.boxed.specs.Sweep as sweep
 use Rattle.triangle.specs.Triangle as triangle
 use Rattle.boxed.specs.Solve as solve
+use Rattle.refusals.specs.Numbers as numbers
 use Rattle.boxed.specs.declared.BoxReport.{BoxReport}
 use Rattle.boxed.specs.declared.Cause.{Cause}
 use Rattle.boxed.specs.declared.Cause.TheVariants as cause
@@ -60,7 +61,7 @@ number cause.Pass = 1
 number cause.Sweep = 2
 
 abbrev pub same_outcome : solve.Outcome → Wanted → Bool
-same_outcome (solve.refused i) (refuses k) = eqb i k
+same_outcome (solve.refused i) (refuses k) = eqb (numbers.number i) k
 same_outcome (solve.refused i) (solves c) = false
 same_outcome (solve.refused i) (fights d l c) = false
 same_outcome (solve.solved r) (refuses k) = false

@@ -5,7 +5,9 @@ use lib.ListN.{drop}
 use lib.Ieee.{Float}
 use Rattle.report.specs.declared.SolveReport.{SolveReport}
 use Rattle.boxed.specs.Solve.{Outcome, refused, solved, infeasible, Result, answer_of, used, Left}
-use Rattle.boxed.specs.declared.BoxAnswer.{BoxAnswer}
+use Rattle.boxed.specs.declared.BoxOutcome.{BoxOutcome}
+use Rattle.refusals.specs.declared.Refusal.{Refusal}
+use Rattle.std.specs.Prelude.{Result as ResultOf}
 use Rattle.tally.specs.Tally.{Call, tallied, before, all}
 use Rattle.demand3.specs.Called.{Told, told_of, Workspace, WorkspaceLeft, WorkspacesLeft, Made, DemandOfCode}
 use Rattle.demand3.proofs.Theorem.{demand3}
@@ -13,7 +15,7 @@ use Rattle.demand3.proofs.Theorem.{demand3}
 told_is : (x : Result) (a : Told) (w w' : List Float) → Left x a.answer a.nu a.states a.listed w w' → a ≡ told_of x
 told_is x a w w' h = rw (← h.answer, ← h.multipliers, ← h.states, ← h.listed)
 
-workspace_left : (x : Outcome) (a : BoxAnswer) (w : Workspace) → a ≡ answer_of x → drop (used x) w.after ≡ drop (used x) w.before → WorkspaceLeft a w
+workspace_left : (x : Outcome) (a : ResultOf BoxOutcome Refusal) (w : Workspace) → a ≡ answer_of x → drop (used x) w.after ≡ drop (used x) w.before → WorkspaceLeft a w
 workspace_left (refused k) a w e h = rw e h
 workspace_left (solved r) a w e h = rw e h
 workspace_left (infeasible c l r) a w e h = rw e h

@@ -15,7 +15,10 @@ use Rattle.box_rows.specs.Rows.{size}
 use Rattle.boxed.specs.Solve.{Outcome, refused, solved, infeasible, answer_of, used, reply, SWEEP_CAP}
 use Rattle.boxed.proofs.Finishing.{solve_uses}
 use Rattle.flags.specs.Flags.{flag, flagged}
-use Rattle.tally.specs.Tally.{Call, Tallied, tallied, answer_on, number_on, with}
+use Rattle.std.specs.Prelude.{Result, Ok, Err}
+use Rattle.boxed.specs.declared.BoxOutcome.{BoxOutcome}
+use Rattle.refusals.specs.declared.Refusal.{Refusal}
+use Rattle.tally.specs.Tally.{Call, Tallied, tallied, joined_to, with}
 use Rattle.tallied.specs.Joining.{Entered}
 use Rattle.capi.specs.Reports as report
 use Rattle.capi.specs.Solves as plain
@@ -54,59 +57,39 @@ written-length : (t : SolveReport) (l : List ℕ) → length (report.written t l
 unfolding report.written
 written-length t l = simp (length-set)
 
-counts-length : (k : ℕ) (t : SolveReport) (l : List ℕ) → length (tallies.counts_kept k t l) ≡ length l
-unfolding tallies.counts_kept
-counts-length k t l = go (eqb k 0)
-  where
-    go : (b : Bool) → length (cond b (report.written t l) l) ≡ length l
-    go true = written-length t l
-    go false = refl
+counts-length : (a : Result BoxOutcome Refusal) (t : SolveReport) (l : List ℕ) → length (tallies.counts_kept a t l) ≡ length l
+counts-length (Ok o) t l = written-length t l
+counts-length (Err k) t l = refl
 
-residual-length : (k : ℕ) (t : SolveReport) (l : List Float) → length (tallies.residual_kept k t l) ≡ length l
-unfolding tallies.residual_kept
-residual-length k t l = go (eqb k 0)
-  where
-    go : (b : Bool) → length (cond b (set l 0 t.residual) l) ≡ length l
-    go true = length-set l 0 t.residual
-    go false = refl
+residual-length : (a : Result BoxOutcome Refusal) (t : SolveReport) (l : List Float) → length (tallies.residual_kept a t l) ≡ length l
+residual-length (Ok o) t l = length-set l 0 t.residual
+residual-length (Err k) t l = refl
 
 -- ---- what a tallied solve leaves is what the next one reads
 
--- an answer that frees the workspace is not refused
-not-refused : (x : Outcome) → used x ≡ 2304 → plain.number (answer_of x) ≡ 0
-not-refused (refused k) h = absurd (omega (arith, h))
-not-refused (solved r) h = refl
-not-refused (infeasible c l r) h = refl
-
 module _ (t : Buffers) (long : Long t) (c : Call) where
-  -- the buffers that a number k and a tally s leave
-  abbrev next : ℕ → SolveReport → Buffers
-  next k s = record { counts = tallies.counts_kept k s t.counts; residual = tallies.residual_kept k s t.residual }
+  -- the buffers that an answer a and a tally s leave
+  abbrev next : Result BoxOutcome Refusal → SolveReport → Buffers
+  next a s = record { counts = tallies.counts_kept a s t.counts; residual = tallies.residual_kept a s t.residual }
 
-  next-long : (k : ℕ) (s : SolveReport) → Long (next k s)
-  next-long k s =
+  next-long : (a : Result BoxOutcome Refusal) (s : SolveReport) → Long (next a s)
+  next-long a s =
       record {
-        ten = rw (counts-length k s t.counts) long.ten;
-        one = rw (residual-length k s t.residual) long.one;
+        ten = rw (counts-length a s t.counts) long.ten;
+        one = rw (residual-length a s t.residual) long.one;
       }
 
-  joined : (s : SolveReport) → held (next 0 s) ≡ s
-  unfolding tallies.counts_kept tallies.residual_kept
+  joined : (s : SolveReport) → report.read (report.written s t.counts) (at (set t.residual 0 s.residual) 0) ≡ s
   joined s = read-written s t.counts (at (set t.residual 0 s.residual) 0) long.ten (first-set t.residual s.residual long.one)
 
-  kept : (k : ℕ) (s : SolveReport) → held (next (suc k) s) ≡ held t
-  unfolding tallies.counts_kept tallies.residual_kept
-  kept k s = rw (ne_eqb (suc k) 0 (λ e. omega (arith, e)))
+  replies : (x : Outcome) (nu : List Float) → held (next (answer_of x) (joined_to (held t) x nu)) ≡ joined_to (held t) x nu
+  replies (refused k) nu = refl
+  replies (solved r) nu = joined (joined_to (held t) (solved r) nu)
+  replies (infeasible f l r) nu = joined (joined_to (held t) (infeasible f l r) nu)
 
-  replies : (k : ℕ) → held (next (plain.number (answer_of (reply SWEEP_CAP c.problem c.watch c.nu c.states c.listed k).outcome))
-      (with (held t) (reply SWEEP_CAP c.problem c.watch c.nu c.states c.listed k)).tally) ≡ (with (held t) (reply SWEEP_CAP c.problem c.watch c.nu c.states c.listed k)).tally
-  unfolding reply with
-  replies zero = rw (not-refused _ (solve_uses SWEEP_CAP c.problem c.watch c.nu (take (size c.problem) c.states) c.listed)) (joined _)
-  replies (suc k) = kept k _
-
-  pub reads : held (next (plain.number (answer_of (tallied (held t) c).answer.outcome)) (tallied (held t) c).tally) ≡ (tallied (held t) c).tally
-  unfolding tallied answer_on with
-  reads = replies (number_on (held t) c)
+  pub reads : held (next (answer_of (tallied (held t) c).answer.outcome) (tallied (held t) c).tally) ≡ (tallied (held t) c).tally
+  unfolding tallied with
+  reads = replies (tallied (held t) c).answer.outcome (tallied (held t) c).answer.nu
 
 -- ---- one call
 
@@ -122,12 +105,12 @@ Called b t s c a =
 
 -- a call that is refused at once leaves the tally as it was
 at_once : (t s : Buffers) (c : Lent) (a : Answer) → Called false t s c a → (s ≡ t) × AtOnce c a
-unfolding tallies.reply tallies.counts_kept tallies.residual_kept
+unfolding tallies.reply
 at_once t s c a h =
     let x = h.answer_is in
     let n = x.number_is in
-    let counts : s.counts ≡ t.counts = rw n at h.tally_is in
-    let residual : s.residual ≡ t.residual = rw n at h.kept_is in (
+    let counts : s.counts ≡ t.counts = h.tally_is in
+    let residual : s.residual ≡ t.residual = h.kept_is in (
       ap (λ (l : List ℕ). record { counts = l; residual = s.residual }) counts ∙ ap (λ (l : List Float). record { counts = t.counts; residual = l }) residual,
       record { number = n; nu = x.nu_is; states = x.states_are; listed = x.rows_are; counts = x.counts_are; residual = x.residual_is; workspace = x.workspace_left },
     )
@@ -142,12 +125,11 @@ module _ (t s : Buffers) (c : Lent) (a : Answer) (long : Long t) (h : Called tru
   abbrev workspace : Workspace
   workspace = record { before = c.workspace; after = a.workspace }
 
-  left : s ≡ next t long c.call (plain.number (answer_of x.answer.outcome)) x.tally
+  left : s ≡ next t long c.call (answer_of x.answer.outcome) x.tally
   unfolding tallies.reply
   left =
-      let n = h.answer_is.number_is in
-      ap (λ (l : List ℕ). record { counts = l; residual = s.residual }) (rw n at h.tally_is)
-      ∙ ap (λ (l : List Float). record { counts = tallies.counts_kept (plain.number (answer_of x.answer.outcome)) x.tally t.counts; residual = l }) (rw n at h.kept_is)
+      ap (λ (l : List ℕ). record { counts = l; residual = s.residual }) h.tally_is
+      ∙ ap (λ (l : List Float). record { counts = tallies.counts_kept (answer_of x.answer.outcome) x.tally t.counts; residual = l }) h.kept_is
 
   tells : Tells c a told
   unfolding tallies.reply

@@ -16,7 +16,9 @@ use Rattle.report.specs.declared.SolveReport.{SolveReport}
 use Rattle.report.proofs.Joins.{Held, both-held, both_comm, both_assoc, and_joins}
 use Rattle.boxed.specs.Solve.{Outcome, refused, solved, infeasible, reply, SWEEP_CAP}
 use Rattle.boxed.specs.declared.BoxReport.{BoxReport}
-use Rattle.tally.specs.Tally.{Call, number, alone, turned, taken, kept, joined_to, full, number_on, answer_on, Tallied, with, tallied, before, all}
+use Rattle.std.specs.Prelude.{Option, Some, None}
+use Rattle.refusals.specs.declared.Refusal.{Refusal}
+use Rattle.tally.specs.Tally.{Call, refusal, alone, turned, taken, kept, joined_to, full, or_full, refusal_on, answer_on, Tallied, with, tallied, before, all}
 use Rattle.demand3.specs.Demand.{Accepted, accepted_in, accepted, taken_as, sum_of, all_of}
 use Rattle.demand3.proofs.Solves.{Modest, Reported}
 use Rattle.boxed.proofs.Accepting.{or_false}
@@ -155,18 +157,15 @@ joined_is k t (refused j) nu b w m = (refl, within_more k t w)
 joined_is k t (solved r) nu b w m = (joined-one k t b w r nu m, within-one k t b w r nu m)
 joined_is k t (infeasible c l r) nu b w m = (joined-one k t b w r nu m, within-one k t b w r nu m)
 
-same_number : (n : ℕ) → cond (eqb n 0) 0 n ≡ n
-same_number n = go (eqb n 0) refl
-  where
-    go : (b : Bool) → eqb n 0 ≡ b → cond b 0 n ≡ n
-    go true e = sym (eqb-true n 0 e)
-    go false e = refl
+own_refusal : (r : Option Refusal) → or_full false r ≡ r
+own_refusal None = refl
+own_refusal (Some k) = refl
 
 -- on a tally that is not full a solve is answered as it is alone
 answer_is : (t : SolveReport) (c : Call) → full t ≡ false → answer_on t c ≡ alone c
-unfolding answer_on number_on alone
+unfolding answer_on refusal_on alone
 answer_is t c h =
-    ap (reply SWEEP_CAP c.problem c.watch c.nu c.states c.listed) (ap (λ (b : Bool). cond (eqb (number c) 0) (cond b 11 0) (number c)) h ∙ same_number (number c))
+    ap (reply SWEEP_CAP c.problem c.watch c.nu c.states c.listed) (ap (λ (b : Bool). or_full b (refusal c)) h ∙ own_refusal (refusal c))
 
 tallied-is : (k : ℕ) (t : SolveReport) (c : Call) → k < enough → Within k t → tallied t c ≡ record { tally = joined_to t (alone c).outcome (alone c).nu; answer = alone c }
 unfolding tallied with

@@ -34,7 +34,9 @@ use Rattle.boxed.specs.declared.BoxReport.{BoxReport}
 use Rattle.boxed.specs.declared.Cause.{Cause}
 use Rattle.boxed.specs.declared.Cause.TheVariants as cause
 use Rattle.triangle.proofs.Mirrored.{not-refused}
-use Rattle.tally.specs.Tally.{Call, number, alone}
+use Rattle.std.specs.Prelude.{Option, Some, None}
+use Rattle.refusals.specs.declared.Refusal.{Refusal as Why}
+use Rattle.tally.specs.Tally.{Call, refusal, alone}
 use Rattle.demand3.specs.Claims.{sweeps_alone, BoundsInOrder, NaNOrInBox, acting, NoneActs, not_above, below, start_of, started, first_iterate, after_sweeps, goes_on, passes_made, passes_in, clamped_to, first_multipliers, by_sweeps, stopped_by_last, stopped_in_last, row_states, own_residual, OnBound, Sound, Reason, Listed, Claims}
 use Rattle.demand3.proofs.Words.{lt-abs, acts-above, diagonal, own_is, rising-at, gathered-few}
 use Rattle.demand3.proofs.Boxes.{Boxed, Inside, idle_row, StartedTo, start-started}
@@ -120,7 +122,7 @@ ended-below : (k j : ℕ) → 0 < j → j ≤ 200 → k ≡ not_above (j - 1) �
 ended-below k zero h b e = absurd (not-suc-le-zero h)
 ended-below k (suc j) h b e = let g : suc j - 1 ≡ j = omega arith in e ∙ ap not_above g ∙ sym (below-is j b)
 
-module _ (c : Call) (zeroth : number c ≡ 0) (fair : BoundsInOrder c.problem) (ok : Accepted c.problem c.nu c.states c.listed c.room) where
+module _ (c : Call) (zeroth : refusal c ≡ None) (fair : BoundsInOrder c.problem) (ok : Accepted c.problem c.nu c.states c.listed c.room) where
   abbrev p : Problem
   p = c.problem
 
@@ -379,7 +381,7 @@ module _ (p : Problem) (nu : List Float) (st l : List ℕ) {room : ℕ} (ok : Ac
       (λ e. result_modest p (start_of p nu st).idle l (run SWEEP_CAP p m (first_iterate (start_of p nu st)) 200) (clamped_to p nu (size p)) ok.sized.0 (whole_run m))
 
 -- all rows Idle: no row is on a bound, and every multiplier is as the clamp put it
-nothing-claims : (c : Call) → number c ≡ 0 → BoundsInOrder c.problem → (ok : Accepted c.problem c.nu c.states c.listed c.room) → (started c).idle ≡ size c.problem
+nothing-claims : (c : Call) → refusal c ≡ None → BoundsInOrder c.problem → (ok : Accepted c.problem c.nu c.states c.listed c.room) → (started c).idle ≡ size c.problem
     → Claims c (result_with (solved (nothing (started c).idle)) (started c).nu ((started c).states ++ drop (size c.problem) c.states) c.listed)
 unfolding in_box sweeps_alone stopped_by_last passes_made
 nothing-claims c z fair ok e =
@@ -409,7 +411,7 @@ nothing-claims c z fair ok e =
       },
     )
 
-solve-claims : (c : Call) (z : number c ≡ 0) (fair : BoundsInOrder c.problem) (ok : Accepted c.problem c.nu c.states c.listed c.room)
+solve-claims : (c : Call) (z : refusal c ≡ None) (fair : BoundsInOrder c.problem) (ok : Accepted c.problem c.nu c.states c.listed c.room)
     → Claims c (answered c z fair ok (solve SWEEP_CAP c.problem c.watch c.nu (take (size c.problem) c.states) c.listed))
 solve-claims c z fair ok =
     let p = c.problem in
@@ -421,25 +423,25 @@ solve-claims c z fair ok =
 
 -- ---- a call
 
-is-accepted : (c : Call) → number c ≡ 0 → Accepted c.problem c.nu c.states c.listed c.room
+is-accepted : (c : Call) → refusal c ≡ None → Accepted c.problem c.nu c.states c.listed c.room
 is-accepted c e =
     accepted c.problem c.watch.motion c.nu c.states c.listed c.room
     (not-refused c.sent c.problem c.watch.motion c.nu c.states c.listed c.room e)
 
-reply_modest : (c : Call) (k : ℕ) → number c ≡ k → Reported Modest (reply SWEEP_CAP c.problem c.watch c.nu c.states c.listed k).outcome
+reply_modest : (c : Call) (k : Option Why) → refusal c ≡ k → Reported Modest (reply SWEEP_CAP c.problem c.watch c.nu c.states c.listed k).outcome
 unfolding reply
-reply_modest c zero e = solve_modest c.problem c.nu c.states c.listed (is-accepted c e) c.watch
-reply_modest c (suc k) e = tt
+reply_modest c None e = solve_modest c.problem c.nu c.states c.listed (is-accepted c e) c.watch
+reply_modest c (Some k) e = tt
 
-reply-claims : (c : Call) → (number c ≡ 0 → BoundsInOrder c.problem) → (k : ℕ) → number c ≡ k → Claims c (reply SWEEP_CAP c.problem c.watch c.nu c.states c.listed k)
+reply-claims : (c : Call) → (refusal c ≡ None → BoundsInOrder c.problem) → (k : Option Why) → refusal c ≡ k → Claims c (reply SWEEP_CAP c.problem c.watch c.nu c.states c.listed k)
 unfolding reply
-reply-claims c fair zero e = solve-claims c e (fair e) (is-accepted c e)
-reply-claims c fair (suc k) e = record { refused_by = e; nu_kept = refl; states_kept = refl; list_kept = refl; workspace_kept = refl }
+reply-claims c fair None e = solve-claims c e (fair e) (is-accepted c e)
+reply-claims c fair (Some k) e = record { refused_by = e; nu_kept = refl; states_kept = refl; list_kept = refl; workspace_kept = refl }
 
 pub modest : (c : Call) → Reported Modest (alone c).outcome
 unfolding alone
-modest c = reply_modest c (number c) refl
+modest c = reply_modest c (refusal c) refl
 
-pub claims : (c : Call) → (number c ≡ 0 → BoundsInOrder c.problem) → Claims c (alone c)
+pub claims : (c : Call) → (refusal c ≡ None → BoundsInOrder c.problem) → Claims c (alone c)
 unfolding alone
-claims c fair = reply-claims c fair (number c) refl
+claims c fair = reply-claims c fair (refusal c) refl

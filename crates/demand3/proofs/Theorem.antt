@@ -10,7 +10,8 @@ use lib.Ieee.Bits.{of_bits-fits}
 use Rattle.report.specs.Joins.{NOTHING, both}
 use Rattle.report.specs.declared.SolveReport.{SolveReport}
 use Rattle.boxed.specs.Solve.{Result}
-use Rattle.tally.specs.Tally.{Call, number, alone, turned, taken, Tallies}
+use Rattle.std.specs.Prelude.{None}
+use Rattle.tally.specs.Tally.{Call, refusal, alone, turned, taken, Tallies}
 use Rattle.demand3.specs.Claims.{BoundsInOrder, Claims}
 use Rattle.demand3.specs.Demand.{Every, EachAnswer, beside, Accepted, accepted, sum_of, taken_as, turned_into, Sums, converged_without_nan, exact_without_nan, Flags, Demand}
 use Rattle.demand3.proofs.Orders.{total, total-sum, total-most, total-flag, within-nothing, all-is, total-perm}
@@ -38,7 +39,7 @@ perm-answered (Permᴰ.cons e d) = Permᴰ.cons (ap answered e) (perm-answered d
 perm-answered (Permᴰ.swap e g) = Permᴰ.swap (ap answered e) (ap answered g)
 perm-answered (Permᴰ.trans d g) = Permᴰ.trans (perm-answered d) (perm-answered g)
 
-each-claims : (l : List Call) → Every (λ c. number c ≡ 0 → BoundsInOrder c.problem) l → EachAnswer Claims l (map alone l)
+each-claims : (l : List Call) → Every (λ c. refusal c ≡ None → BoundsInOrder c.problem) l → EachAnswer Claims l (map alone l)
 each-claims [] h = tt
 each-claims (c ∷ l) h = (claims c h.0, each-claims l h.1)
 

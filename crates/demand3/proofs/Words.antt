@@ -8,7 +8,7 @@ use native.Mathlib.Omega.{arith}
 use native.Mathlib.Nat.{mul-pos, zero-mul, zero-lt-suc, not-suc-le-zero, le_of_suc-le-suc, le_of_eq, le_refl}
 use native.Mathlib.Numerals.{add-one}
 use lib.IntN.{ℤ}
-use lib.ListN.{length, get_or}
+use lib.ListN.{length, get_or, drop, drop_of_length-le}
 use lib.Ieee.{Float, nan, inf, fin, binary64, up, down, of_bits, neg, lt, le, eq, ne, level}
 use lib.Ieee.Fits.{up_pos, down_pos, sub-fits}
 use borrow.Author.Tests.{lt-ltb, le-ltb}
@@ -21,8 +21,8 @@ use Rattle.floats.proofs.Order.{total, not-above, lt-right}
 use Rattle.box_rows.specs.Rows.{Problem, size, row, is_idle, row_sum, update, natural_residual, residual_at}
 use Rattle.box_rows.specs.Private.{entry, row_of}
 use Rattle.box_rows.proofs.Matrix.{row-length}
-use Rattle.box_rows.proofs.Sums.{Summing, sum-start, sum_again, sum_done}
 use Rattle.loops.proofs.Fill.{tab-at}
+use lib.Seq.{drop-cons}
 use Rattle.demand3.specs.Claims.{magnitude, cell, sum_to, distance, own_residual}
 
 -- ---- a magnitude
@@ -124,18 +124,19 @@ module _ (p : Problem) (i : ℕ) where
 
   -- what the solver has still to add after the columns that the claim has added
   module _ (nu : List Float) (long : length nu ≡ size p) where
-    summing : (j : ℕ) → j ≤ size p → Summing (row_of p i) (at p.u_free i) nu j (sum_to p nu i j)
-    unfolding sum_to
-    summing zero h = sum-start (row_of p i) (at p.u_free i) nu
+    summing : (j : ℕ) → j ≤ size p → row_sum (row_of p i) (at p.u_free i) nu ≡ row_sum (drop j (row_of p i)) (sum_to p nu i j) (drop j nu)
+    unfolding sum_to row_sum
+    summing zero h = refl
     summing (suc j) h =
-        rw (row_at j h) at (rw (add-one) at
-        (sum_again (row_of p i) (at p.u_free i) nu j (sum_to p nu i j) (summing j (omega arith)) (rw (row-length p.w (size p) i) h) (omega arith)))
+        let a : j < length (row_of p i) = rw (row-length p.w (size p) i) h in
+        let b : j < length nu = omega arith in
+        rw (row_at j h) at (rw (drop-cons (row_of p i) j nan a, drop-cons nu j nan b) at (summing j (omega arith)))
 
     pub sum_is : sum_to p nu i (size p) ≡ row_sum (row_of p i) (at p.u_free i) nu
+    unfolding row_sum
     sum_is =
         let e = row-length p.w (size p) i in
-        sum_done (row_of p i) (at p.u_free i) nu (size p) (size p) (sum_to p nu i (size p))
-        (record { first = le_of_eq (sym e); second = le_of_eq (sym long); one = inl (sym e) }) (le_refl (size p)) (summing (size p) (le_refl (size p)))
+        sym (summing (size p) (le_refl (size p)) ∙ rw (drop_of_length-le (row_of p i) {i = size p} (le_of_eq e)))
 
     pub own_is : i < size p → own_residual p nu i ≡ residual_at p nu i
     unfolding residual_at

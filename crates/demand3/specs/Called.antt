@@ -4,16 +4,17 @@ use mathlib.Core.List.{List, [], ◌∷◌, map, Permᴰ}
 use Rattle.report.specs.Joins.{NOTHING}
 use Rattle.report.specs.declared.SolveReport.{SolveReport}
 use Rattle.boxed.specs.Solve.{Result, answer_of}
-use Rattle.boxed.specs.declared.BoxAnswer.{BoxAnswer}
-use Rattle.boxed.specs.declared.BoxAnswer.TheVariants.{Solved, Infeasible, Refused}
-use Rattle.tally.specs.Tally.{Call, number, tallied, all}
+use Rattle.boxed.specs.declared.BoxOutcome.{BoxOutcome}
+use Rattle.refusals.specs.declared.Refusal.{Refusal}
+use Rattle.std.specs.Prelude.{None, Result as ResultOf, Ok, Err}
+use Rattle.tally.specs.Tally.{Call, refusal, tallied, all}
 use Rattle.tallied.specs.Joining.{Entered}
 use Rattle.demand3.specs.Claims.{BoundsInOrder}
 use Rattle.demand3.specs.Demand.{Every, Demanded}
 
 -- what a call answers and leaves in the multipliers, the states and the row list
 pub record Told : Type 0 where
-  pub answer : BoxAnswer
+  pub answer : ResultOf BoxOutcome Refusal
   pub nu : List Float
   pub states : List ℕ
   pub listed : List ℕ
@@ -27,10 +28,9 @@ pub record Workspace : Type 0 where
   pub after : List Float
 
 -- a refused call changes nothing of it; any other one frees the first 2,304 values and keeps the rest
-abbrev pub WorkspaceLeft : BoxAnswer → Workspace → Type 0
-WorkspaceLeft (Refused k) w = w.after ≡ w.before
-WorkspaceLeft (Solved r) w = drop 2304 w.after ≡ drop 2304 w.before
-WorkspaceLeft (Infeasible c n r) w = drop 2304 w.after ≡ drop 2304 w.before
+abbrev pub WorkspaceLeft : ResultOf BoxOutcome Refusal → Workspace → Type 0
+WorkspaceLeft (Err k) w = w.after ≡ w.before
+WorkspaceLeft (Ok o) w = drop 2304 w.after ≡ drop 2304 w.before
 
 abbrev pub WorkspacesLeft : List Told → List Workspace → Type 0
 WorkspacesLeft [] [] = Unit {0}
@@ -62,5 +62,5 @@ pub record Kept (l k : List Call) (r s : List Told) (ws xs : List Workspace) (u 
   pub workspaces_other : WorkspacesLeft s xs
 
 abbrev pub DemandOfCode : Type 0
-DemandOfCode = (l k : List Call) → Permᴰ l k → length l ≤ 20000000 → Every (λ c. number c ≡ 0 → BoundsInOrder c.problem) l
+DemandOfCode = (l k : List Call) → Permᴰ l k → length l ≤ 20000000 → Every (λ c. refusal c ≡ None → BoundsInOrder c.problem) l
     → (r s : List Told) (ws xs : List Workspace) (u v : SolveReport) → Made NOTHING l r ws u → Made NOTHING k s xs v → Kept l k r s ws xs u v

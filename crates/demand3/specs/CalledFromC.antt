@@ -5,7 +5,8 @@ use mathlib.Core.List.{List, [], ◌∷◌, map, Permᴰ}
 use Rattle.floats.specs.Ops.{at}
 use Rattle.report.specs.Joins.{NOTHING}
 use Rattle.report.specs.declared.SolveReport.{SolveReport}
-use Rattle.tally.specs.Tally.{Call, number, all}
+use Rattle.std.specs.Prelude.{None}
+use Rattle.tally.specs.Tally.{Call, refusal, all}
 use Rattle.capi.specs.Reports as report
 use Rattle.capi.specs.Solves as plain
 use Rattle.capi.specs.Tallies as tallies
@@ -123,6 +124,6 @@ pub record KeptFromC (l k : List Lent) (r s : List Answer) (u v : Buffers) : Typ
   pub told_other : EachTells k s (map told_of (all NOTHING (solves k)).answers)
 
 abbrev pub DemandFromC : Type 0
-DemandFromC = (l k : List Lent) → Permᴰ (solves l) (solves k) → length (solves l) ≤ 20000000 → Every (λ c. number c ≡ 0 → BoundsInOrder c.problem) (solves l)
+DemandFromC = (l k : List Lent) → Permᴰ (solves l) (solves k) → length (solves l) ≤ 20000000 → Every (λ c. refusal c ≡ None → BoundsInOrder c.problem) (solves l)
     → (r s : List Answer) (t t' u v : Buffers) → Long t → Long t' → held t ≡ NOTHING → held t' ≡ NOTHING → MadeFromC t l r u → MadeFromC t' k s v
     → KeptFromC l k r s u v

@@ -12,7 +12,9 @@ use Rattle.boxed.specs.Solve.{Iterate, iterate, counts, Run, going, ended, Watch
 use Rattle.boxed.specs.declared.BoxReport.{BoxReport}
 use Rattle.boxed.specs.declared.Cause.{Cause}
 use Rattle.boxed.specs.declared.Cause.TheVariants as cause
-use Rattle.tally.specs.Tally.{Call, number}
+use Rattle.std.specs.Prelude.{None, Some}
+use Rattle.refusals.specs.declared.Refusal.{Refusal as Why}
+use Rattle.tally.specs.Tally.{Call, refusal}
 
 -- ---- the hypothesis
 
@@ -293,9 +295,9 @@ grew_by cause.Sweep = false
 
 -- ---- a solve and its answer
 
--- a refused solve has the number that it has by itself, and its buffers hold what they were lent with: no value of the workspace is free
-pub record Refusal (c : Call) (a : Result) (k : ℕ) : Type 0 where
-  pub refused_by : number c ≡ k
+-- a refused solve is refused as it is by itself, and its buffers hold what they were lent with: no value of the workspace is free
+pub record Refusal (c : Call) (a : Result) (k : Why) : Type 0 where
+  pub refused_by : refusal c ≡ Some k
   pub nu_kept : a.nu ≡ c.nu
   pub states_kept : a.states ≡ c.states
   pub list_kept : a.listed ≡ c.listed
@@ -303,8 +305,8 @@ pub record Refusal (c : Call) (a : Result) (k : ℕ) : Type 0 where
 
 abbrev pub ClaimsOf : Call → Result → Outcome → Type 0
 ClaimsOf c a (refused k) = Refusal c a k
-ClaimsOf c a (solved r) = (number c ≡ 0) × Sound c a false r
-ClaimsOf c a (infeasible s l r) = (number c ≡ 0) × Sound c a (grew_by s) r × Listed c.problem a s l
+ClaimsOf c a (solved r) = (refusal c ≡ None) × Sound c a false r
+ClaimsOf c a (infeasible s l r) = (refusal c ≡ None) × Sound c a (grew_by s) r × Listed c.problem a s l
 
 abbrev pub Claims : Call → Result → Type 0
 Claims c a = ClaimsOf c a a.outcome

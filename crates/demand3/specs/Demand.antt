@@ -9,7 +9,8 @@ use Rattle.report.specs.Joins.{NOTHING}
 use Rattle.report.specs.declared.SolveReport.{SolveReport}
 use Rattle.boxed.specs.Solve.{Outcome, refused, solved, infeasible, Result}
 use Rattle.boxed.specs.declared.BoxReport.{BoxReport}
-use Rattle.tally.specs.Tally.{Call, number, alone, taken, all, Tallies}
+use Rattle.std.specs.Prelude.{None}
+use Rattle.tally.specs.Tally.{Call, refusal, alone, taken, all, Tallies}
 use Rattle.demand3.specs.Claims.{BoundsInOrder, Claims}
 
 -- of each solve of a list
@@ -110,4 +111,4 @@ pub record Demanded (l k : List Call) : Type 0 where
 
 -- every list of at most 20,000,000 tallied solves from an empty tally, refused ones included, with every lower bound at most its upper where accepted, and every order of it
 abbrev pub Demand : Type 0
-Demand = (l k : List Call) → Permᴰ l k → length l ≤ 20000000 → Every (λ c. number c ≡ 0 → BoundsInOrder c.problem) l → Demanded l k
+Demand = (l k : List Call) → Permᴰ l k → length l ≤ 20000000 → Every (λ c. refusal c ≡ None → BoundsInOrder c.problem) l → Demanded l k

@@ -2,14 +2,14 @@
 // are right.
 ghost use Rattle.std.specs.Prelude.{◌≤◌};
 
-use boxed::{BoxAnswer, BoxSolver};
+use boxed::{BoxOutcome, BoxSolver};
+use refusals::Refusal;
 use std::io;
 
-fn number(answer: BoxAnswer) -> u64 {
+fn number(answer: Result<BoxOutcome, Refusal>) -> u64 {
     match answer {
-        BoxAnswer::Refused(number) => number as u64,
-        BoxAnswer::Solved(_) => 0,
-        BoxAnswer::Infeasible(_, _, _) => 0,
+        Err(refusal) => u64::from(u32::from(refusal)),
+        Ok(_) => 0,
     }
 }
 

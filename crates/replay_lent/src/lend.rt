@@ -1,7 +1,6 @@
 // A Rattle caller that lends a report, and one that lends a list of them. What they give is what the calls by value
 // give.
 ghost use Rattle.std.specs.Prelude.{◌≡◌, [], ◌∷◌, length};
-ghost use Rattle.box_rows.specs.Rows as box;
 ghost use Rattle.boxed.specs.Solve as solve;
 ghost use Rattle.report.specs.Joins as joins;
 ghost use Rattle.tally.specs.Tally as def;
@@ -9,12 +8,12 @@ ghost use Rattle.tallied.specs.Joining as joining;
 
 use refusals::Refusal;
 use report::SolveReport;
-use tallied::Tallied;
+use tallied::{Sent, Tallied};
 
 // `solve_into` on a tally of its own, which it hands back beside the answer.
 pub fn lend_tally(
     tally: SolveReport,
-    w: &[f64],
+    sent: Sent,
     u_free: &[f64],
     lo: &[f64],
     hi: &[f64],
@@ -28,8 +27,8 @@ pub fn lend_tally(
 ) -> Tallied
     ensures { joining.Entered
         (def.tallied tally
-        (joining.call
-        (box.problem w.now u_free.now lo.now hi.now scale.now)
+        (joining.call (joining.form sent.entry)
+        (joining.problem sent.entry u_free.now lo.now hi.now scale.now)
         (solve.watch motion.now tolerance)
         nu.old states.old rows.old (length workspace.old)))
         result.tally result.answer nu.new states.new rows.new
@@ -37,7 +36,7 @@ pub fn lend_tally(
 {
     let mut own = tally;
     let answer = tallied::solve_into(
-        &mut own, w, u_free, lo, hi, scale, motion, tolerance, nu, states, rows, workspace,
+        &mut own, sent, u_free, lo, hi, scale, motion, tolerance, nu, states, rows, workspace,
     );
     Tallied { tally: own, answer }
 }

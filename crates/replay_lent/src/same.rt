@@ -1,18 +1,11 @@
-// Whether two reports, answers or lists are the same, all NaNs as one.
-use boxed::{BoxAnswer, BoxReport, Cause};
+// Whether two reports, answers or lists are the same, all NaNs as one: a derived equality would tell a NaN from itself.
+use boxed::{BoxOutcome, BoxReport};
 use refusals::Refusal;
 use report::SolveReport;
+use std::cmp::OrderedFloat;
 use std::io;
 
-// Whether two floats are the same number, or both NaN.
-fn float(a: f64, b: f64) -> bool {
-    if a != a {
-        return b != b;
-    }
-    a == b
-}
-
-fn counts(a: SolveReport, b: SolveReport) -> bool {
+pub fn report(a: SolveReport, b: SolveReport) -> bool {
     a.increments == b.increments
         && a.iterations == b.iterations
         && a.most_iterations == b.most_iterations
@@ -21,13 +14,9 @@ fn counts(a: SolveReport, b: SolveReport) -> bool {
         && a.sweeps == b.sweeps
         && a.exact_passes == b.exact_passes
         && a.stopped == b.stopped
-}
-
-pub fn report(a: SolveReport, b: SolveReport) -> bool {
-    counts(a, b)
         && a.converged == b.converged
         && a.exact == b.exact
-        && float(a.residual, b.residual)
+        && OrderedFloat(a.residual) == OrderedFloat(b.residual)
 }
 
 fn of_solve(a: BoxReport, b: BoxReport) -> bool {
@@ -37,36 +26,18 @@ fn of_solve(a: BoxReport, b: BoxReport) -> bool {
         && a.exact == b.exact
         && a.idle == b.idle
         && a.stopped == b.stopped
-        && float(a.residual, b.residual)
+        && OrderedFloat(a.residual) == OrderedFloat(b.residual)
 }
 
-fn place(cause: Cause) -> u64 {
-    match cause {
-        Cause::Growth => 0,
-        Cause::Pass => 1,
-        Cause::Sweep => 2,
-    }
-}
-
-pub fn answer(a: BoxAnswer, b: BoxAnswer) -> bool {
-    match a {
-        BoxAnswer::Refused(number) => match b {
-            BoxAnswer::Refused(other) => number == other,
-            BoxAnswer::Solved(_) => false,
-            BoxAnswer::Infeasible(_, _, _) => false,
-        },
-        BoxAnswer::Solved(report) => match b {
-            BoxAnswer::Refused(_) => false,
-            BoxAnswer::Solved(other) => of_solve(report, other),
-            BoxAnswer::Infeasible(_, _, _) => false,
-        },
-        BoxAnswer::Infeasible(cause, rows, report) => match b {
-            BoxAnswer::Refused(_) => false,
-            BoxAnswer::Solved(_) => false,
-            BoxAnswer::Infeasible(why, listed, other) => place(cause) == place(why)
-                && rows == listed
-                && of_solve(report, other),
-        },
+pub fn answer(a: Result<BoxOutcome, Refusal>, b: Result<BoxOutcome, Refusal>) -> bool {
+    match (a, b) {
+        (Err(refusal), Err(other)) => refusal == other,
+        (Ok(BoxOutcome::Solved(report)), Ok(BoxOutcome::Solved(other))) => of_solve(report, other),
+        (
+            Ok(BoxOutcome::Infeasible(cause, rows, report)),
+            Ok(BoxOutcome::Infeasible(why, listed, other)),
+        ) => cause == why && rows == listed && of_solve(report, other),
+        _ => false,
     }
 }
 
@@ -79,14 +50,10 @@ pub fn joined(a: Result<SolveReport, Refusal>, b: Result<SolveReport, Refusal>) 
 }
 
 pub fn two_floats(a: [f64; 2], b: [f64; 2]) -> bool {
-    float(a[0], b[0]) && float(a[1], b[1])
+    a.map(OrderedFloat) == b.map(OrderedFloat)
 }
 
 // The line's last word.
 pub fn print(rt: &impl Print, same: bool) -> io::Result<()> {
-    if same {
-        println!(rt; " same")
-    } else {
-        println!(rt; " differs")
-    }
+    println!(rt; " {}", if same { "same" } else { "differs" })
 }

@@ -1,9 +1,9 @@
 // A list of tallied solves, each with the tally by value and with the tally lent, from what the one before left.
 use crate::{lend, same};
-use boxed::BoxAnswer;
+use boxed::BoxOutcome;
 use report::SolveReport;
-use std::io;
-use tallied::Tallied;
+use std::{fmt, io};
+use tallied::{Sent, Tallied};
 
 // What a solve leaves of its buffers.
 #[derive(Clone, Copy)]
@@ -14,147 +14,98 @@ struct Left {
     rows: [usize; 2],
 }
 
-// A solve of two rows with the tally by value: lo 0, hi infinite, nu 0, no motion.
-fn by_value(
-    tally: SolveReport,
-    w: &[f64],
-    u_free: &[f64],
-    scale: &[f64],
-    workspace: &mut [f64],
-) -> Left {
-    let lo = [0.0f64; 2];
-    let hi = [1.0f64 / 0.0; 2];
-    let motion = [0.0f64; 0];
-    let mut nu = [0.0f64; 2];
-    let mut states = [9u8; 2];
-    let mut rows = [9usize; 2];
-    let tallied = tallied::tallied_solve(
-        tally,
-        w,
-        u_free,
-        &lo,
-        &hi,
-        scale,
-        &motion,
-        0.0,
-        &mut nu,
-        &mut states,
-        &mut rows,
-        workspace,
-    );
-    Left {
-        tallied,
-        nu,
-        states,
-        rows,
+impl Left {
+    // Of a solve of two rows, made with the buffers that it is lent: nu 0, and 9s.
+    fn by<F: FnOnce(&mut [f64], &mut [u8], &mut [usize]) -> Tallied>(solve: F) -> Left
+        requires { F.IsAlwaysCallable solve }
+    {
+        let mut nu = [0.0f64; 2];
+        let mut states = [9u8; 2];
+        let mut rows = [9usize; 2];
+        let tallied = solve(&mut nu, &mut states, &mut rows);
+        Left {
+            tallied,
+            nu,
+            states,
+            rows,
+        }
     }
-}
 
-// The same with the tally lent.
-fn lent(
-    tally: SolveReport,
-    w: &[f64],
-    u_free: &[f64],
-    scale: &[f64],
-    workspace: &mut [f64],
-) -> Left {
-    let lo = [0.0f64; 2];
-    let hi = [1.0f64 / 0.0; 2];
-    let motion = [0.0f64; 0];
-    let mut nu = [0.0f64; 2];
-    let mut states = [9u8; 2];
-    let mut rows = [9usize; 2];
-    let tallied = lend::lend_tally(
-        tally,
-        w,
-        u_free,
-        &lo,
-        &hi,
-        scale,
-        &motion,
-        0.0,
-        &mut nu,
-        &mut states,
-        &mut rows,
-        workspace,
-    );
-    Left {
-        tallied,
-        nu,
-        states,
-        rows,
-    }
-}
-
-fn same_tallied(a: Tallied, b: Tallied) -> bool {
-    let one = a.answer;
-    let other = b.answer;
-    same::report(a.tally, b.tally) && same::answer(one, other)
-}
-
-fn same_left(a: Left, b: Left) -> bool {
-    let nu = a.nu;
-    let loads = b.nu;
-    let states = a.states;
-    let marks = b.states;
-    let rows = a.rows;
-    let list = b.rows;
-    same_tallied(a.tallied, b.tallied)
-        && same::two_floats(nu, loads)
-        && states[0] == marks[0]
-        && states[1] == marks[1]
-        && rows[0] == list[0]
-        && rows[1] == list[1]
-}
-
-fn print_answer(rt: &impl Print, answer: BoxAnswer) -> io::Result<()> {
-    match answer {
-        BoxAnswer::Solved(_) => print!(rt; "solved"),
-        BoxAnswer::Infeasible(_, _, _) => print!(rt; "infeasible"),
-        BoxAnswer::Refused(number) => print!(rt; "refused {number}"),
-    }
-}
-
-fn print_count(rt: &impl Print, n: u32) -> io::Result<()> {
-    print!(rt; " {n}")
-}
-
-fn print_flag(rt: &impl Print, flag: bool) -> io::Result<()> {
-    if flag {
-        print!(rt; " 1")
-    } else {
-        print!(rt; " 0")
+    fn same(self, other: Left) -> bool {
+        same::report(self.tallied.tally, other.tallied.tally)
+            && same::answer(self.tallied.answer, other.tallied.answer)
+            && same::two_floats(self.nu, other.nu)
+            && self.states == other.states
+            && self.rows == other.rows
     }
 }
 
 // The answer; of the tally increments, sweeps, passes, and whether it is converged and exact.
-fn print_tallied(rt: &impl Print, tallied: Tallied) -> io::Result<()> {
-    let answer = tallied.answer;
-    let tally = tallied.tally;
-    print_answer(rt, answer)?;
-    print!(rt; ", tally")?;
-    print_count(rt, tally.increments)?;
-    print_count(rt, tally.sweeps)?;
-    print_count(rt, tally.exact_passes)?;
-    print_flag(rt, tally.converged)?;
-    print_flag(rt, tally.exact)
+impl fmt::Display for Left {
+    fn fmt<W: fmt::Write>(&self, f: &mut fmt::Formatter<W>) -> fmt::Result {
+        match self.tallied.answer {
+            Ok(BoxOutcome::Solved(_)) => write!(f, "solved")?,
+            Ok(BoxOutcome::Infeasible(_, _, _)) => write!(f, "infeasible")?,
+            Err(refusal) => write!(f, "refused {}", u32::from(refusal))?,
+        }
+        let tally = self.tallied.tally;
+        let converged = u32::from(tally.converged);
+        let exact = u32::from(tally.exact);
+        write!(
+            f,
+            ", tally {} {} {} {converged} {exact}",
+            tally.increments, tally.sweeps, tally.exact_passes
+        )
+    }
 }
 
-// Both forms of a solve; the tally that the lent form leaves.
+// Both forms of a solve, lo 0, hi infinite, no motion; the tally that the lent form leaves.
 fn solve(
     rt: &impl Print,
     tally: SolveReport,
     w: &[f64],
     u_free: &[f64],
     scale: &[f64],
-    workspace: &mut [f64],
+    work: &mut [f64],
 ) -> io::Result<SolveReport> {
-    let one = by_value(tally, w, u_free, scale, workspace);
-    let other = lent(tally, w, u_free, scale, workspace);
-    let left = other.tallied;
-    print_tallied(rt, left)?;
-    same::print(rt, same_left(one, other))?;
-    Ok(left.tally)
+    let lo = [0.0f64; 2];
+    let hi = [1.0f64 / 0.0; 2];
+    let sent = Sent::Whole(w);
+    let one = Left::by(|nu, states, rows| {
+        tallied::tallied_solve(
+            tally,
+            sent,
+            u_free,
+            &lo,
+            &hi,
+            scale,
+            &[],
+            0.0,
+            nu,
+            states,
+            rows,
+            work,
+        )
+    });
+    let other = Left::by(|nu, states, rows| {
+        lend::lend_tally(
+            tally,
+            sent,
+            u_free,
+            &lo,
+            &hi,
+            scale,
+            &[],
+            0.0,
+            nu,
+            states,
+            rows,
+            work,
+        )
+    });
+    print!(rt; "{other}")?;
+    same::print(rt, one.same(other))?;
+    Ok(other.tallied.tally)
 }
 
 // A tally that holds no solve more.

@@ -1,19 +1,19 @@
 -- A tallied solve is refused on a full tally, and the solve by itself on any other.
-use Prim.Native.Nat.{ℕ, zero, suc}
-use mathlib.Core.Path.{◌≡◌, refl, sym, ◌∙◌}
-use mathlib.Core.Bool.{true, false, cond}
+use Prim.Native.Nat.{ℕ}
+use mathlib.Core.Path.{◌≡◌, refl, ◌∙◌}
+use mathlib.Core.Bool.{true, false}
 use mathlib.Core.List.{List}
-use native.Mathlib.Omega.{arith}
-use lib.Dec.{eqb}
-use borrow.Author.Tests.{ne_eqb}
 use lib.Ieee.{Float}
+use Rattle.std.specs.Prelude.{Option, None, Some, Result, Ok, Err}
+use Rattle.std.specs.Result.{result_err, result_and}
 use Rattle.boxed.specs.Solve as solve
 use Rattle.boxed.specs.Solve.{Outcome, refused, solved, infeasible, answer_of, Left}
-use Rattle.boxed.specs.declared.BoxAnswer.{BoxAnswer}
-use Rattle.boxed.specs.declared.BoxAnswer.TheVariants.{Refused}
+use Rattle.boxed.specs.declared.BoxOutcome.{BoxOutcome}
+use Rattle.refusals.specs.declared.Refusal.{Refusal}
+use Rattle.refusals.specs.declared.Refusal.TheVariants as by
 use Rattle.report.specs.declared.SolveReport.{SolveReport}
 use Rattle.tally.specs.Tally as def
-use Rattle.tally.specs.Tally.{Call, number, no_nan, taken, full, joined_to, tallied}
+use Rattle.tally.specs.Tally.{Call, refusal, alone, or_full, no_nan, taken, full, joined_to, tallied}
 use Rattle.tallied.specs.Joining.{Entered}
 use Rattle.tallied.specs.Private.{added, joined_by}
 
@@ -25,40 +25,29 @@ joined_by_lem t (solved r) nu = refl
 joined_by_lem t (infeasible c l r) nu = refl
 
 module _ (t : SolveReport) (c : Call) where
-  abbrev reply : ℕ → solve.Result
-  reply = solve.reply solve.SWEEP_CAP c.problem c.watch c.nu c.states c.listed
+  -- a refusal changes nothing
+  refuses : (k : Refusal) → or_full (full t) (refusal c) ≡ Some k → (w : List Float)
+      → Entered (tallied t c) t (Err k) c.nu c.states c.listed w w
+  unfolding tallied def.answer_on def.refusal_on def.with solve.reply
+  refuses k e w = rw e (record { tally = refl; left = record { answer = refl; multipliers = refl; states = refl; listed = refl; workspace = refl } })
 
-  -- a number that is not 0 refuses, and nothing is changed
-  refuses : (k : ℕ) → (k ≡ 0 → ⊥) → (w : List Float) → Entered (def.with t (reply k)) t (Refused k) c.nu c.states c.listed w w
-  unfolding solve.reply def.with
-  refuses zero h w = absurd (h refl)
-  refuses (suc k) h w =
-      record {
-        tally = refl;
-        left = record { answer = refl; multipliers = refl; states = refl; listed = refl; workspace = refl };
-      }
+  -- on a full tally, by its own refusal or else by that of the tally
+  pub on_full : full t ≡ true → (r : Result (Unit {0}) Refusal) → result_err r ≡ refusal c → (a : Result BoxOutcome Refusal) → a ≡ result_and r (Err by.Tally) → (w : List Float)
+      → Entered (tallied t c) t a c.nu c.states c.listed w w
+  on_full f (Ok u) e a g w = rw g (refuses by.Tally (rw (f, ← e) refl) w)
+  on_full f (Err k) e a g w = rw g (refuses k (rw (f, ← e) refl) w)
 
-  -- its own number or 11
-  not-zero : (k : ℕ) → cond (eqb k 0) 11 k ≡ 0 → ⊥
-  not-zero zero h = absurd (omega (arith, h))
-  not-zero (suc k) h = absurd (omega (arith, rw (ne_eqb (suc k) 0 (λ e. omega (arith, e))) at h))
+  room_for : (r : Option Refusal) → or_full false r ≡ r
+  room_for None = refl
+  room_for (Some k) = refl
 
-  pub on-full : full t ≡ true → (k : ℕ) → k ≡ cond (eqb (number c) 0) 11 (number c) → (w : List Float)
-      → Entered (tallied t c) t (Refused k) c.nu c.states c.listed w w
-  unfolding tallied def.answer_on def.number_on
-  on-full f k e w = rw (f, ← e) (refuses k (λ z. not-zero (number c) (sym e ∙ z)) w)
-
-  same_number : (k : ℕ) → cond (eqb k 0) 0 k ≡ k
-  same_number zero = refl
-  same_number (suc k) = rw (ne_eqb (suc k) 0 (λ e. omega (arith, e)))
-
-  pub on_room : full t ≡ false → (s : SolveReport) (r : BoxAnswer) (nu : List Float) (st q : List ℕ) (w w' : List Float)
-      → Left (reply (number c)) r nu st q w w' → s ≡ joined_by t r (no_nan nu)
+  pub on_room : full t ≡ false → (s : SolveReport) (r : Result BoxOutcome Refusal) (nu : List Float) (st q : List ℕ) (w w' : List Float)
+      → Left (alone c) r nu st q w w' → s ≡ joined_by t r (no_nan nu)
       → Entered (tallied t c) s r nu st q w w'
-  unfolding tallied def.answer_on def.number_on def.with
+  unfolding tallied alone def.answer_on def.refusal_on def.with
   on_room f s r nu st q w w' l e =
-      rw (f, same_number (number c))
+      rw (f, room_for (refusal c))
       (record {
-        tally = e ∙ rw (l.answer, l.multipliers) (joined_by_lem t (reply (number c)).outcome (reply (number c)).nu);
+        tally = e ∙ rw (l.answer, l.multipliers) (joined_by_lem t (alone c).outcome (alone c).nu);
         left = l;
       })

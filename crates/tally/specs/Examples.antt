@@ -22,6 +22,7 @@ use Rattle.report.specs.Joins as joins
 use Rattle.report.specs.Examples.{same_report}
 use Rattle.report.specs.declared.SolveReport.{SolveReport}
 use Rattle.tally.specs.Tally as def
+use Rattle.refusals.specs.Numbers as numbers
 
 -- ---- what is tallied
 
@@ -187,7 +188,7 @@ case : String → SolveReport → List def.Call → SolveReport → List ℕ →
 case m t l s n = record { name = m; first = t; calls = l; left = s; numbers = n }
 
 number_in : solve.Outcome → ℕ
-number_in (solve.refused k) = k
+number_in (solve.refused r) = numbers.number r
 number_in (solve.solved r) = 0
 number_in (solve.infeasible c l r) = 0
 
@@ -310,7 +311,7 @@ unfolding
     row_start within_limits wrong_length triangle_refusal refusal_of
     add sub mul div of_bits to_bits lt le eq ne neg
     joins.sum_fits joins.sums_fit joins.all_sums_fit joins.and
-    def.alone def.no_nan def.turned def.taken def.full def.number_on def.answer_on def.with def.tallied def.before def.all
+    def.alone def.no_nan def.turned def.taken def.full def.refusal_on def.answer_on def.with def.tallied def.before def.all
     counts tally_of case same_report number_in unless same_buffers answers_are comes_to passes all_pass cases
     taking says is_taken all_taken takings
 table = refl

@@ -1,5 +1,5 @@
 -- The tallied solve of document 01: a solve whose report is joined to a tally, and a list of them. Definitions only.
-use Rattle.std.specs.Prelude.{ℕ, Bool, not, cond, ◌&&◌, ◌||◌, List, [], ◌∷◌, ltb, eqb, length, Ok, Err, Float}
+use Rattle.std.specs.Prelude.{ℕ, Bool, not, cond, ◌&&◌, ◌||◌, List, [], ◌∷◌, ltb, eqb, length, Float, Option, Some, None, Ok, Err}
 use Rattle.loops.specs.Loops.{every}
 use Rattle.floats.specs.Ops.{at}
 use Rattle.floats.specs.Helpers.{nan_test}
@@ -7,6 +7,8 @@ use Rattle.box_rows.specs.Rows.{Problem}
 use Rattle.boxed.specs.Solve.{Watch, Outcome, refused, solved, infeasible, Result, reply, SWEEP_CAP}
 use Rattle.boxed.specs.declared.BoxReport.{BoxReport}
 use Rattle.triangle.specs.Triangle.{Sent, refusal_of}
+use Rattle.refusals.specs.declared.Refusal.{Refusal}
+use Rattle.refusals.specs.declared.Refusal.TheVariants as by
 use Rattle.report.specs.Joins as joins
 use Rattle.report.specs.declared.SolveReport.{SolveReport}
 
@@ -21,13 +23,13 @@ pub record Call : Type 0 where
   pub listed : List ℕ
   pub room : ℕ
 
--- the number of the solve by itself, 5 to 10 with 16 in the place of 6 for a triangle, or 0 where it is accepted
-abbrev pub number : Call → ℕ
-number c = refusal_of c.sent c.problem c.watch.motion c.nu c.states c.listed c.room
+-- how the solve by itself is refused, by 5 to 10 with 16 in the place of 6 for a triangle, or not
+abbrev pub refusal : Call → Option Refusal
+refusal c = refusal_of c.sent c.problem c.watch.motion c.nu c.states c.listed c.room
 
 -- the answer of the solve by itself
 unfoldable pub alone : Call → Result
-alone c = reply SWEEP_CAP c.problem c.watch c.nu c.states c.listed (number c)
+alone c = reply SWEEP_CAP c.problem c.watch c.nu c.states c.listed (refusal c)
 
 -- ---- a report joined to the tally
 
@@ -76,13 +78,17 @@ joined_to t (infeasible c l r) nu = kept t (joins.and t (taken r nu))
 unfoldable pub full : SolveReport → Bool
 full t = eqb t.increments 4294967295 || ltb 4294967095 t.sweeps || ltb 4294967286 t.exact_passes || ltb 4294967263 t.stopped
 
--- 5 to 10 first, then 11
-unfoldable pub number_on : SolveReport → Call → ℕ
-number_on t c = cond (eqb (number c) 0) (cond (full t) 11 0) (number c)
+-- the solve's own refusal first, then that of a full tally
+abbrev pub or_full : Bool → Option Refusal → Option Refusal
+or_full f (Some r) = Some r
+or_full f None = cond f (Some by.Tally) None
 
--- a refusal changes nothing, whatever its number
+unfoldable pub refusal_on : SolveReport → Call → Option Refusal
+refusal_on t c = or_full (full t) (refusal c)
+
+-- a refusal changes nothing, whichever it is
 unfoldable pub answer_on : SolveReport → Call → Result
-answer_on t c = reply SWEEP_CAP c.problem c.watch c.nu c.states c.listed (number_on t c)
+answer_on t c = reply SWEEP_CAP c.problem c.watch c.nu c.states c.listed (refusal_on t c)
 
 pub record Tallied : Type 0 where
   pub tally : SolveReport

@@ -11,6 +11,9 @@ use lib.Dec.{leb}
 use lib.ListN.{length}
 use lib.Ieee.{Float, nan}
 use borrow.Author.Tests.{le-leb, lt-leb, leb-true, leb-false, eq-eqb}
+use Rattle.std.specs.Prelude.{Option, Some, None}
+use Rattle.refusals.specs.declared.Refusal.{Refusal}
+use Rattle.refusals.specs.declared.Refusal.TheVariants as by
 use Rattle.loops.proofs.Parts.{joined_length, joined_at}
 use Rattle.loops.proofs.Fill.{tab-length, tab-at}
 use Rattle.floats.specs.Ops.{at}
@@ -115,11 +118,11 @@ unfolding triangle_reply triangle_refusal solve_reply
 as-mirrored p m nu st l room k e = rw (right-length k (box.size p) (length m.motion) e)
 
 -- a call of either form that is not refused is one that the full solve does not refuse
-pub not-refused : (s : Sent) (p : box.Problem) (motion nu : List Float) (st l : List ℕ) (room : ℕ) → refusal_of s p motion nu st l room ≡ 0 → refusal p motion nu st l room ≡ 0
+pub not-refused : (s : Sent) (p : box.Problem) (motion nu : List Float) (st l : List ℕ) (room : ℕ) → refusal_of s p motion nu st l room ≡ None → refusal p motion nu st l room ≡ None
 unfolding refusal_of triangle_refusal
 not-refused whole p motion nu st l room e = e
 not-refused (triangle k) p motion nu st l room e = go (wrong_length k (box.size p) (length motion)) (refusal p motion nu st l room) e
   where
-    go : (b : Bool) (r : ℕ) → cond b 16 r ≡ 0 → r ≡ 0
-    go true r h = absurd (omega (arith, h))
+    go : (b : Bool) (r : Option Refusal) → cond b (Some by.Triangle) r ≡ None → r ≡ None
+    go true r h = cc
     go false r h = h

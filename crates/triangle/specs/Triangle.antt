@@ -1,9 +1,11 @@
 -- A symmetric matrix that comes as its lower triangle by rows, and its solve: the full solve of the mirrored matrix. Definitions only.
-use Rattle.std.specs.Prelude.{ℕ, ◌+◌, ◌*◌, ◌/◌, ◌≤◌, ◌<◌, ◌≡◌, Bool, not, cond, ◌&&◌, ◌||◌, List, [], ◌++◌, leb, ltb, eqb, length, Float}
+use Rattle.std.specs.Prelude.{ℕ, ◌+◌, ◌*◌, ◌/◌, ◌≤◌, ◌<◌, ◌≡◌, Bool, not, cond, ◌&&◌, ◌||◌, List, [], ◌∷◌, ◌++◌, leb, ltb, eqb, length, Float, Option, Some}
 use Rattle.loops.specs.Loops.{turns, tab}
 use Rattle.floats.specs.Ops.{at}
 use Rattle.box_rows.specs.Rows as box
-use Rattle.boxed.specs.Solve.{Watch, Result, refusal, reply, SWEEP_CAP}
+use Rattle.boxed.specs.Solve.{Watch, Result, first, refusal, reply, SWEEP_CAP}
+use Rattle.refusals.specs.declared.Refusal.{Refusal}
+use Rattle.refusals.specs.declared.Refusal.TheVariants as by
 
 -- ---- the mirrored matrix
 
@@ -49,9 +51,13 @@ within_limits n motion = not (ltb 32 n || ltb 2048 motion)
 unfoldable pub wrong_length : ℕ → ℕ → ℕ → Bool
 wrong_length k n motion = within_limits n motion && not (eqb k (row_start n))
 
+-- what is tested before the full solve's own rules: 5, and then 16
+abbrev pub measured : ℕ → ℕ → ℕ → Option Refusal
+measured k n motion = first ((ltb 32 n || ltb 2048 motion, by.TooLarge) ∷ (not (eqb k (row_start n)), by.Triangle) ∷ [])
+
 -- 16 in the place of 6, so the order is 5, 16, 7, 8, 9, 10: the mirrored matrix has n * n values, and 6 does not occur
-unfoldable pub triangle_refusal : ℕ → box.Problem → List Float → List Float → List ℕ → List ℕ → ℕ → ℕ
-triangle_refusal k p motion nu st l room = cond (wrong_length k (box.size p) (length motion)) 16 (refusal p motion nu st l room)
+unfoldable pub triangle_refusal : ℕ → box.Problem → List Float → List Float → List ℕ → List ℕ → ℕ → Option Refusal
+triangle_refusal k p motion nu st l room = cond (wrong_length k (box.size p) (length motion)) (Some by.Triangle) (refusal p motion nu st l room)
 
 -- every answer but 16 is `solve_reply` of the mirrored matrix: `as-mirrored` in proofs/Mirrored.antt
 unfoldable pub triangle_reply : ℕ → box.Problem → Watch → List Float → List ℕ → List ℕ → ℕ → Result
@@ -64,6 +70,6 @@ pub data Sent : Type 0 where
   whole : Sent
   triangle : ℕ → Sent
 
-unfoldable pub refusal_of : Sent → box.Problem → List Float → List Float → List ℕ → List ℕ → ℕ → ℕ
+unfoldable pub refusal_of : Sent → box.Problem → List Float → List Float → List ℕ → List ℕ → ℕ → Option Refusal
 refusal_of whole p motion nu st l room = refusal p motion nu st l room
 refusal_of (triangle k) p motion nu st l room = triangle_refusal k p motion nu st l room

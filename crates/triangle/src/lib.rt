@@ -2,30 +2,28 @@
 // stands in the call's own scratch while it runs. specs/Triangle.antt defines it.
 #![tactic(auto)]
 
-ghost use Rattle.std.specs.Prelude.{◌≡◌, not, ◌||◌, ◌*◌, ◌≤◌, ltb, eqb, length};
+ghost use Rattle.std.specs.Prelude.{◌≡◌, ◌*◌, ◌≤◌, length};
+ghost use Rattle.std.specs.Result.{result_err};
 ghost use Rattle.boxed.specs.Solve as solve;
 ghost use Rattle.triangle.specs.Triangle as triangle;
 
-use boxed::{BoxAnswer, BoxSolver};
+use boxed::{BoxOutcome, BoxSolver};
+use refusals::Refusal;
 
 mod mirror;
 
-// 5: more than 32 rows, or motion of more than 2,048 values.
-fn too_large(n: usize, motion: usize) -> bool
-    ensures { result ≡ (ltb 32 n || ltb 2048 motion) }
+// What is tested before the full solve's own rules: more than 32 rows or too much motion, and then a triangle that has
+// not n (n + 1) / 2 values.
+fn measured(t: usize, n: usize, motion: usize) -> Result<(), Refusal>
+    ensures { result_err result ≡ triangle.measured t n motion }
 {
-    if box_rows::MAX_ROWS < n {
-        return true;
+    if boxed::too_large(n, motion) {
+        return Err(Refusal::TooLarge);
     }
-    boxed::MAX_MOTION < motion
-}
-
-// 16: a triangle that has not n (n + 1) / 2 values.
-fn wrong_length(t: usize, n: usize) -> bool
-    requires { n ≤ 32 }
-    ensures { result ≡ not (eqb t (triangle.row_start n)) }
-{
-    t != mirror::row_start(n)
+    if t != mirror::row_start(n) {
+        return Err(Refusal::Triangle);
+    }
+    Ok(())
 }
 
 // A triangle of the right length, mirrored at the front of w.
@@ -42,7 +40,7 @@ fn solve_in(
     rows: &mut [usize],
     workspace: &mut [f64],
     w: &mut [f64],
-) -> BoxAnswer
+) -> Result<BoxOutcome, Refusal>
     requires { (length u_free.now ≤ 32) × (length t.now ≡ triangle.row_start (length u_free.now))
         × (length u_free.now * length u_free.now ≤ length w.old) }
     ensures { solve.Left
@@ -83,7 +81,7 @@ fn solve_rows(
     states: &mut [u8],
     rows: &mut [usize],
     workspace: &mut [f64],
-) -> BoxAnswer
+) -> Result<BoxOutcome, Refusal>
     requires { (length u_free.now ≤ 32) × (length t.now ≡ triangle.row_start (length u_free.now)) }
     ensures { solve.Left
         (solve.solve_reply
@@ -105,8 +103,8 @@ fn solve_rows(
     )
 }
 
-// The number with which `solve` refuses such a call, 5, 16 or 7 to 10, or 0 where it takes it. `room` is the workspace's
-// length. No refusal looks into the matrix, so any n * n values stand for it.
+// How `solve` refuses such a call, or that it takes it. `room` is the workspace's length. No refusal looks into the
+// matrix, so any n * n values stand for it.
 pub fn refusal(
     t: &[f64],
     u_free: &[f64],
@@ -118,18 +116,13 @@ pub fn refusal(
     states: &[u8],
     rows: &[usize],
     room: usize,
-) -> u32
-    ensures { result ≡ triangle.triangle_refusal (length t.now)
+) -> Result<(), Refusal>
+    ensures { result_err result ≡ triangle.triangle_refusal (length t.now)
         (triangle.problem t.now u_free.now lo.now hi.now scale.now)
         motion.now nu.now states.now rows.now room }
 {
     let n = u_free.len();
-    if too_large(n, motion.len()) {
-        return 5;
-    }
-    if wrong_length(t.len(), n) {
-        return 16;
-    }
+    measured(t.len(), n, motion.len())?;
     let w = [0.0f64; 1024];
     BoxSolver::refusal(
         &w[..n * n],
@@ -146,7 +139,7 @@ pub fn refusal(
 }
 
 // BoxSolver::solve of the mirrored matrix of t, a lower triangle by rows: its answer, and what it leaves in every slice;
-// or 16 in the place of 6 where t has not n (n + 1) / 2 values, and nothing is changed.
+// or, in the place of a matrix that is not square, a triangle that has not n (n + 1) / 2 values, and nothing is changed.
 pub fn solve(
     t: &[f64],
     u_free: &[f64],
@@ -159,7 +152,7 @@ pub fn solve(
     states: &mut [u8],
     rows: &mut [usize],
     workspace: &mut [f64],
-) -> BoxAnswer
+) -> Result<BoxOutcome, Refusal>
     ensures { solve.Left
         (triangle.triangle_reply (length t.now)
         (triangle.problem t.now u_free.now lo.now hi.now scale.now)
@@ -168,13 +161,7 @@ pub fn solve(
         result nu.new states.new rows.new
         workspace.old workspace.new }
 {
-    let n = u_free.len();
-    if too_large(n, motion.len()) {
-        return BoxAnswer::Refused(5);
-    }
-    if wrong_length(t.len(), n) {
-        return BoxAnswer::Refused(16);
-    }
+    measured(t.len(), u_free.len(), motion.len())?;
     solve_rows(
         t, u_free, lo, hi, scale, motion, tolerance, nu, states, rows, workspace,
     )
