@@ -1,5 +1,5 @@
 -- The words of an accumulator mean the exact sum of the terms that it took, and a row is its single calls. Assumes nothing.
-use Rattle.std.proofs.Common.{◌≡◌, ℕ, zero, suc, ◌+◌, ◌-◌, ◌*◌, ◌/◌, ◌%◌, ◌^◌, ◌<◌, ◌≤◌, Bool, true, false, cond, ◌&&◌, T, eqb, ltb, leb, List, [], ◌∷◌, ℤ, pos, negsuc, ◌+ℤ◌, ◌*ℤ◌, neg_ℤ, nat_abs, sym, refl, ap, ◌∙◌, subst, le_trans, le_refl, lt_of_le_of_lt, mul-le-mul_right, mod-lt, mod-eq_of_lt, mul_comm, div-lt_iff_lt-mul, mul-le-mul, div-add-mod', zero-mul, arith, ltb→lt, pow_mono, ltb-false, ltb-true, le-ltb, lt-ltb, leb-true}
+use Rattle.std.proofs.Common.{◌≡◌, ℕ, zero, suc, ◌+◌, ◌-◌, ◌*◌, ◌/◌, ◌%◌, ◌^◌, ◌<◌, ◌≤◌, Bool, true, false, cond, ◌&&◌, T, eqb, ltb, leb, List, [], ◌∷◌, Result, Ok, Err, ℤ, pos, negsuc, ◌+ℤ◌, ◌*ℤ◌, neg_ℤ, nat_abs, sym, refl, ap, ◌∙◌, subst, le_trans, le_refl, lt_of_le_of_lt, mul-le-mul_right, mod-lt, mod-eq_of_lt, mul_comm, div-lt_iff_lt-mul, mul-le-mul, div-add-mod', zero-mul, arith, ltb→lt, pow_mono, ltb-false, ltb-true, le-ltb, lt-ltb, leb-true}
 use native.Mathlib.Nat.{pow-succ', pow-zero, mod-eq-sub-mod, mul-mod_left, add-mul-mod_self_right, mod-add-div, div-le_of_le-mul}
 use lib.IntN.{sub_ℕ}
 use lib.Ieee.{Float, nan, inf, fin, binary64, fits, up, down}
@@ -10,11 +10,13 @@ use Rattle.floats.specs.Helpers.{is_finite}
 use Rattle.floats.specs.Ops.{Fits, at}
 use Rattle.floats.specs.Sqrt.{unit_count}
 use Rattle.accumulator.specs.declared.Accumulator.{Accumulator}
-use Rattle.accumulator.specs.declared.Added.{Added}
-use Rattle.accumulator.specs.Accumulators.{value_in, digits_in, base, value, words, size, half, meaning, residue, signed, units, free_term, product_term, added, EMPTY, with_free, with_product, taken, refused, add_free, add_product, shorter, both_finite, row_sum, row}
+use Rattle.refusals.specs.declared.Refusal.{Refusal}
+use Rattle.refusals.specs.declared.Refusal.TheVariants.{NotFinite, ExactFull}
+use Rattle.std.specs.Result.{is_ok, result_unwrap_or}
+use Rattle.accumulator.specs.Accumulators.{value_in, digits_in, base, value, words, size, half, meaning, residue, signed, units, free_term, product_term, added, EMPTY, with_free, with_product, add_free, add_product, shorter, both_finite, row_sum, row}
 use Rattle.accumulator.specs.Meaning.{Term, free, product, Held, AllHeld, term, after, sum, Exact, singles, RowIsSingles}
 use Rattle.accumulator.proofs.Values.{size_is, size_pos}
-use Rattle.accumulator.proofs.Calls.{row-state}
+use Rattle.accumulator.proofs.Calls.{taken}
 
 -- ---- whole numbers as differences: z is a - b
 
@@ -162,6 +164,12 @@ record State (a : Accumulator) (z : ℤ) : Type 0 where
   near : nat_abs z ≤ (a.products + one a.free) * largest_term
   few : a.products ≤ 32
 
+abbrev free_answer : Accumulator → Float → Bool → Bool → Result Accumulator Refusal
+free_answer a u full fit = cond full (Err ExactFull) (cond fit (Ok (with_free a u)) (Err NotFinite))
+
+abbrev product_answer : Accumulator → Float → Float → Bool → Bool → Result Accumulator Refusal
+product_answer a w v room fit = cond room (cond fit (Ok (with_product a w v)) (Err NotFinite)) (Err ExactFull)
+
 larger : (a b c n m : ℕ) → a ≤ b + c → b ≤ m → c ≤ n * m → a ≤ (n + 1) * m
 larger a b c n m e f g = omega (arith, e, f, g)
 
@@ -174,20 +182,20 @@ module _ (a : Accumulator) (z : ℤ) (s : State a z) where
         few = k;
       }
 
-  free_step : (u : Float) → Fits u → State (add_free a u).sum (cond (eqb (add_free a u).number 0) (free_term u +ℤ z) z)
-  unfolding add_free taken refused with_free
+  free_step : (u : Float) → Fits u → State (result_unwrap_or (add_free a u) a) (cond (is_ok (add_free a u)) (free_term u +ℤ z) z)
+  unfolding add_free with_free
   free_step u h = go a.free refl (is_finite u)
     where
-      go : (f : Bool) → a.free ≡ f → (b : Bool) → State (cond f (refused 18 a) (cond b (taken (with_free a u)) (refused 17 a))).sum (cond (eqb (cond f (refused 18 a) (cond b (taken (with_free a u)) (refused 17 a))).number 0) (free_term u +ℤ z) z)
+      go : (f : Bool) → a.free ≡ f → (b : Bool) → State (result_unwrap_or (free_answer a u f b) a) (cond (is_ok (free_answer a u f b)) (free_term u +ℤ z) z)
       go true e b = s
       go false e false = s
       go false e true = took (added a.words (free_term u)) a.products true (free_term u) (term-bound (free u) h) refl (rw e (omega arith)) s.few
 
-  product-step : (w v : Float) → Fits w → Fits v → State (add_product a w v).sum (cond (eqb (add_product a w v).number 0) (product_term w v +ℤ z) z)
-  unfolding add_product taken refused with_product
+  product-step : (w v : Float) → Fits w → Fits v → State (result_unwrap_or (add_product a w v) a) (cond (is_ok (add_product a w v)) (product_term w v +ℤ z) z)
+  unfolding add_product with_product
   product-step w v g h = go (ltb a.products 32) refl (is_finite w && is_finite v)
     where
-      go : (f : Bool) → ltb a.products 32 ≡ f → (b : Bool) → State (cond f (cond b (taken (with_product a w v)) (refused 17 a)) (refused 18 a)).sum (cond (eqb (cond f (cond b (taken (with_product a w v)) (refused 17 a)) (refused 18 a)).number 0) (product_term w v +ℤ z) z)
+      go : (f : Bool) → ltb a.products 32 ≡ f → (b : Bool) → State (result_unwrap_or (product_answer a w v f b) a) (cond (is_ok (product_answer a w v f b)) (product_term w v +ℤ z) z)
       go false e b = s
       go true e false = s
       go true e true = took (added a.words (product_term w v)) (a.products + 1) a.free (product_term w v) (term-bound (product w v) (g, h)) refl (omega arith) (omega (arith, ltb-true a.products 32 e))
@@ -263,29 +271,24 @@ exact l h =
 
 -- ---- a row is its single calls
 
-accepted : (a : Accumulator) (w v : Float) → ltb a.products 32 ≡ true → is_finite w && is_finite v ≡ true → add_product a w v ≡ taken (with_product a w v)
-unfolding add_product
-accepted a w v t f = rw (t, f)
-
-module _ (u : Float) (w nu : List Float) (n : ℕ) (few : n ≤ 32) (first : is_finite u ≡ true) (all : every (both_finite w nu) n ≡ true) where
-  singles_are : (k : ℕ) → k ≤ n → singles u w nu k ≡ taken (row_sum u w nu k)
-  unfolding singles row_sum turns add_free both_finite EMPTY taken
+module _ (u : Float) (w nu : List Float) (few : shorter w nu ≤ 32) (first : is_finite u ≡ true) (all : every (both_finite w nu) (shorter w nu) ≡ true) where
+  singles_are : (k : ℕ) → k ≤ shorter w nu → singles u w nu k ≡ Ok (row_sum u w nu k)
+  unfolding singles row_sum turns add_free both_finite EMPTY
   singles_are zero h = rw first
   singles_are (suc k) h =
-      let a = row_sum u w nu k in
-      let e : a.products ≡ k = sym (ap (λ (x : Accumulator). x.products) (row-state u w nu k)) in
-      let t : ltb a.products 32 ≡ true = lt-ltb a.products 32 (omega (arith, e, h, few)) in
-      let f : is_finite (at w k) && is_finite (at nu k) ≡ true = every-at (both_finite w nu) n all k (omega (arith, h)) in
-      ap (λ (x : Added). add_product x.sum (at w k) (at nu k)) (singles_are k (omega (arith, h))) ∙ accepted a (at w k) (at nu k) t f
+      let more : k < shorter w nu = omega (arith, h) in
+      let f : is_finite (at w k) && is_finite (at nu k) ≡ true = every-at (both_finite w nu) (shorter w nu) all k more in
+      rw (singles_are k (omega (arith, h))) (taken u w nu few k more f)
 
 pub row-is-singles : RowIsSingles
-unfolding row refused
-row-is-singles u w nu h = go (leb n 32) refl (is_finite u && every (both_finite w nu) n) refl h
+unfolding row
+row-is-singles u w nu a h = go (leb n 32) refl (is_finite u && every (both_finite w nu) n) refl h
   where
     n : ℕ
     n = shorter w nu
 
-    go : (b : Bool) → leb n 32 ≡ b → (c : Bool) → is_finite u && every (both_finite w nu) n ≡ c → (cond b (cond c (taken (row_sum u w nu n)) (refused 17 EMPTY)) (refused 18 EMPTY)).number ≡ 0 → cond b (cond c (taken (row_sum u w nu n)) (refused 17 EMPTY)) (refused 18 EMPTY) ≡ singles u w nu n
-    go false e c f g = absurd (omega (arith, g))
-    go true e false f g = absurd (omega (arith, g))
-    go true e true f g = let x = both_true (is_finite u) (every (both_finite w nu) n) f in sym (singles_are u w nu n (leb-true n 32 e) x.0 x.1 n (le_refl n))
+    go : (b : Bool) → leb n 32 ≡ b → (c : Bool) → is_finite u && every (both_finite w nu) n ≡ c
+        → ◌≡◌ {A = Result Accumulator Refusal} (cond b (cond c (Ok (row_sum u w nu n)) (Err NotFinite)) (Err ExactFull)) (Ok a) → singles u w nu n ≡ Ok a
+    go false e c f g = cc
+    go true e false f g = cc
+    go true e true f g = let x = both_true (is_finite u) (every (both_finite w nu) n) f in singles_are u w nu (leb-true n 32 e) x.0 x.1 n (le_refl n) ∙ g

@@ -1,6 +1,5 @@
 pub mod Values
 pub mod Patterns
-pub mod Products
 pub mod Shifts
 pub mod Signs
 pub mod Tops

@@ -1,5 +1,5 @@
 -- The bit patterns of the finite values of binary64 as whole numbers of 2 ^ -1074. Assumes nothing.
-use Rattle.std.proofs.Common.{◌≡◌, ℕ, suc, ◌+◌, ◌-◌, ◌*◌, ◌/◌, ◌%◌, ◌^◌, ◌<◌, ◌≤◌, Bool, true, false, cond, not, T, eqb, leb, ℤ, sym, refl, ap, ◌∙◌, subst, true≢false, lt_of_not-le, zero-add, mul-div_cancel, arith, le→leb, eqb→eq, leb→le}
+use Rattle.std.proofs.Common.{◌≡◌, ℕ, suc, ◌+◌, ◌-◌, ◌*◌, ◌/◌, ◌%◌, ◌^◌, ◌<◌, ◌≤◌, Bool, true, false, cond, not, T, eqb, leb, ℤ, sym, refl, ap, ◌∙◌, subst, true≢false, lt_of_not-le, zero-add, mul-div_cancel, arith, le→leb, eqb→eq, leb→le, leb-true, leb-false}
 use lib.Dec.{not_T}
 use lib.Ieee.{Float, nan, inf, fin, binary64, up, down, odd, of_fields, of_bits, to_bits, is_nan, fits}
 use lib.Ieee.Bits.{is_true, is_false, cond_no, of_bits-to_bits, to_bits-lt}
@@ -10,6 +10,7 @@ use Rattle.floats.specs.Sqrt.{unit_count}
 use Rattle.floats.proofs.Meaning.{is_fin, is-finite}
 use Rattle.accumulator.specs.Accumulators.{units, signed}
 use Rattle.accumulator.specs.Steps.{pattern, Scales}
+use Rattle.accumulator.specs.declared.term.Scaled.{Scaled}
 
 -- 2 ^ 52 and 2 ^ 63
 abbrev hidden_bit : ℕ
@@ -72,15 +73,16 @@ units_odd s q k = units_of_lem (odd 53 s q k 1074) s (q * 2 ^ k) (odd_sign 53 s 
 
 -- ---- a magnitude's pattern as digits and places
 
-pub small-scales : (s : Bool) (m : ℕ) → m < hidden_bit → Scales (pattern s m) s m 0
-small-scales s m h =
+pub small_scales : (s : Bool) (m : ℕ) → m < hidden_bit → Scales (pattern s m) (record { negative = s; digits = m; places = 0 })
+small_scales s m h =
     let x : m / hidden_bit ≡ 0 = omega (arith, h) in
     let t : m % hidden_bit ≡ m = omega (arith, h) in
     let v : pattern s m ≡ odd 53 s m 0 1074 = fields_of s m (omega (arith, h)) ∙ alike s s (m / hidden_bit) 0 (m % hidden_bit) m refl x t ∙ at_zero s m in
     record { same = ap units v ∙ units_odd s m 0; short = omega (arith, h); low = omega arith }
 
-pub large-scales : (s : Bool) (m : ℕ) → hidden_bit ≤ m → m < 0x7ff0000000000000 → Scales (pattern s m) s (m % hidden_bit + hidden_bit) (m / hidden_bit - 1)
-large-scales s m g h =
+pub large_scales : (s : Bool) (m : ℕ) → hidden_bit ≤ m → m < 0x7ff0000000000000
+    → Scales (pattern s m) (record { negative = s; digits = m % hidden_bit + hidden_bit; places = m / hidden_bit - 1 })
+large_scales s m g h =
     let k = m / hidden_bit - 1 in
     let x : m / hidden_bit ≡ suc k = omega (arith, g, h) in
     let l : suc k < 2047 = omega (arith, g, h) in
@@ -103,20 +105,30 @@ no_nan (fin s m e) h = tt
 pub not_infinite : (s : Bool) (m : ℕ) → m < sign_bit → is_finite (pattern s m) ≡ true → m < 0x7ff0000000000000
 not_infinite s m h f = lt_of_not-le (λ g. true≢false (sym f ∙ is-finite (pattern s m) ∙ ap is_fin (fields_of s m h ∙ alike s s (m / hidden_bit) 2047 (m % hidden_bit) (m % hidden_bit) refl (omega (arith, g, h)) refl) ∙ at_ones s (m % hidden_bit)))
 
-pub of-plus : (v : Float) → T (fits binary64 v) → pattern false (to_bits binary64 v) ≡ v
+of-plus : (v : Float) → T (fits binary64 v) → pattern false (to_bits binary64 v) ≡ v
 of-plus v h = ap (λ (x : ℕ). of_bits binary64 x) (zero-add (to_bits binary64 v)) ∙ of_bits-to_bits binary64 v h
 
-pub of_minus : (v : Float) → T (fits binary64 v) → sign_bit ≤ to_bits binary64 v → pattern true (to_bits binary64 v - sign_bit) ≡ v
+of_minus : (v : Float) → T (fits binary64 v) → sign_bit ≤ to_bits binary64 v → pattern true (to_bits binary64 v - sign_bit) ≡ v
 of_minus v h g =
     let e : sign_bit + (to_bits binary64 v - sign_bit) ≡ to_bits binary64 v = omega (arith, g) in
     ap (λ (x : ℕ). of_bits binary64 x) e ∙ of_bits-to_bits binary64 v h
 
-module _ (v : Float) (held : T (fits binary64 v)) (finite : is_finite v ≡ true) where
-  pub plus-lt : to_bits binary64 v < sign_bit → to_bits binary64 v < 0x7ff0000000000000
-  plus-lt h = not_infinite false (to_bits binary64 v) h (ap is_finite (of-plus v held) ∙ finite)
+-- the sign and the magnitude's pattern of the value v
+module _ (v : Float) (held : T (fits binary64 v)) where
+  pub parts : pattern (leb sign_bit (to_bits binary64 v)) (to_bits binary64 v % sign_bit) ≡ v
+  parts = go (leb sign_bit (to_bits binary64 v)) refl
+    where
+      go : (s : Bool) → leb sign_bit (to_bits binary64 v) ≡ s → pattern s (to_bits binary64 v % sign_bit) ≡ v
+      go false e =
+          let m : to_bits binary64 v % sign_bit ≡ to_bits binary64 v = omega (arith, leb-false sign_bit (to_bits binary64 v) e) in
+          ap (pattern false) m ∙ of-plus v held
+      go true e =
+          let h : sign_bit ≤ to_bits binary64 v = leb-true sign_bit (to_bits binary64 v) e in
+          let m : to_bits binary64 v % sign_bit ≡ to_bits binary64 v - sign_bit = omega (arith, h, to_bits-lt binary64 v held) in
+          ap (pattern true) m ∙ of_minus v held h
 
-  pub minus-lt : sign_bit ≤ to_bits binary64 v → to_bits binary64 v - sign_bit < 0x7ff0000000000000
-  minus-lt g = let l : to_bits binary64 v - sign_bit < sign_bit = omega (arith, to_bits-lt binary64 v held, g) in not_infinite true (to_bits binary64 v - sign_bit) l (ap is_finite (of_minus v held g) ∙ finite)
+  pub magnitude-lt : is_finite v ≡ true → to_bits binary64 v % sign_bit < 0x7ff0000000000000
+  magnitude-lt finite = not_infinite (leb sign_bit (to_bits binary64 v)) (to_bits binary64 v % sign_bit) (omega arith) (ap is_finite parts ∙ finite)
 
-pub scales-at : (v w : Float) (s : Bool) (d p : ℕ) → v ≡ w → Scales v s d p → Scales w s d p
-scales-at v w s d p e h = subst (λ (x : Float). Scales x s d p) e h
+pub scales-at : (v w : Float) (x : Scaled) → v ≡ w → Scales v x → Scales w x
+scales-at v w x e h = subst (λ (y : Float). Scales y x) e h

@@ -1,12 +1,10 @@
--- Two numbers in words added word by word, the lowest first. Assumes nothing.
-use Rattle.std.proofs.Common.{◌≡◌, ℕ, zero, suc, ◌+◌, ◌-◌, ◌*◌, ◌%◌, ◌^◌, ◌<◌, ◌≤◌, Bool, true, false, not, ◌&&◌, leb, List, [], ◌∷◌, length, get_or, take, sym, refl, ap, ◌∙◌, mul_comm, pow-suc, add-one, arith, le-leb, leb-false, leb-true}
+-- Terms added to the words from one on, or taken from them, one word after the other. Assumes nothing.
+use Rattle.std.proofs.Common.{◌≡◌, ℕ, zero, suc, ◌+◌, ◌*◌, ◌%◌, ◌^◌, ◌<◌, Bool, false, List, [], ◌∷◌, length, get_or, set, take, sym, ap, ◌∙◌, subst, mul_comm, pow-suc, pow-add, add-one, arith}
 use native.Mathlib.Nat.{pow-zero}
-use lib.Seq.{take-length}
-use borrow.Author.Tests.{lt-leb}
+use Rattle.std.specs.Int.{from_bool}
 use Rattle.accumulator.specs.Accumulators.{value_in, base, value, words, size}
-use Rattle.accumulator.specs.Joins.{joinable}
-use Rattle.accumulator.specs.declared.Accumulator.{Accumulator}
-use Rattle.accumulator.proofs.Values.{Words, settled, size_is}
+use Rattle.accumulator.specs.Steps.{Moved, Words, Carried}
+use Rattle.accumulator.proofs.Values.{none-carried, word-carried, settled, size_is}
 
 -- ---- the number of the first words of a list, one word more
 
@@ -21,76 +19,38 @@ more-digits b (x ∷ l) (suc i) h =
     let p : b ^ suc i ≡ b * b ^ i = pow-suc b i ∙ mul_comm (b ^ i) b in
     rw p (up b x (value_in b (take (suc i) l)) (value_in b (take i l)) (get_or l i 0) (b ^ i) (more-digits b l i (omega (arith, h))))
 
--- ---- the loop: after i words, `now` and the carry are a and the first i words of b
+-- ---- the loop: i terms are moved to the words from the word k on
 
-pub record Joins (a b now : List ℕ) (carry i : ℕ) : Type 0 where
-  pub few : i ≤ 67
-  pub bit : carry < 2
-  pub words : Words now
-  pub long : length b ≡ 67
-  pub sum : value now + carry * base ^ i ≡ value a + value (take i b)
-
-pub joins-start : (a b : List ℕ) → Words a → length b ≡ 67 → Joins a b a 0 0
+pub none-placed : (t : Bool) (l : List ℕ) (k : ℕ) → Words l → Carried t l l (value [] * base ^ k) (0 * base ^ (k + 0))
 unfolding value_in
-joins-start a b l k = record { few = omega arith; bit = omega arith; words = l; long = k; sum = omega arith }
+none-placed t l k h = let e : 0 * base ^ k ≡ 0 * base ^ (k + 0) = omega arith in subst (λ (c : ℕ). Carried t l l (0 * base ^ k) c) e (none-carried t l (0 * base ^ k) h)
 
--- a word x of b added where v and the carry c stood for s and t
-plus : (v w s t x c q p : ℕ) → v + c * p ≡ s + t → w + q ≡ v + (x + c) * p → w + q ≡ s + (t + x * p)
-plus v w s t x c q p h e = omega (arith, h, e)
+placed : (v x p q r : ℕ) → q * p ≡ r → (v + x * q) * p ≡ v * p + x * r
+placed v x p q r h = let e : x * (q * p) ≡ x * r = ap (λ (y : ℕ). x * y) h in omega (arith, e)
 
-pub joins_again : (a b v w : List ℕ) (c r i x : ℕ) → Joins a b v c i → i < 67 → x ≡ get_or b i 0 → Words w
-    → (value w + r * base ^ (i + 1) ≡ value v + (x + c) * base ^ i) × (r < 2) → Joins a b w r (i + 1)
-joins_again a b v w c r i x h g e l f =
-    let p = base ^ i in
-    let more : value (take (suc i) b) ≡ value (take i b) + get_or b i 0 * p = more-digits base b i (omega (arith, g, h.long)) in
-    let one : value (take (i + 1) b) ≡ value (take (suc i) b) = ap (λ (k : ℕ). value (take k b)) (add-one i) in
-    let word : get_or b i 0 * p ≡ x * p = ap (λ (y : ℕ). y * p) (sym e) in
-    let next : value w + r * base ^ (i + 1) ≡ value a + (value (take i b) + x * p)
-    = plus (value v) (value w) (value a) (value (take i b)) x c (r * base ^ (i + 1)) p h.sum f.0 in
-    record {
-      few = omega (arith, g);
-      bit = f.1;
-      words = l;
-      long = h.long;
-      sum = next ∙ ap (λ (y : ℕ). value a + (value (take i b) + y)) (sym word) ∙ ap (λ (y : ℕ). value a + y) (sym (one ∙ more));
-    }
+pub term-placed : (t : Bool) (a terms l : List ℕ) (k i w : ℕ) (c f : Bool) → i < length terms → k + i < 67 → w < base
+    → Moved t (get_or l (k + i) 0) w (get_or terms i 0 + from_bool c) (base * from_bool f)
+    → Carried t a l (value (take i terms) * base ^ k) (from_bool c * base ^ (k + i))
+    → Carried t a (set l (k + i) w) (value (take (i + 1) terms) * base ^ k) (from_bool f * base ^ (k + (i + 1)))
+term-placed t a terms l k i w c f h g b m e =
+    let x = get_or terms i 0 in
+    let p : base ^ i * base ^ k ≡ base ^ (k + i) = sym (pow-add base i k) ∙ ap (λ (j : ℕ). base ^ j) (omega arith) in
+    let one : value (take (i + 1) terms) ≡ value (take i terms) + x * base ^ i = ap (λ (j : ℕ). value (take j terms)) (add-one i) ∙ more-digits base terms i h in
+    let n : value (take (i + 1) terms) * base ^ k ≡ value (take i terms) * base ^ k + x * base ^ (k + i)
+    = ap (λ (v : ℕ). v * base ^ k) one ∙ placed (value (take i terms)) x (base ^ k) (base ^ i) (base ^ (k + i)) p in
+    let j : k + i + 1 ≡ k + (i + 1) = omega arith in
+    subst (λ (v : ℕ). Carried t a (set l (k + i) w) v (from_bool f * base ^ (k + (i + 1)))) (sym n)
+    (subst (λ (y : ℕ). Carried t a (set l (k + i) w) (value (take i terms) * base ^ k + x * base ^ (k + i)) (from_bool f * base ^ y)) j
+    (word-carried t a l (k + i) w x (from_bool c) (from_bool f) (value (take i terms) * base ^ k) g b m e))
 
-pub joins_done : (a b v : List ℕ) (c i : ℕ) → Joins a b v c i → 67 ≤ i → v ≡ words ((value a + value b) % size)
-joins_done a b v c i h g =
-    let end : i ≡ 67 = omega (arith, g, h.few) in
-    let whole : take i b ≡ b = ap (λ (k : ℕ). take k b) (end ∙ sym h.long) ∙ take-length b in
-    let top : base ^ i ≡ size = ap (λ (k : ℕ). base ^ k) end ∙ sym size_is in
-    let none : value a + value b ≡ value a + value b + 0 * size = omega arith in
-    settled v (value a + value b) 0 c h.words
-    (ap (λ (p : ℕ). value v + c * p) (sym top) ∙ h.sum ∙ ap (λ (l : List ℕ). value a + value l) whole ∙ none)
+-- ---- all the words of another number
 
--- ---- the test
+one_word : (v : ℕ) → v * base ^ 0 ≡ v
+one_word v = rw (pow-zero base) (omega arith)
 
-pub past : (p q : ℕ) → 32 < p → false ≡ leb (p + q) 32
-past p q h = sym (lt-leb (p + q) 32 (omega (arith, h)))
-
-pub within : (p q : ℕ) → p ≤ 32 → leb q (32 - p) ≡ leb (p + q) 32
-within p q h = go (leb q (32 - p)) refl
-  where
-    go : (b : Bool) → leb q (32 - p) ≡ b → b ≡ leb (p + q) 32
-    go true e = sym (le-leb (p + q) 32 (omega (arith, h, leb-true q (32 - p) e)))
-    go false e = sym (lt-leb (p + q) 32 (omega (arith, h, leb-false q (32 - p) e)))
-
--- what the test tells
-
-pub test-few : (t b c : Bool) → t ≡ true → c ≡ true → not b ≡ t && not (c && b)
-test-few t b c e d = rw (e, d)
-
-pub test-one : (t b c : Bool) → t ≡ true → c ≡ false → true ≡ t && not (c && b)
-test-one t b c e d = rw (e, d)
-
-pub test-many : (t b : Bool) → t ≡ false → false ≡ t && b
-test-many t b e = rw e
-
-pub joinable-few : (a b : Accumulator) → joinable a b ≡ true → a.products + b.products ≤ 32
-unfolding joinable
-joinable-few a b e = leb-true (a.products + b.products) 32 (go (leb (a.products + b.products) 32) (not (a.free && b.free)) e)
-  where
-    go : (t u : Bool) → t && u ≡ true → t ≡ true
-    go true u f = refl
-    go false u f = f
+pub all_placed : (a b l : List ℕ) (r : ℕ) → length b ≡ 67 → Carried false a l (value b * base ^ 0) (r * base ^ (0 + length b)) → l ≡ words ((value a + value b) % size)
+all_placed a b l r h m =
+    let n : 0 + length b ≡ 67 = omega arith in
+    let whole : base ^ (0 + length b) ≡ size = ap (λ (k : ℕ). base ^ k) n ∙ sym size_is in
+    let none : value b * base ^ 0 ≡ value b + 0 * size = one_word (value b) ∙ omega arith in
+    settled l (value a + value b) 0 r m.words (ap (λ (p : ℕ). value l + r * p) (sym whole) ∙ m.moved.is ∙ ap (λ (v : ℕ). value a + v) none ∙ omega arith)

@@ -1,11 +1,11 @@
 -- The top word, and the sign of the whole number that 67 words mean. Assumes nothing.
-use Rattle.std.proofs.Common.{◌≡◌, ℕ, zero, suc, ◌+◌, ◌-◌, ◌*◌, ◌^◌, ◌<◌, ◌≤◌, true, false, T, eqb, List, [], ◌∷◌, length, get_or, pos, negsuc, neg_ℤ, sym, refl, subst, le_trans, lt_of_lt_of_le, mul-le-mul_right, mul-le-mul_left, arith, eqb→eq, le-ltb, lt-ltb}
+use Rattle.std.proofs.Common.{◌≡◌, ℕ, zero, suc, ◌+◌, ◌-◌, ◌*◌, ◌^◌, ◌<◌, ◌≤◌, true, false, T, eqb, List, [], ◌∷◌, length, get_or, pos, negsuc, neg_ℤ, sym, refl, ◌∙◌, subst, le_trans, lt_of_lt_of_le, mul-le-mul_right, mul-le-mul_left, arith, eqb→eq, le-ltb, lt-ltb}
 use native.Mathlib.Nat.{pow-succ', pow-zero}
-use lib.Dec.{not_T}
-use lib.Ieee.Bits.{is_true, is_false}
-use lib.Ieee.Fits.{eq→eqb}
+use Rattle.std.proofs.lemmas.Bool.Decides.{nat_tests}
+use Rattle.std.specs.List.{list_all}
 use Rattle.accumulator.specs.Accumulators.{value_in, base, value, size, half, meaning, sign_of}
-use Rattle.accumulator.proofs.Values.{Words, below-size}
+use Rattle.accumulator.specs.Steps.{Words}
+use Rattle.accumulator.proofs.Values.{below-size}
 
 -- ---- the number lies between the top word's multiples of its power
 
@@ -43,29 +43,18 @@ negative l w h = rw half_is (le_trans (mul-le-mul_right (base ^ 66) h) (top_reac
 not_negative : (l : List ℕ) → Words l → get_or l 66 0 < 9223372036854775808 → value l < half
 not_negative l w h =
     let g : get_or l 66 0 + 1 ≤ 9223372036854775808 = omega (arith, h) in
-    rw half_is (lt_of_lt_of_le (top_bounds base 66 l w.all (λ i. (w.each i).fits)) (mul-le-mul_right (base ^ 66) g))
+    rw half_is (lt_of_lt_of_le (top_bounds base 66 l w.all (λ i. w.each i)) (mul-le-mul_right (base ^ 66) g))
 
 -- ---- whether the number is 0
 
-at_most : (l : List ℕ) (i : ℕ) → get_or l i 0 ≤ value l
+pub all-zero : (l : List ℕ) → list_all (λ (w : ℕ). eqb w 0) l ≡ eqb (value l) 0
 unfolding value_in
-at_most [] i = omega arith
-at_most (w ∷ l) zero = omega arith
-at_most (w ∷ l) (suc i) = omega (arith, at_most l i)
-
-pub some_word : (l : List ℕ) (i : ℕ) → 0 < get_or l i 0 → false ≡ eqb (value l) 0
-some_word l i h = sym (is_false (eqb (value l) 0) (not_T (eqb (value l) 0) (λ t. no (eqb→eq (value l) 0 t))))
+all-zero [] = refl
+all-zero (zero ∷ l) = all-zero l ∙ no_more (value l)
   where
-    no : value l ≡ 0 → ⊥
-    no e = omega (arith, e, at_most l i, h)
-
-all-zero : (l : List ℕ) → ((k : ℕ) → k < length l → get_or l k 0 ≡ 0) → value l ≡ 0
-unfolding value_in
-all-zero [] h = refl
-all-zero (w ∷ l) h = omega (arith, h 0 (omega arith), all-zero l (λ k g. h (suc k) (omega (arith, g))))
-
-pub no_word : (l : List ℕ) (i : ℕ) → length l ≤ i → ((k : ℕ) → k < i → get_or l k 0 ≡ 0) → true ≡ eqb (value l) 0
-no_word l i g h = sym (is_true (eqb (value l) 0) (eq→eqb (all-zero l (λ k f. h k (omega (arith, f, g))))))
+    no_more : (v : ℕ) → eqb v 0 ≡ eqb (0 + base * v) 0
+    no_more v = grind (arith, nat_tests)
+all-zero (suc w ∷ l) = grind (arith, nat_tests)
 
 -- ---- the sign
 
@@ -77,16 +66,16 @@ pub sign_below : (l : List ℕ) → Words l → 9223372036854775808 ≤ get_or l
 unfolding meaning
 sign_below l w h = rw (le-ltb (value l) half (negative l w h)) (below (size - value l) (omega (arith, below-size l w)))
 
-pub sign_zero : (l : List ℕ) → Words l → get_or l 66 0 < 9223372036854775808 → eqb (value l) 0 ≡ true → pos 0 ≡ sign_of (meaning l)
+pub sign_zero : (l : List ℕ) → Words l → get_or l 66 0 < 9223372036854775808 → list_all (λ (w : ℕ). eqb w 0) l ≡ true → pos 0 ≡ sign_of (meaning l)
 unfolding meaning
 sign_zero l w h e =
-    let z : value l ≡ 0 = eqb→eq (value l) 0 (subst T (sym e) tt) in
+    let z : value l ≡ 0 = eqb→eq (value l) 0 (subst T (sym (sym (all-zero l) ∙ e)) tt) in
     rw (lt-ltb (value l) half (not_negative l w h), z)
 
 above : (n : ℕ) → eqb n 0 ≡ false → pos 1 ≡ sign_of (pos n)
 above zero h = cc
 above (suc n) h = refl
 
-pub sign_above : (l : List ℕ) → Words l → get_or l 66 0 < 9223372036854775808 → eqb (value l) 0 ≡ false → pos 1 ≡ sign_of (meaning l)
+pub sign_above : (l : List ℕ) → Words l → get_or l 66 0 < 9223372036854775808 → list_all (λ (w : ℕ). eqb w 0) l ≡ false → pos 1 ≡ sign_of (meaning l)
 unfolding meaning
-sign_above l w h e = rw (lt-ltb (value l) half (not_negative l w h)) (above (value l) e)
+sign_above l w h e = rw (lt-ltb (value l) half (not_negative l w h)) (above (value l) (sym (all-zero l) ∙ e))

@@ -1,12 +1,13 @@
 -- Exact row sums. A Kulisch (long) accumulator holds a whole number of 2 ^ -2148 in 67 words of 64 bits, two's complement. Definitions only; what they mean is claimed in Meaning.antt.
-use Rattle.std.specs.Prelude.{ℕ, zero, suc, ◌+◌, ◌-◌, ◌*◌, ◌/◌, ◌%◌, ◌^◌, min, Bool, true, false, cond, ◌&&◌, List, [], ◌∷◌, length, ℤ, pos, negsuc, ◌*ℤ◌, neg_ℤ, nat_le, nat_lt, Float}
+use Rattle.std.specs.Prelude.{ℕ, zero, suc, ◌+◌, ◌-◌, ◌*◌, ◌/◌, ◌%◌, ◌^◌, min, Bool, true, false, cond, ◌&&◌, List, [], ◌∷◌, length, ℤ, pos, negsuc, ◌*ℤ◌, neg_ℤ, leb, ltb, Result, Ok, Err, Float}
 use Rattle.std.specs.Float.{nan, inf, fin}
 use Rattle.loops.specs.Loops.{turns, every}
 use Rattle.floats.specs.Helpers.{is_finite}
 use Rattle.floats.specs.Ops.{at}
 use Rattle.floats.specs.Sqrt.{unit_count}
 use Rattle.accumulator.specs.declared.Accumulator.{Accumulator}
-use Rattle.accumulator.specs.declared.Added.{Added}
+use Rattle.refusals.specs.declared.Refusal.{Refusal}
+use Rattle.refusals.specs.declared.Refusal.TheVariants.{NotFinite, ExactFull}
 
 -- ---- numbers in words, the lowest first
 
@@ -39,7 +40,7 @@ half = 2 ^ 4287
 -- ---- whole numbers in two's complement: the one that the words mean, and what stands for one modulo size
 
 unfoldable pub meaning : List ℕ → ℤ
-meaning l = cond (nat_lt (value l) half) (pos (value l)) (neg_ℤ (pos (size - value l)))
+meaning l = cond (ltb (value l) half) (pos (value l)) (neg_ℤ (pos (size - value l)))
 
 unfoldable pub residue : ℤ → ℕ
 residue (pos n) = n % size
@@ -86,20 +87,19 @@ with_free a u = record { words = added a.words (free_term u); products = a.produ
 unfoldable pub with_product : Accumulator → Float → Float → Accumulator
 with_product a w v = record { words = added a.words (product_term w v); products = a.products + 1; free = a.free }
 
--- ---- answers: the number 0 and the sum, or the number of a refusal and the accumulator as it was
+-- ---- answers: the sum, or why the call is refused
 
-unfoldable pub taken : Accumulator → Added
-taken a = record { number = 0; sum = a }
+-- full for a second free motion, or a product after 32; then not finite for a value that is NaN or infinite
+unfoldable pub add_free : Accumulator → Float → Result Accumulator Refusal
+add_free a u = cond a.free (Err ExactFull) (cond (is_finite u) (Ok (with_free a u)) (Err NotFinite))
 
-unfoldable pub refused : ℕ → Accumulator → Added
-refused k a = record { number = k; sum = a }
+unfoldable pub add_product : Accumulator → Float → Float → Result Accumulator Refusal
+add_product a w v = cond (ltb a.products 32) (cond (is_finite w && is_finite v) (Ok (with_product a w v)) (Err NotFinite)) (Err ExactFull)
 
--- 18 for a second free motion, or a product after 32; then 17 for a value that is NaN or infinite
-unfoldable pub add_free : Accumulator → Float → Added
-add_free a u = cond a.free (refused 18 a) (cond (is_finite u) (taken (with_free a u)) (refused 17 a))
-
-unfoldable pub add_product : Accumulator → Float → Float → Added
-add_product a w v = cond (nat_lt a.products 32) (cond (is_finite w && is_finite v) (taken (with_product a w v)) (refused 17 a)) (refused 18 a)
+-- a call on what the call before it left; where that was refused, its refusal
+abbrev pub then : Result Accumulator Refusal → (Accumulator → Result Accumulator Refusal) → Result Accumulator Refusal
+then (Ok a) call = call a
+then (Err r) call = Err r
 
 -- ---- a whole row: the free motion u, then the products of w and nu for j rising, over the shorter of the two
 
@@ -112,8 +112,8 @@ both_finite w nu j = is_finite (at w j) && is_finite (at nu j)
 unfoldable pub row_sum : Float → List Float → List Float → ℕ → Accumulator
 row_sum u w nu k = turns k (with_free EMPTY u) λ j a. with_product a (at w j) (at nu j)
 
--- 18 for more than 32 products, then 17 for a value used that is NaN or infinite; a refused row is as it was begun, empty
-unfoldable pub row : Float → List Float → List Float → Added
+-- full for more than 32 products, then not finite for a value used that is NaN or infinite
+unfoldable pub row : Float → List Float → List Float → Result Accumulator Refusal
 row u w nu =
     let n = shorter w nu in
-    cond (nat_le n 32) (cond (is_finite u && every (both_finite w nu) n) (taken (row_sum u w nu n)) (refused 17 EMPTY)) (refused 18 EMPTY)
+    cond (leb n 32) (cond (is_finite u && every (both_finite w nu) n) (Ok (row_sum u w nu n)) (Err NotFinite)) (Err ExactFull)

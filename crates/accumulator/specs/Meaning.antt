@@ -1,11 +1,12 @@
 -- What is claimed of the accumulator: its words mean the exact sum of the terms that it took, a whole number of 2 ^ -2148; and a row is its single calls.
 -- Definitions only. proofs/Exact.antt has the theorems.
-use Rattle.std.specs.Prelude.{◌≡◌, ℕ, cond, List, [], ◌∷◌, ℤ, pos, ◌+ℤ◌, ◌==◌, Float}
+use Rattle.std.specs.Prelude.{◌≡◌, ℕ, cond, List, [], ◌∷◌, ℤ, pos, ◌+ℤ◌, Result, Ok, Float}
+use Rattle.std.specs.Result.{is_ok, result_unwrap_or}
 use Rattle.loops.specs.Loops.{turns}
 use Rattle.floats.specs.Ops.{Fits, at}
 use Rattle.accumulator.specs.declared.Accumulator.{Accumulator}
-use Rattle.accumulator.specs.declared.Added.{Added}
-use Rattle.accumulator.specs.Accumulators.{meaning, free_term, product_term, EMPTY, add_free, add_product, shorter, row}
+use Rattle.refusals.specs.declared.Refusal.{Refusal}
+use Rattle.accumulator.specs.Accumulators.{meaning, free_term, product_term, EMPTY, add_free, add_product, then, shorter, row}
 
 pub data Term : Type 0 where
   free : Float → Term
@@ -24,7 +25,7 @@ abbrev pub term : Term → ℤ
 term (free u) = free_term u
 term (product w v) = product_term w v
 
-abbrev pub add : Accumulator → Term → Added
+abbrev pub add : Accumulator → Term → Result Accumulator Refusal
 add a (free u) = add_free a u
 add a (product w v) = add_product a w v
 
@@ -32,21 +33,21 @@ add a (product w v) = add_product a w v
 
 unfoldable pub after : List Term → Accumulator
 after [] = EMPTY
-after (t ∷ l) = (add (after l) t).sum
+after (t ∷ l) = result_unwrap_or (add (after l) t) (after l)
 
 -- the sum of those that were taken
 unfoldable pub sum : List Term → ℤ
 sum [] = pos 0
-sum (t ∷ l) = cond ((add (after l) t).number == 0) (term t +ℤ sum l) (sum l)
+sum (t ∷ l) = cond (is_ok (add (after l) t)) (term t +ℤ sum l) (sum l)
 
 -- ---- the claims
 
 abbrev pub Exact : Type 0
 Exact = (l : List Term) → AllHeld l → meaning (after l).words ≡ sum l
 
--- a row that is taken is a free motion, then its products one by one
-unfoldable pub singles : Float → List Float → List Float → ℕ → Added
-singles u w nu k = turns k (add_free EMPTY u) λ j x. add_product x.sum (at w j) (at nu j)
+-- a row that is taken is a free motion, then its products one by one, each of them taken
+unfoldable pub singles : Float → List Float → List Float → ℕ → Result Accumulator Refusal
+singles u w nu k = turns k (add_free EMPTY u) λ j x. then x (λ a. add_product a (at w j) (at nu j))
 
 abbrev pub RowIsSingles : Type 0
-RowIsSingles = (u : Float) (w nu : List Float) → (row u w nu).number ≡ 0 → row u w nu ≡ singles u w nu (shorter w nu)
+RowIsSingles = (u : Float) (w nu : List Float) (a : Accumulator) → row u w nu ≡ Ok a → singles u w nu (shorter w nu) ≡ Ok a

@@ -1,2 +1,1 @@
-pub mod ExactNearest
 pub mod Sums

@@ -1,10 +1,12 @@
 -- An accumulator as plain numbers: its words in the first 67 places of one list, how many products it holds and whether a free motion in the first two of
 -- another. Definitions only.
-use Rattle.std.specs.Prelude.{ℕ, ◌≡◌, Bool, true, false, cond, ◌&&◌, List, eqb, leb, ℤ, get_or, set, take, length}
+use Rattle.std.specs.Prelude.{ℕ, ◌≡◌, Bool, true, false, cond, ◌&&◌, List, leb, ℤ, get_or, set, take, length, Result, Ok, Err}
 use Rattle.loops.specs.Loops.{pasted}
 use Rattle.accumulator.specs.declared.Accumulator.{Accumulator}
-use Rattle.accumulator.specs.declared.Added.{Added}
-use Rattle.accumulator.specs.Accumulators.{refused, meaning, sign_of}
+use Rattle.refusals.specs.declared.Refusal.{Refusal}
+use Rattle.refusals.specs.declared.Refusal.TheVariants.{Short}
+use Rattle.refusals.specs.Numbers as refusals
+use Rattle.accumulator.specs.Accumulators.{meaning, sign_of}
 use Rattle.flags.specs.Flags.{flag, flagged}
 
 unfoldable pub state : List ℕ → List ℕ → Accumulator
@@ -19,20 +21,30 @@ taken words counts = leb 67 (length words) && leb 2 (length counts)
 unfoldable pub both_taken : List ℕ → List ℕ → List ℕ → List ℕ → Bool
 both_taken words counts other others = taken words counts && taken other others
 
-abbrev pub reply : Bool → Added → Added
+abbrev pub reply : Bool → Result Accumulator Refusal → Result Accumulator Refusal
 reply true x = x
-reply false x = refused 10 x.sum
+reply false x = Err Short
 
--- ---- what is left: the sum where the number is 0, and else nothing is written
+-- the accumulator that the lists hold, where there is room for one
+abbrev pub held : List ℕ → List ℕ → Result Accumulator Refusal
+held words counts = reply (taken words counts) (Ok (state words counts))
 
-unfoldable pub words_left : Added → List ℕ → List ℕ
-words_left x l = cond (eqb x.number 0) (pasted x.sum.words l) l
+-- ---- what is left: the sum where the call is taken, and else nothing is written
 
-unfoldable pub counts_left : Added → List ℕ → List ℕ
-counts_left x l = cond (eqb x.number 0) (set (set l 0 x.sum.products) 1 (flag x.sum.free)) l
+abbrev pub number : Result Accumulator Refusal → ℕ
+number (Ok a) = 0
+number (Err r) = refusals.number r
 
-pub record Left (x : Added) (r : ℕ) (words words' counts counts' : List ℕ) : Type 0 where
-  pub number_is : r ≡ x.number
+abbrev pub words_left : Result Accumulator Refusal → List ℕ → List ℕ
+words_left (Ok a) l = pasted a.words l
+words_left (Err r) l = l
+
+abbrev pub counts_left : Result Accumulator Refusal → List ℕ → List ℕ
+counts_left (Ok a) l = set (set l 0 a.products) 1 (flag a.free)
+counts_left (Err r) l = l
+
+pub record Left (x : Result Accumulator Refusal) (r : ℕ) (words words' counts counts' : List ℕ) : Type 0 where
+  pub number_is : r ≡ number x
   pub words_are : words' ≡ words_left x words
   pub counts_are : counts' ≡ counts_left x counts
 

@@ -1,92 +1,64 @@
 // Exact row sums by plain numbers: 67 words, and two counts, how many products they hold and whether a free motion. A
 // call that is refused writes nothing.
-ghost use Rattle.std.specs.Prelude.{◌≡◌, ◌≤◌, length, take};
-ghost use Rattle.loops.specs.Loops as loops;
+ghost use Rattle.std.specs.Prelude.{◌≡◌, ◌≤◌, length};
 ghost use Rattle.accumulator.specs.Accumulators as acc;
 ghost use Rattle.accumulator.specs.Joins as joins;
 ghost use Rattle.capi_exact.specs.Exact as def;
 
-use accumulator::{Accumulator, Added};
+use accumulator::{Accumulator, WORDS};
 use flags::{flag, flagged};
+use refusals::Refusal;
 
 // Whether there is room for the words and the counts.
+#[tactic(auto, unfolding(crate::specs::Exact::taken))]
 fn taken(words: &[u64], counts: &[u32]) -> bool
     ensures { result ≡ def.taken words.now counts.now }
 {
-    if words.len() < 67 {
-        return false;
-    }
-    2 <= counts.len()
+    words.len() >= WORDS && counts.len() >= 2
 }
 
-// Whether there are words, and a place for their sign.
-fn sign_taken(words: &[u64], sign: &[i8]) -> bool
-    ensures { result ≡ def.sign_taken words.now sign.now }
+// The accumulator that words and counts hold, where there is room for one.
+#[tactic(auto, unfolding(crate::specs::Exact::taken, crate::specs::Exact::state))]
+fn held(words: &[u64], counts: &[u32]) -> Result<Accumulator, Refusal>
+    ensures { result ≡ def.held words.now counts.now }
 {
-    if words.len() < 67 {
-        return false;
-    }
-    1 <= sign.len()
+    let own = words.first_chunk().ok_or(Refusal::Short)?;
+    let [products, free] = *counts.first_chunk::<2>().ok_or(Refusal::Short)?;
+    Ok(Accumulator {
+        words: *own,
+        products,
+        free: flagged(free),
+    })
 }
 
-// The first 67 words.
-pub fn first(words: &[u64]) -> [u64; 67]
-    requires { 67 ≤ length words.now }
-    ensures { result ≡ take 67 words.now }
-{
-    let mut own = [0; 67];
-    let mut i = 0;
-    while i < 67 {
-        own[i] = words[i];
-        i += 1;
-    }
-    own
-}
-
-// All of `from` copied to the front of `to`.
-fn copy(from: &[u64], to: &mut [u64])
-    requires { length from.now ≤ length to.old }
-    ensures { to.new ≡ loops.pasted from.now to.old }
-{
-    let mut i = 0;
-    while i < from.len() {
-        to[i] = from[i];
-        i += 1;
-    }
-}
-
-// The accumulator that words and counts hold.
-fn state(words: &[u64], counts: &[u32]) -> Accumulator
-    requires { (67 ≤ length words.now) × (2 ≤ length counts.now) }
-    ensures { result ≡ def.state words.now counts.now }
-{
-    let own = first(words);
-    Accumulator {
-        words: own,
-        products: counts[0],
-        free: flagged(counts[1]),
-    }
-}
-
-// What adding answered: the number, and unless it refuses, the sum left in words and counts.
-fn leave(added: Added, words: &mut [u64], counts: &mut [u32]) -> u32
+// The sum left in words and counts.
+#[tactic(auto, using(crate::proofs::Sums::pasted_front))]
+fn keep(sum: Accumulator, words: &mut [u64], counts: &mut [u32])
     requires { (67 ≤ length words.old) × (2 ≤ length counts.old) }
-    ensures { def.Left added result words.old words.new
-        counts.old counts.new }
+    ensures { (words.new ≡ def.words_left (Ok sum) words.old) × (counts.new ≡ def.counts_left (Ok sum) counts.old) }
 {
-    let number = added.number;
-    if number != 0 {
-        return number;
-    }
-    let sum = added.sum;
     let own = sum.words;
-    copy(&own, words);
+    words[..WORDS].copy_from_slice(&own);
     counts[0] = sum.products;
     counts[1] = flag(sum.free);
-    number
+}
+
+// What a call answers: 0, and the sum is left; or the number of its refusal.
+fn leave(answer: Result<Accumulator, Refusal>, words: &mut [u64], counts: &mut [u32]) -> u32
+    requires { (67 ≤ length words.old) × (2 ≤ length counts.old) }
+    ensures { def.Left answer result words.old words.new counts.old counts.new }
+{
+    match answer {
+        Ok(sum) => {
+            keep(sum, words, counts);
+            0
+        }
+        Err(refusal) => refusal.into(),
+    }
 }
 
 // A free motion is added: 0; or 10, 18 or 17.
+#[tactic(auto, using(crate::proofs::Sums::room))]
 #[unsafe(no_mangle)]
 pub extern "C" fn piskorlu_exact_free(u: f64, words: &mut [u64], counts: &mut [u32]) -> u32
     ensures { def.Left
@@ -94,14 +66,14 @@ pub extern "C" fn piskorlu_exact_free(u: f64, words: &mut [u64], counts: &mut [u
         (acc.add_free (def.state words.old counts.old) u))
         result words.old words.new counts.old counts.new }
 {
-    if taken(words, counts) {
-        let added = state(words, counts).add_free(u);
-        return leave(added, words, counts);
-    }
-    10
+    let Ok(sum) = held(words, counts) else {
+        return Refusal::Short.into();
+    };
+    leave(sum.add_free(u), words, counts)
 }
 
 // A product is added: 0; or 10, 18 or 17.
+#[tactic(auto, using(crate::proofs::Sums::room))]
 #[unsafe(no_mangle)]
 pub extern "C" fn piskorlu_exact_product(
     w: f64,
@@ -114,14 +86,14 @@ pub extern "C" fn piskorlu_exact_product(
         (acc.add_product (def.state words.old counts.old) w nu))
         result words.old words.new counts.old counts.new }
 {
-    if taken(words, counts) {
-        let added = state(words, counts).add_product(w, nu);
-        return leave(added, words, counts);
-    }
-    10
+    let Ok(sum) = held(words, counts) else {
+        return Refusal::Short.into();
+    };
+    leave(sum.add_product(w, nu), words, counts)
 }
 
 // A whole row from an empty accumulator: 0; or 10, 18 or 17.
+#[tactic(auto, using(crate::proofs::Sums::row_room))]
 #[unsafe(no_mangle)]
 pub extern "C" fn piskorlu_exact_row(
     u: f64,
@@ -135,43 +107,35 @@ pub extern "C" fn piskorlu_exact_row(
         (acc.row u w.now nu.now))
         result words.old words.new counts.old counts.new }
 {
-    if taken(words, counts) {
-        let added = accumulator::row(u, w, nu);
-        return leave(added, words, counts);
+    if !taken(words, counts) {
+        return Refusal::Short.into();
     }
-    10
+    leave(accumulator::row(u, w, nu), words, counts)
 }
 
 // The sign of the exact sum in sign[0]: 0; or 10.
+#[tactic(auto, unfolding(crate::specs::Exact::sign_taken))]
 #[unsafe(no_mangle)]
 pub extern "C" fn piskorlu_exact_sign(words: &[u64], sign: &mut [i8]) -> u32
     ensures { def.Signed (def.sign_taken words.now sign.old)
         result words.now sign.old sign.new }
 {
-    if sign_taken(words, sign) {
-        let own = first(words);
-        let sum = Accumulator {
-            words: own,
-            products: 0,
-            free: false,
-        };
-        sign[0] = sum.sign();
-        return 0;
+    let Some(own) = words.first_chunk() else {
+        return Refusal::Short.into();
+    };
+    if sign.is_empty() {
+        return Refusal::Short.into();
     }
-    10
-}
-
-// Whether there is room in both accumulators.
-fn both_taken(words: &[u64], counts: &[u32], other: &[u64], other_counts: &[u32]) -> bool
-    ensures { result ≡ def.both_taken words.now counts.now other.now other_counts.now }
-{
-    if taken(words, counts) {
-        return taken(other, other_counts);
-    }
-    false
+    let sum = Accumulator {
+        words: *own,
+        ..Accumulator::EMPTY
+    };
+    sign[0] = sum.sign();
+    0
 }
 
 // The accumulator in `other` is joined to the one in words and counts, which receive the total: 0; or 10 or 18.
+#[tactic(auto, using(crate::proofs::Sums::room), unfolding(crate::specs::Exact::both_taken))]
 #[unsafe(no_mangle)]
 pub extern "C" fn piskorlu_exact_join(
     words: &mut [u64],
@@ -187,11 +151,11 @@ pub extern "C" fn piskorlu_exact_join(
         (def.state other.now other_counts.now)))
         result words.old words.new counts.old counts.new }
 {
-    if both_taken(words, counts, other, other_counts) {
-        let more = state(other, other_counts);
-        let own = state(words, counts);
-        let total = own.join(more);
-        return leave(total, words, counts);
-    }
-    10
+    let Ok(own) = held(words, counts) else {
+        return Refusal::Short.into();
+    };
+    let Ok(more) = held(other, other_counts) else {
+        return Refusal::Short.into();
+    };
+    leave(own.join(more), words, counts)
 }

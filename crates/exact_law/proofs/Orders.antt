@@ -9,13 +9,14 @@ use lib.Dec.{ltb, leb}
 use lib.Ieee.{Float}
 use borrow.Author.Tests.{ltb-true, ltb-false, lt-ltb, le-ltb, le-leb}
 use Rattle.floats.specs.Helpers.{is_finite}
-use Rattle.accumulator.specs.Accumulators.{words, size, residue, free_term, product_term, added, EMPTY, with_free, with_product, taken, add_free, add_product, meaning, sign_of}
+use Rattle.accumulator.specs.Accumulators.{words, size, residue, free_term, product_term, added, EMPTY, with_free, with_product, add_free, add_product, meaning, sign_of}
 use Rattle.nearest.specs.ToNearest.{nearest}
 use Rattle.accumulator.specs.Joins.{joinable, joined, join}
 use Rattle.accumulator.specs.declared.Accumulator.{Accumulator}
-use Rattle.accumulator.specs.declared.Added.{Added}
+use Rattle.refusals.specs.declared.Refusal.{Refusal}
+use Rattle.std.specs.Prelude.{Result, Ok}
 use Rattle.exact_law.specs.Law as law
-use Rattle.exact_law.specs.Law.{Sum, Term, terms, after, made, total, not_finite, is_free, is_product, Within, Same, AnyOrder}
+use Rattle.exact_law.specs.Law.{Sum, Term, terms, made, total, not_finite, is_free, is_product, Within, Same, AnyOrder}
 use Rattle.exact_law.proofs.Totals.{total-append, total-perm}
 use Rattle.exact_law.proofs.Words.{one_more, together}
 
@@ -25,14 +26,17 @@ unfoldable residue_of : Term → ℕ
 residue_of (law.free u) = residue (free_term u)
 residue_of (law.product w v) = residue (product_term w v)
 
-abbrev state : List ℕ → ℕ → Bool → Added
-state w p f = taken (record { words = w; products = p; free = f })
+abbrev state : List ℕ → ℕ → Bool → Accumulator
+state w p f = record { words = w; products = p; free = f }
 
-abbrev told : List Term → Added
+abbrev told : List Term → Accumulator
 told l = state (words (total residue_of l % size)) (total is_product l) (ltb 0 (total is_free l))
 
 same-state : {w w' : List ℕ} {p p' : ℕ} {f f' : Bool} → w ≡ w' → p ≡ p' → f ≡ f' → state w p f ≡ state w' p' f'
 same-state a b c = λ i. state (a i) (b i) (c i)
+
+same-sum : {a b : Accumulator} → a ≡ b → ◌≡◌ {A = Result Accumulator Refusal} (Ok a) (Ok b)
+same-sum e = ap Ok e
 
 -- ---- tests within the limits
 
@@ -67,8 +71,8 @@ right-within l k h = record {
 
 -- ---- one call more
 
-free-added : (l : List Term) (u : Float) → Within (law.free u ∷ l) → add_free (told l).sum u ≡ told (law.free u ∷ l)
-unfolding add_free with_free taken added total residue_of not_finite is_free is_product
+free-added : (l : List Term) (u : Float) → Within (law.free u ∷ l) → add_free (told l) u ≡ Ok (told (law.free u ∷ l))
+unfolding add_free with_free added total residue_of not_finite is_free is_product
 free-added l u h =
     let f = total is_free l in
     let p = total is_product l in
@@ -76,10 +80,10 @@ free-added l u h =
     let none : ltb 0 f ≡ false = le-ltb 0 f (omega (arith, h.frees)) in
     let more : true ≡ ltb 0 (1 + f) = sym (lt-ltb 0 (1 + f) (omega arith)) in
     let same : p ≡ 0 + p = omega arith in
-    rw (none, finite) (same-state (one_more (total residue_of l) (residue (free_term u))) same more)
+    rw (none, finite) (same-sum (same-state (one_more (total residue_of l) (residue (free_term u))) same more))
 
-product-added : (l : List Term) (w v : Float) → Within (law.product w v ∷ l) → add_product (told l).sum w v ≡ told (law.product w v ∷ l)
-unfolding add_product with_product taken added total residue_of not_finite is_free is_product
+product-added : (l : List Term) (w v : Float) → Within (law.product w v ∷ l) → add_product (told l) w v ≡ Ok (told (law.product w v ∷ l))
+unfolding add_product with_product added total residue_of not_finite is_free is_product
 product-added l w v h =
     let f = total is_free l in
     let p = total is_product l in
@@ -88,10 +92,10 @@ product-added l w v h =
     let more : p + 1 ≡ 1 + p = omega arith in
     let z : f ≡ 0 + f = omega arith in
     let same : ltb 0 f ≡ ltb 0 (0 + f) = ap (λ (x : ℕ). ltb 0 x) z in
-    rw (room, finite) (same-state (one_more (total residue_of l) (residue (product_term w v))) more same)
+    rw (room, finite) (same-sum (same-state (one_more (total residue_of l) (residue (product_term w v))) more same))
 
-both-joined : (l k : List Term) → Within (l ++ k) → join (told l).sum (told k).sum ≡ told (l ++ k)
-unfolding join joinable joined taken
+both-joined : (l k : List Term) → Within (l ++ k) → join (told l) (told k) ≡ Ok (told (l ++ k))
+unfolding join joinable joined
 both-joined l k h =
     let p = total is_product l in
     let q = total is_product k in
@@ -100,29 +104,23 @@ both-joined l k h =
     let few : leb (p + q) 32 ≡ true = le-leb (p + q) 32 (omega (arith, h.products, total-append is_product l k)) in
     let once = one_free f g (omega (arith, h.frees, total-append is_free l k)) (ltb 0 f) (ltb 0 g) refl refl in
     rw (few, once.0)
+    (same-sum
     (same-state
     (together (total residue_of l) (total residue_of k) ∙ ap (λ (n : ℕ). words (n % size)) (sym (total-append residue_of l k)))
     (sym (total-append is_product l k))
-    (once.1 ∙ ap (λ (n : ℕ). ltb 0 n) (sym (total-append is_free l k))))
+    (once.1 ∙ ap (λ (n : ℕ). ltb 0 n) (sym (total-append is_free l k)))))
 
-begun : taken EMPTY ≡ told []
+begun : EMPTY ≡ told []
 unfolding total EMPTY
 begun = same-state (ap words (sym (zero-mod size))) refl refl
 
--- a call after one that gave r
-then : (r : Added) (call : Accumulator → Added) (l : List Term) → r ≡ told l → after r call ≡ call (told l).sum
-unfolding after taken
-then r call l e = rw e refl
-
-made-is : (e : Sum) → Within (terms e) → made e ≡ told (terms e)
+made-is : (e : Sum) → Within (terms e) → made e ≡ Ok (told (terms e))
 unfolding terms made
-made-is law.empty h = begun
-made-is (law.with_free e u) h = then (made e) _ (terms e) (made-is e (tail_within _ (terms e) h)) ∙ free-added (terms e) u h
-made-is (law.with_product e w v) h = then (made e) _ (terms e) (made-is e (tail_within _ (terms e) h)) ∙ product-added (terms e) w v h
+made-is law.empty h = same-sum begun
+made-is (law.with_free e u) h = rw (made-is e (tail_within _ (terms e) h)) (free-added (terms e) u h)
+made-is (law.with_product e w v) h = rw (made-is e (tail_within _ (terms e) h)) (product-added (terms e) w v h)
 made-is (law.both d e) h =
-    then (made d) _ (terms d) (made-is d (left-within (terms d) (terms e) h))
-    ∙ then (made e) _ (terms e) (made-is e (right-within (terms d) (terms e) h))
-    ∙ both-joined (terms d) (terms e) h
+    rw (made-is d (left-within (terms d) (terms e) h), made-is e (right-within (terms d) (terms e) h)) (both-joined (terms d) (terms e) h)
 
 -- ---- any order
 
@@ -138,17 +136,18 @@ told-perm d =
     same-state (ap (λ (n : ℕ). words (n % size)) (total-perm residue_of d)) (total-perm is_product d) (ap (λ (n : ℕ). ltb 0 n) (total-perm is_free d))
 
 pub any_order : AnyOrder
-unfolding taken
 any_order d e perm h =
-    let x = made-is d h in
-    let y = made-is e (within-perm perm h) in
-    let s : made d ≡ made e = x ∙ told-perm perm ∙ sym y in
+    let a = told (terms d) in
+    let b = told (terms e) in
+    let s : a ≡ b = told-perm perm in
     record {
-      taken = ap (λ (r : Added). r.number) x;
-      taken_too = ap (λ (r : Added). r.number) y;
-      words = ap (λ (r : Added). r.sum.words) s;
-      products = ap (λ (r : Added). r.sum.products) s;
-      free = ap (λ (r : Added). r.sum.free) s;
-      sign = ap (λ (r : Added). sign_of (meaning r.sum.words)) s;
-      rounded = ap (λ (r : Added). nearest (meaning r.sum.words)) s;
+      sum = a;
+      sum_too = b;
+      taken = made-is d h;
+      taken_too = made-is e (within-perm perm h);
+      words = ap (λ (x : Accumulator). x.words) s;
+      products = ap (λ (x : Accumulator). x.products) s;
+      free = ap (λ (x : Accumulator). x.free) s;
+      sign = ap (λ (x : Accumulator). sign_of (meaning x.words)) s;
+      rounded = ap (λ (x : Accumulator). nearest (meaning x.words)) s;
     }

@@ -3,13 +3,14 @@
 use Rattle.std.specs.Prelude.{ℕ, ◌≡◌, refl, Bool, true, ◌&&◌, List, [], ◌∷◌, eqb, Float}
 use Rattle.std.specs.Float.{binary64}
 use Rattle.std.specs.Float.Ieee.{round, add, eq, lt, of_bits, to_bits}
+use Rattle.std.specs.Result.{result_unwrap_or}
 use Rattle.floats.specs.Ops.{◌⊕◌, 0ᶠ, 1ᶠ}
 use Rattle.floats.specs.Helpers.{is_finite}
-use Rattle.accumulator.specs.Accumulators.{value_in, digits_in, size, half, meaning, residue, units, product_term, added, EMPTY, with_product, taken, add_product}
+use Rattle.accumulator.specs.Accumulators.{value_in, digits_in, size, half, meaning, residue, units, product_term, added, EMPTY, with_product, add_product}
 use Rattle.accumulator.specs.Joins.{joinable, joined, join}
 use Rattle.nearest.specs.ToNearest.{plus_zero, nearest}
 use Rattle.exact_law.specs.Law as law
-use Rattle.exact_law.specs.Law.{Sum, after, made}
+use Rattle.exact_law.specs.Law.{Sum, made}
 
 abbrev big : Float
 big = of_bits binary64 0x4340000000000000
@@ -44,10 +45,10 @@ abbrev joined_last : Row → Sum
 joined_last r = law.both (law.with_product law.empty r.first 1ᶠ) (law.with_product (law.with_product law.empty r.second 1ᶠ) r.third 1ᶠ)
 
 abbrev bits_of : Sum → ℕ
-bits_of e = to_bits binary64 (nearest (meaning (made e).sum.words))
+bits_of e = to_bits binary64 (nearest (meaning (result_unwrap_or (made e) EMPTY).words))
 
 unfoldable passes : Row → Bool
-unfolding of_bits to_bits round add eq lt is_finite value_in digits_in size half meaning residue units product_term added EMPTY with_product taken add_product joinable joined join plus_zero nearest after made
+unfolding of_bits to_bits round add eq lt is_finite value_in digits_in size half meaning residue units product_term added EMPTY with_product add_product joinable joined join plus_zero nearest made
 passes r =
     eqb (to_bits binary64 (0ᶠ ⊕ r.first ⊕ r.second ⊕ r.third)) r.rounded
     && eqb (bits_of (in_turn r)) 0x3FF0000000000000

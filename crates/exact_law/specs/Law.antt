@@ -1,14 +1,14 @@
 -- The law of document 02's accumulators: any order and any grouping of the same terms gives the same words, counts, sign and rounded value, and no call on the way is refused where
 -- the terms are within the limits. Definitions only; the theorem is `any_order` in proofs/Orders.antt. Rounded row sums have no such law: Examples.antt computes a row of three
 -- terms whose rounded sum depends on the order.
-use Rattle.std.specs.Prelude.{ℕ, ◌+◌, ◌≤◌, ◌≡◌, Bool, true, false, cond, ◌&&◌, eqb, Float}
+use Rattle.std.specs.Prelude.{ℕ, ◌+◌, ◌≤◌, ◌≡◌, Bool, true, false, cond, ◌&&◌, Result, Ok, Float}
 use mathlib.Core.List.{List, [], ◌∷◌, ◌++◌, Permᴰ}
 use Rattle.floats.specs.Helpers.{is_finite}
-use Rattle.accumulator.specs.Accumulators.{EMPTY, add_free, add_product, taken, meaning, sign_of}
+use Rattle.accumulator.specs.Accumulators.{EMPTY, add_free, add_product, then, meaning, sign_of}
 use Rattle.accumulator.specs.Joins.{join}
 use Rattle.nearest.specs.ToNearest.{nearest}
 use Rattle.accumulator.specs.declared.Accumulator.{Accumulator}
-use Rattle.accumulator.specs.declared.Added.{Added}
+use Rattle.refusals.specs.declared.Refusal.{Refusal}
 
 -- ---- what can be done with accumulators: begin one, add a free motion or a product to one, join two
 pub data Sum : Type 0 where
@@ -28,16 +28,12 @@ terms (with_free e u) = free u ∷ terms e
 terms (with_product e w v) = product w v ∷ terms e
 terms (both d e) = terms d ++ terms e
 
--- a call on what an earlier call gave; where that was refused, its refusal
-unfoldable pub after : Added → (Accumulator → Added) → Added
-after r call = cond (eqb r.number 0) (call r.sum) r
-
 -- the calls of a sum: what the last one answers, or the first refusal
-unfoldable pub made : Sum → Added
-made empty = taken EMPTY
-made (with_free e u) = after (made e) (λ a. add_free a u)
-made (with_product e w v) = after (made e) (λ a. add_product a w v)
-made (both d e) = after (made d) (λ a. after (made e) (λ b. join a b))
+unfoldable pub made : Sum → Result Accumulator Refusal
+made empty = Ok EMPTY
+made (with_free e u) = then (made e) (λ a. add_free a u)
+made (with_product e w v) = then (made e) (λ a. add_product a w v)
+made (both d e) = then (made d) (λ a. then (made e) (λ b. join a b))
 
 -- ---- the limits, as counts over the terms
 
@@ -69,14 +65,17 @@ pub record Within (l : List Term) : Type 0 where
 
 -- ---- the law
 
-pub record Same (r s : Added) : Type 0 where
-  pub taken : r.number ≡ 0
-  pub taken_too : s.number ≡ 0
-  pub words : r.sum.words ≡ s.sum.words
-  pub products : r.sum.products ≡ s.sum.products
-  pub free : r.sum.free ≡ s.sum.free
-  pub sign : sign_of (meaning r.sum.words) ≡ sign_of (meaning s.sum.words)
-  pub rounded : nearest (meaning r.sum.words) ≡ nearest (meaning s.sum.words)
+-- both are taken, and what they leave is the same
+pub record Same (r s : Result Accumulator Refusal) : Type 0 where
+  pub sum : Accumulator
+  pub sum_too : Accumulator
+  pub taken : r ≡ Ok sum
+  pub taken_too : s ≡ Ok sum_too
+  pub words : sum.words ≡ sum_too.words
+  pub products : sum.products ≡ sum_too.products
+  pub free : sum.free ≡ sum_too.free
+  pub sign : sign_of (meaning sum.words) ≡ sign_of (meaning sum_too.words)
+  pub rounded : nearest (meaning sum.words) ≡ nearest (meaning sum_too.words)
 
 abbrev pub AnyOrder : Type 0
 AnyOrder = (d e : Sum) → Permᴰ (terms d) (terms e) → Within (terms d) → Same (made d) (made e)

@@ -4,11 +4,4 @@ use Rattle.accumulator.proofs.Signs.{product_is}
 use Rattle.accumulator.proofs.term.add_product.Goals as goal
 
 pub returns : goal.returns
-returns c = c.add.ensures ∙ ap
-    (added _)
-    (product_is
-    c.args.w
-    c.args.nu _ _ _ _ _ _ _
-    c.units-x.ensures
-    c.units-y.ensures
-    c.product-p.ensures)
+returns c = c.add.ensures ∙ ap (added _) (product_is _ _ _ _ c.units-x.ensures c.units-y.ensures)

@@ -1,12 +1,15 @@
-use Rattle.std.proofs.Common.{rules}
-use Rattle.accumulator.proofs.Values.{carry-ends, carry_goes_on, at_top}
+use Rattle.std.proofs.Common.{rules, arith}
+use Rattle.accumulator.proofs.Values.{none-carried, carry-carried, none_left, at_top}
 use Rattle.accumulator.proofs.words.carry_on.Goals as goal
 
-pub returns-then-x-lt18446744073709551615 : goal.returns-then-x-lt18446744073709551615
-returns-then-x-lt18446744073709551615 c = search (carry-ends, rules)
+pub loop-i-init : goal.loop-i-init
+loop-i-init g c = none-carried _ _ _ (record { all = c.told-words; each = c.fits-words })
+
+pub returns-then-not-carry : goal.returns-then-not-carry
+returns-then-not-carry g c = none_left _ _ _ _ _ _ c.if-not-carry.true c.loop-i.invariant
 
 pub loop-i-preserved : goal.loop-i-preserved
-loop-i-preserved c = let f = c.slice_known-1.given c.loop-i.i in search (carry_goes_on, rules)
+loop-i-preserved g c = carry-carried _ _ _ _ _ _ _ _ c.loop-i-test.true (omega arith) c.step.ensures c.loop-i.invariant
 
 pub returns : goal.returns
-returns c = search (at_top, rules)
+returns g c = at_top _ _ _ _ _ _ (search rules) c.loop-i-test.false c.loop-i.invariant

@@ -1,13 +1,7 @@
-use Rattle.capi_exact.proofs.ExactNearest.{no_words, no_place, accepted}
-use borrow.Author.Rules.{rules}
+use Rattle.std.proofs.Common.{rules, arith}
+use Rattle.std.proofs.lemmas.Bool.Decides.{nat_tests}
+use Rattle.capi_exact.proofs.Sums.{nearest_left}
 use Rattle.capi_exact.proofs.exact_nearest.piskorlu_exact_nearest.Goals as goal
 
--- `capi_exact::exact_nearest::piskorlu_exact_nearest` meets its contract. Assumes nothing.
-pub returns-then-words-lt67 : goal.returns-then-words-lt67
-returns-then-words-lt67 c = search (no_words, rules)
-
-pub returns-then-res-lt1 : goal.returns-then-res-lt1
-returns-then-res-lt1 c = search (no_place, rules)
-
 pub returns : goal.returns
-returns c = search (accepted, rules)
+returns c = nearest_left _ _ _ _ (search rules) (grind (arith, nat_tests)) (search rules) c.nearest.ensures

@@ -1,0 +1,7 @@
+use Rattle.std.proofs.Common.{◌≡◌}
+use Rattle.accumulator.specs.Accumulators as acc
+use Rattle.accumulator.specs.Steps as steps
+use Rattle.accumulator.proofs.rows.row.Given as goal
+
+abbrev pub invariant-loop-entry : goal.invariant-loop-entry
+invariant-loop-entry l = steps.products l.sum l.entry-iterator.a.rest.now l.entry-iterator.b.rest.now ≡ acc.row l.u l.w l.nu
