@@ -1,20 +1,16 @@
 -- What the reader of chains accepts is a chained bend file of the steps that it gives, and every chained bend file is
 -- accepted so.
-use Prim.Native.Nat.{ℕ, zero, suc, ◌+◌, ◌-◌, ◌*◌, ◌≤◌, ◌<◌}
-use mathlib.Core.Path.{◌≡◌, refl, sym, ◌∙◌, ap}
-use mathlib.Core.Bool.{Bool, true, false, cond}
-use mathlib.Core.List.{List, [], ◌∷◌, ◌++◌, map, append_assoc, map-append}
-use native.Mathlib.Omega.{arith}
+use Rattle.std.proofs.Common.{◌≡◌, ℕ, zero, suc, ◌+◌, ◌-◌, ◌*◌, ◌≤◌, ◌<◌, Bool, true, false, cond, eqb, Option, Some, None, Result, Ok, Err, List, [], ◌∷◌, ◌++◌, length, get_or, map, append_assoc, length-append, arith, refl, sym, ◌∙◌, ap}
+use mathlib.Core.List.{map-append}
 use native.Mathlib.Nat.{mul-le-mul}
-use lib.Dec.{eqb}
-use lib.ListN.{length, get_or, length-append}
-use borrow.Author.Tests.{eqb-true, eqb-false}
+use borrow.Author.Tests.{eqb-true}
 use Rattle.loops.proofs.Turns.{turns_keep}
+use Rattle.refusals.specs.declared.Refusal.{Refusal}
 use Rattle.bend_file.specs.Little.{u32}
 use Rattle.bend_file.specs.Trailer.{start, rows, coords, count}
 use Rattle.bend_file.specs.Read.{Problem, problem}
 use Rattle.bend_file.specs.Chain as chain
-use Rattle.bend_file.specs.Chain.{Verdict, refused, taken, Walk, at, ended}
+use Rattle.bend_file.specs.Chain.{Walk, at, ended}
 use Rattle.bend_file.specs.Format.{StepFile, Steps, first, after, ChainFile}
 use Rattle.bend_file.specs.Private.{Kept}
 use Rattle.bend_file.proofs.Accepted.{mark-is, mark-back}
@@ -99,8 +95,8 @@ module _ (f : List ℕ) where
 
   abbrev Sound : ℕ → Walk → Type 0
   Sound i (at end s) = Going i end s
-  Sound i (ended (refused k)) = k ≡ 0 → ⊥
-  Sound i (ended (taken s)) = (length s ≤ i) × (length f ≤ 1048576) × Steps f (length f) s (map (chain.step_problem f) s)
+  Sound i (ended (Err r)) = Unit {0}
+  Sound i (ended (Ok s)) = (length s ≤ i) × (length f ≤ 1048576) × Steps f (length f) s (map (chain.step_problem f) s)
 
   sound-start : Sound 0 (at (length f) [])
   sound-start =
@@ -112,7 +108,7 @@ module _ (f : List ℕ) where
         before = λ t l h. h;
       }
 
-  module _ (i end : ℕ) (s : List ℕ) (g : Going i end s) (e : chain.step_number f end ≡ 0) where
+  module _ (i end : ℕ) (s : List ℕ) (g : Going i end s) (e : chain.step_refusal f end ≡ None) where
     abbrev p : Problem
     p = chain.step_problem f end
 
@@ -138,7 +134,7 @@ module _ (f : List ℕ) where
     follows = go (eqb (chain.link f end) 0) refl
       where
         go : (b : Bool) → eqb (chain.link f end) 0 ≡ b
-            → Sound (suc i) (cond b (ended (taken (s ++ (end ∷ [])))) (at (chain.link f end) (s ++ (end ∷ []))))
+            → Sound (suc i) (cond b (ended (Ok (s ++ (end ∷ [])))) (at (chain.link f end) (s ++ (end ∷ []))))
         go true q =
             let z = eqb-true (chain.link f end) 0 q in
             let b : StepFile f end 0 (start f end) (count f end) p = rw (← z) (step-is-file f end here) in (
@@ -158,34 +154,34 @@ module _ (f : List ℕ) where
             }
 
   sound-step : (i end : ℕ) (s : List ℕ) → Going i end s → Sound (suc i) (chain.step f end s)
-  unfolding chain.step
-  sound-step i end s g = go (eqb (chain.step_number f end) 0) refl
+  unfolding chain.step chain.passed
+  sound-step i end s g = go (chain.step_refusal f end) refl
     where
-      go : (b : Bool) → eqb (chain.step_number f end) 0 ≡ b
-          → Sound (suc i) (cond b (chain.follow (chain.link f end) (s ++ (end ∷ []))) (ended (refused (chain.step_number f end))))
-      go true q = follows i end s g (eqb-true (chain.step_number f end) 0 q)
-      go false q = eqb-false (chain.step_number f end) 0 q
+      go : (o : Option Refusal) → chain.step_refusal f end ≡ o
+          → Sound (suc i) (chain.passed o (chain.follow (chain.link f end) (s ++ (end ∷ []))))
+      go None q = follows i end s g q
+      go (Some r) q = tt
 
   sound-turn : (i : ℕ) (x : Walk) → i < 40 → Sound i x → Sound (suc i) (chain.turn f i x)
   unfolding chain.turn
   sound-turn i (at end s) b h = sound-step i end s h
-  sound-turn i (ended (refused k)) b h = h
-  sound-turn i (ended (taken s)) b h = (omega (arith, h.0), h.1, h.2)
+  sound-turn i (ended (Err r)) b h = h
+  sound-turn i (ended (Ok s)) b h = (omega (arith, h.0), h.1, h.2)
 
-  abbrev Settled : Verdict (List ℕ) → Type 0
-  Settled (refused k) = k ≡ 0 → ⊥
-  Settled (taken s) = ChainFile f s (map (chain.step_problem f) s)
+  abbrev Settled : Result (List ℕ) Refusal → Type 0
+  Settled (Err r) = Unit {0}
+  Settled (Ok s) = ChainFile f s (map (chain.step_problem f) s)
 
   settled : Settled (chain.ends f)
   unfolding chain.ends chain.walked chain.settled
   settled = go (chain.walked f 40) (turns_keep (chain.turn f) (at (length f) []) Sound 40 sound-start sound-turn)
     where
       go : (x : Walk) → Sound 40 x → Settled (chain.settled x)
-      go (at end t) h = λ q. omega arith
-      go (ended (refused k)) h = h
-      go (ended (taken t)) h = record { most = h.1; few = h.0; steps = h.2 }
+      go (at end t) h = tt
+      go (ended (Err r)) h = h
+      go (ended (Ok t)) h = record { most = h.1; few = h.0; steps = h.2 }
 
-  pub accepted_is_chain-file : (s : List ℕ) → chain.ends f ≡ taken s → ChainFile f s (map (chain.step_problem f) s)
+  pub accepted_is_chain-file : (s : List ℕ) → chain.ends f ≡ Ok s → ChainFile f s (map (chain.step_problem f) s)
   accepted_is_chain-file s e = rw e at settled
 
   -- ---- every chained bend file is accepted
@@ -200,7 +196,7 @@ module _ (f : List ℕ) where
 
   module _ (most : length f ≤ 1048576) where
     reaches : {end : ℕ} {t : List ℕ} {l : List Problem} → Steps f end t l → (k : ℕ) (s : List ℕ) → end ≤ length f → chain.walked f k ≡ at end s
-        → chain.walked f (k + length t) ≡ ended (taken (s ++ t))
+        → chain.walked f (k + length t) ≡ ended (Ok (s ++ t))
     reaches (first {end} {start} {count} {p} b) k s h w =
         let e : k + 1 ≡ suc k = omega arith in
         let q = kept_back f end (file-is-step f end 0 start count p b h (omega arith)) in
@@ -218,16 +214,16 @@ module _ (f : List ℕ) where
   their-problems (after {end} {link} {start} {count} {p} {ends} {l} b more) = rw (same-problem f end link start count p b, their-problems more)
 
   module _ (s : List ℕ) (l : List Problem) (c : ChainFile f s l) where
-    pub chain-file-is-accepted : chain.ends f ≡ taken s
+    pub chain-file-is-accepted : chain.ends f ≡ Ok s
     chain-file-is-accepted =
-        verdict f (0 + length s) (taken s) (omega (arith, c.few))
+        verdict f (0 + length s) (Ok s) (omega (arith, c.few))
         (reaches c.most c.steps 0 [] (omega arith) (begun f))
 
-    pub chain-file-is-read : chain.pull f ≡ taken l
-    unfolding chain.pull chain.problems
+    pub chain-file-is-read : chain.pull f ≡ Ok l
+    unfolding chain.pull
     chain-file-is-read = rw (chain-file-is-accepted, their-problems c.steps)
 
-  -- ---- a refusal has a number, and each step of an accepted file keeps its rules
+  -- ---- each step of an accepted file keeps its rules
 
   steps-kept : {end : ℕ} {t : List ℕ} {l : List Problem} → Steps f end t l → end ≤ length f → end ≤ 1048576 → (k : ℕ)
       → k < length t → Kept f (get_or t k 0)
@@ -236,13 +232,13 @@ module _ (f : List ℕ) where
   steps-kept (after {end} {link} {start} {count} {p} b more) h m zero g = file-is-step f end link start count p b h m
   steps-kept (after b more) h m (suc k) g = steps-kept more (omega (arith, link-below b)) (omega (arith, link-below b)) k (omega arith)
 
-  abbrev pub Fine : Verdict (List ℕ) → Type 0
-  Fine (refused n) = n ≡ 0 → ⊥
-  Fine (taken s) = (length s ≤ 40) × ((k : ℕ) → k < length s → Kept f (get_or s k 0))
+  abbrev pub Fine : Result (List ℕ) Refusal → Type 0
+  Fine (Err r) = Unit {0}
+  Fine (Ok s) = (length s ≤ 40) × ((k : ℕ) → k < length s → Kept f (get_or s k 0))
 
   pub fine : Fine (chain.ends f)
   fine = go (chain.ends f) settled
     where
-      go : (v : Verdict (List ℕ)) → Settled v → Fine v
-      go (refused n) h = h
-      go (taken s) h = (h.few, steps-kept h.steps (omega arith) h.most)
+      go : (v : Result (List ℕ) Refusal) → Settled v → Fine v
+      go (Err r) h = h
+      go (Ok s) h = (h.few, steps-kept h.steps (omega arith) h.most)

@@ -1,3 +1,4 @@
+pub mod Bytes
 pub mod Rules
 pub mod Values
 pub mod Accepted

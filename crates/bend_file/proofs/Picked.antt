@@ -1,188 +1,142 @@
 -- The step that a caller asks for: where the reader finds it, and that it is the step of the file's pull.
-use Prim.Native.Nat.{ℕ, zero, suc, ◌+◌, ◌*◌, ◌≤◌, ◌<◌}
-use mathlib.Core.Path.{◌≡◌, refl, sym, ◌∙◌, ap}
-use mathlib.Core.Bool.{Bool, true, false, cond}
-use mathlib.Core.List.{List, [], ◌∷◌, map}
-use native.Mathlib.Omega.{arith}
-use lib.Dec.{leb}
-use lib.Ieee.{Float}
-use lib.ListN.{length, get_or, drop, replicate, get_or-append}
-use borrow.Author.Tests.{le-leb, lt-leb, leb-true, leb-false}
+use Rattle.std.proofs.Common.{◌≡◌, ℕ, ◌+◌, ◌*◌, ◌≤◌, ◌<◌, Bool, true, false, cond, leb, Option, Some, None, option_map, Result, Ok, Err, List, length, get_or, drop, replicate, map, arith, refl, sym, ◌∙◌, ap}
+use Rattle.std.specs.List.{slice_get}
+use Rattle.std.proofs.lemmas.Option.{slice_get-map, slice_get_past, slice_get-get_or}
+use lib.ListN.{get_or-append}
+use borrow.Author.Tests.{leb-true, leb-false}
 use Rattle.loops.proofs.Every.{both_true}
-use Rattle.bend_file.specs.Trailer.{start, rows, coords, wanted}
-use Rattle.bend_file.specs.Read.{problem, accepted, Lent, filled, Room}
+use Rattle.refusals.specs.declared.Refusal.{Refusal}
+use Rattle.refusals.specs.declared.Refusal.TheVariants.{Short}
+use Rattle.refusals.specs.Calls.{unless, result_map}
+use Rattle.refusals.proofs.Calls.{taken, refused}
+use Rattle.bend_file.specs.Trailer.{Small}
+use Rattle.bend_file.specs.Read as read
 use Rattle.bend_file.specs.Chain as chain
-use Rattle.bend_file.specs.Chain.{Verdict, refused, taken, told, Step, past, found, ReadsStep}
-use Rattle.bend_file.specs.Private.{Kept, placed, place}
+use Rattle.bend_file.specs.Chain.{told, ReadsStep}
+use Rattle.bend_file.specs.Private as private
+use Rattle.bend_file.specs.Private.{Kept, Inside, Room, found}
+use Rattle.bend_file.specs.declared.Shape.{Shape}
 use Rattle.bend_file.specs.declared.chain.Chain.{Chain}
-use Rattle.bend_file.specs.declared.chain.StepReading.TheVariants as read
-use Rattle.bend_file.specs.declared.step.Place.TheVariants.{Refused, Past, At}
+use Rattle.bend_file.specs.declared.step.Step.{Step}
+use Rattle.bend_file.specs.declared.trailer.Values.{Values}
+use Rattle.bend_file.proofs.StepRules.{kept_back}
 use Rattle.bend_file.proofs.Chained.{Fine, fine}
 
--- ---- where the step is: r is what `steps` told
+-- ---- where the step is: `steps` gave c
 
 module _ (f : List ℕ) (k : ℕ) where
-  module _ (r : Chain) (e : r ≡ told (chain.ends f)) where
-    pub found-refused : (r.number ≡ 0 → ⊥) → Refused r.number ≡ place f (chain.ends f) k
-    found-refused h = go (chain.ends f) e
-      where
-        go : (v : Verdict (List ℕ)) → r ≡ told v → Refused r.number ≡ place f v k
-        go (refused n) q = rw q
-        go (taken s) q = absurd (h (rw q))
-
-    module _ (none : r.number ≡ 0) where
-      pub found-past : r.count ≤ k → Past ≡ place f (chain.ends f) k
-      found-past h = go (chain.ends f) (fine f) e
-        where
-          go : (v : Verdict (List ℕ)) → Fine f v → r ≡ told v → Past ≡ place f v k
-          go (refused n) g q = absurd (g (sym (ap (λ (x : Chain). x.number) q) ∙ none))
-          go (taken s) g q = rw (le-leb (length s) k (omega (arith, ap (λ (x : Chain). x.count) q)))
-
-      pub record Here (v : Verdict (List ℕ)) : Type 0 where
-        pub fits : k < 40
-        pub keeps : Kept f (get_or r.ends k 0)
-        pub same : placed f (get_or r.ends k 0) ≡ place f v k
-
-      pub found_at : k < r.count → Here (chain.ends f)
-      found_at h = go (chain.ends f) (fine f) e
-        where
-          go : (v : Verdict (List ℕ)) → Fine f v → r ≡ told v → Here v
-          go (refused n) g q = absurd (g (sym (ap (λ (x : Chain). x.number) q) ∙ none))
-          go (taken s) g q =
-              let less : k < length s = omega (arith, ap (λ (x : Chain). x.count) q) in
-              let same : get_or r.ends k 0 ≡ get_or s k 0 = ap (λ (x : Chain). get_or x.ends k 0) q ∙ get_or-append s
-              (drop (length s) (replicate 40 0)) 0 k less in
-              record { fits = omega (arith, g.0); keeps = rw same (g.1 k less); same = rw (same, lt-leb (length s) k less) }
-
--- ---- the step of the pull
-
-pick_at : (f : List ℕ) (s : List ℕ) (k : ℕ) → k < length s → chain.pick (map (chain.step_problem f) s) k ≡ found (chain.step_problem f (get_or s k 0))
-unfolding chain.pick
-pick_at f [] k h = absurd (omega arith)
-pick_at f (e ∷ s) zero h = refl
-pick_at f (e ∷ s) (suc k) h = pick_at f s k (omega arith)
-
-pick-past : (f : List ℕ) (s : List ℕ) (k : ℕ) → length s ≤ k → chain.pick (map (chain.step_problem f) s) k ≡ past
-unfolding chain.pick
-pick-past f [] k h = refl
-pick-past f (e ∷ s) zero h = absurd (omega arith)
-pick-past f (e ∷ s) (suc k) h = pick-past f s k (omega arith)
-
--- the lengths that `wide` asks for
-widths : (w u l h s n m : ℕ) → chain.wide w u l h s n m ≡ true → (1024 ≤ w) × (32 ≤ u) × (32 ≤ l) × (32 ≤ h) × (32 ≤ s) × (32 ≤ n) × (2048 ≤ m)
-unfolding chain.wide
-widths w u l h s n m e =
-    let e6 = both_true _ (leb 2048 m) e in
-    let e5 = both_true _ (leb 32 n) e6.0 in
-    let e4 = both_true _ (leb 32 s) e5.0 in
-    let e3 = both_true _ (leb 32 h) e4.0 in
-    let e2 = both_true _ (leb 32 l) e3.0 in
-    let e1 = both_true (leb 1024 w) (leb 32 u) e2.0 in (
-      leb-true 1024 w e1.0,
-      leb-true 32 u e1.1,
-      leb-true 32 l e2.1,
-      leb-true 32 h e3.1,
-      leb-true 32 s e4.1,
-      leb-true 32 n e5.1,
-      leb-true 2048 m e6.1,
-    )
-
-module _ (f : List ℕ) (k s n c : ℕ) where
-  record Found (v : Verdict Step) : Type 0 where
-    answer : v ≡ taken (found (problem f s n c))
-    room : Room f s n c
-
-  step-found : At s n c ≡ place f (chain.ends f) k → Found (chain.picked (chain.problems f (chain.ends f)) k)
-  unfolding chain.picked chain.problems chain.step_problem
-  step-found e = go (chain.ends f) (fine f) e
+  pub found-refused : (r : Refusal) → Err r ≡ told (chain.ends f) → Err r ≡ found f k (chain.ends f)
+  unfolding found
+  found-refused r e = go (chain.ends f) e
     where
-      go : (v : Verdict (List ℕ)) → Fine f v → At s n c ≡ place f v k → Found (chain.picked (chain.problems f v) k)
-      go (refused m) g q = let z : ◌≡◌ {A = ℕ} 0 1 = cc in absurd (omega arith)
-      go (taken t) g q = split (leb (length t) k) refl q
+      go : (v : Result (List ℕ) Refusal) → Err r ≡ told v → Err r ≡ result_map (λ s. option_map (private.step_values f) (slice_get s k)) v
+      go (Ok s) q = absurd (cc)
+      go (Err q) h = cc
+
+  module _ (c : Chain) (e : Ok c ≡ told (chain.ends f)) where
+    pub found-past : c.count ≤ k → Ok None ≡ found f k (chain.ends f)
+    unfolding found
+    found-past h = go (chain.ends f) e
+      where
+        go : (v : Result (List ℕ) Refusal) → Ok c ≡ told v → Ok None ≡ result_map (λ s. option_map (private.step_values f) (slice_get s k)) v
+        go (Err r) q = absurd (cc)
+        go (Ok s) q = let l : c ≡ chain.chain_of s = cc in rw (slice_get_past s k (omega (arith, ap (λ (x : Chain). x.count) l)))
+
+    -- step k keeps its rules, and is what the reader reads there
+    pub record Here (v : Result (List ℕ) Refusal) : Type 0 where
+      pub fits : k < 40
+      pub keeps : Kept f (get_or c.ends k 0)
+      pub same : Ok (Some (private.step_values f (get_or c.ends k 0))) ≡ found f k v
+
+    pub found_at : k < c.count → Here (chain.ends f)
+    unfolding found
+    found_at h = go (chain.ends f) (fine f) e
+      where
+        go : (v : Result (List ℕ) Refusal) → Fine f v → Ok c ≡ told v → Here v
+        go (Err r) g q = absurd (cc)
+        go (Ok s) g q =
+            let l : c ≡ chain.chain_of s = cc in
+            let less : k < length s = omega (arith, ap (λ (x : Chain). x.count) l) in
+            let same : get_or c.ends k 0 ≡ get_or s k 0 = ap (λ (x : Chain). get_or x.ends k 0) l ∙ get_or-append s
+            (drop (length s) (replicate 40 0)) 0 k less in
+            record { fits = omega (arith, g.0); keeps = rw same (g.1 k less); same = rw (same, slice_get-get_or s k 0 less) }
+
+    module _ (h : k < c.count) where
+      pub not-refused : (r : Refusal) → Err r ≡ unless (chain.step_refusal f (get_or c.ends k 0)) (private.step f (get_or c.ends k 0)) → ⊥
+      not-refused r q = let none = kept_back f _ (found_at h).keeps in cc (none, refused _ _ r q)
+
+      pub found-here : (s : Step) → Ok s ≡ unless (chain.step_refusal f (get_or c.ends k 0)) (private.step f (get_or c.ends k 0)) → Ok (Some s.values) ≡ found f k (chain.ends f)
+      found-here s q = ap (λ (x : Step). Ok (Some x.values)) (taken _ _ s q).1 ∙ (found_at h).same
+
+  -- ---- the step of the pull
+
+  picked-is : chain.picked (chain.pull f) k ≡ result_map (option_map (private.problem f)) (found f k (chain.ends f))
+  unfolding chain.picked chain.pull chain.step_problem found
+  picked-is = go (chain.ends f)
+    where
+      each : (o : Option ℕ) → option_map (chain.step_problem f) o ≡ option_map (private.problem f) (option_map (private.step_values f) o)
+      each None = refl
+      each (Some end) = refl
+
+      go : (v : Result (List ℕ) Refusal) → chain.picked (result_map (map (chain.step_problem f)) v) k
+          ≡ result_map (option_map (private.problem f)) (result_map (λ s. option_map (private.step_values f) (slice_get s k)) v)
+      go (Err r) = refl
+      go (Ok s) = λ i. Ok ((slice_get-map (chain.step_problem f) s k ∙ each (slice_get s k)) i)
+
+  pub inside : (v : Values) → Ok (Some v) ≡ found f k (chain.ends f) → Inside f v
+  unfolding found
+  inside v e = go (chain.ends f) (fine f) e
+    where
+      go : (r : Result (List ℕ) Refusal) → Fine f r → Ok (Some v) ≡ result_map (λ s. option_map (private.step_values f) (slice_get s k)) r → Inside f v
+      go (Err r) g q = absurd (cc)
+      go (Ok s) g q = split (leb (length s) k) refl
         where
-          split : (x : Bool) → leb (length t) k ≡ x → At s n c ≡ cond x Past (placed f (get_or t k 0))
-              → Found (chain.picked (chain.problems f (taken t)) k)
-          split true i q = let z : ◌≡◌ {A = ℕ} 0 1 = cc in absurd (omega arith)
-          split false i q =
-              let less = leb-false (length t) k i in
-              let end = get_or t k 0 in
+          split : (b : Bool) → leb (length s) k ≡ b → Inside f v
+          split true i = let none = rw (slice_get_past s k (leb-true (length s) k i)) at q in absurd (cc)
+          split false i =
+              let less = leb-false (length s) k i in
+              let some = rw (slice_get-get_or s k 0 less) at q in
+              let is : v ≡ private.step_values f (get_or s k 0) = cc in
               let h = g.1 k less in
-              let is-s : s ≡ chain.link f end + start f end = cc in
-              let is-n : n ≡ rows f end = cc in
-              let is_c : c ≡ coords f end = cc in
-              rw (is-s, is-n, is_c)
-              (record {
-                answer = ap (λ (x : Step). taken x) (pick_at f t k less);
-                room = record { inside = omega (arith, h.reach, h.full, h.within); small = h.fair };
-              })
+              rw is (record { inside = omega (arith, h.reach, h.full, h.within); small = h.fair })
 
-  -- its values lie in the file and have room in buffers of these lengths
-  pub record Fits (w u l h sc nu m : ℕ) : Type 0 where
-    pub square : n * n ≤ 1024
-    pub boxes : (s + 8 * (n * n + 5 * n) ≤ length f) × (n ≤ u) × (n ≤ l) × (n ≤ h) × (n ≤ sc) × (n ≤ nu)
-    pub cells : (s + 8 * wanted n c ≤ length f) × (n * n ≤ w) × (c * n ≤ m)
+-- the buffers' lengths, where they have room for the largest step
+pub room : (n c : ℕ) (b : read.Lent) → chain.roomy b ≡ true → Small n c → Room n c b
+room n c b e s =
+    let e6 = both_true _ (leb 2048 (length b.motion)) e in
+    let e5 = both_true _ (leb 32 (length b.nu)) e6.0 in
+    let e4 = both_true _ (leb 32 (length b.scale)) e5.0 in
+    let e3 = both_true _ (leb 32 (length b.hi)) e4.0 in
+    let e2 = both_true _ (leb 32 (length b.lo)) e3.0 in
+    let e1 = both_true (leb 1024 (length b.w)) (leb 32 (length b.u_free)) e2.0 in
+    record {
+      w = omega (arith, leb-true 1024 (length b.w) e1.0);
+      u_free = omega (arith, leb-true 32 (length b.u_free) e1.1);
+      lo = omega (arith, leb-true 32 (length b.lo) e2.1);
+      hi = omega (arith, leb-true 32 (length b.hi) e3.1);
+      scale = omega (arith, leb-true 32 (length b.scale) e4.1);
+      nu = omega (arith, leb-true 32 (length b.nu) e5.1);
+      motion = omega (arith, leb-true 2048 (length b.motion) e6.1);
+    }
 
-  pub fits : (w u l h sc nu m : ℕ) → chain.wide w u l h sc nu m ≡ true → At s n c ≡ place f (chain.ends f) k → Fits w u l h sc nu m
-  fits w u l h sc nu m e g =
-      let v = widths w u l h sc nu m e in
-      let r = (step-found g).room in
-      let few = r.small.few in
-      record {
-        square = r.small.square;
-        boxes = (omega (arith, r.inside), omega arith, omega arith, omega arith, omega arith, omega arith);
-        cells = (r.inside, omega (arith, r.small.square), omega (arith, r.small.moving));
-      }
+-- ---- the call: `find` gave r
 
-module _ (f : List ℕ) (k : ℕ) (b : Lent) where
-  answer-short : chain.roomy b ≡ false → chain.step_answer f k b ≡ refused 10
+module _ (f : List ℕ) (k : ℕ) (b : read.Lent) where
+  pub reads_short : chain.roomy b ≡ false → ReadsStep f k (Err Short) b b
   unfolding chain.step_answer
-  answer-short h = rw h
+  reads_short h = record { result = rw h; buffers = rw h }
 
   module _ (wide : chain.roomy b ≡ true) where
-    taken_on : chain.step_answer f k b ≡ chain.picked (chain.problems f (chain.ends f)) k
-    unfolding chain.step_answer chain.pull
-    taken_on = rw wide
+    answer-is : (r : Result (Option Values) Refusal) → r ≡ found f k (chain.ends f) → chain.step_answer f k b ≡ result_map (option_map (private.problem f)) r
+    unfolding chain.step_answer
+    answer-is r e = rw (wide, e) (picked-is f k)
 
-    answer-refused : (n : ℕ) → Refused n ≡ place f (chain.ends f) k → chain.step_answer f k b ≡ refused n
-    unfolding chain.picked chain.problems
-    answer-refused n e = taken_on ∙ go (chain.ends f) e
-      where
-        go : (v : Verdict (List ℕ)) → Refused n ≡ place f v k → chain.picked (chain.problems f v) k ≡ refused n
-        go (refused m) q = cc
-        go (taken s) q = split (leb (length s) k) q
-          where
-            split : (t : Bool) → Refused n ≡ cond t Past (placed f (get_or s k 0)) → chain.picked (chain.problems f (taken s)) k ≡ refused n
-            split true q = let z : ◌≡◌ {A = ℕ} 0 1 = cc in absurd (omega arith)
-            split false q = let z : ◌≡◌ {A = ℕ} 0 1 = cc in absurd (omega arith)
+    pub reads-refused : (r : Refusal) → Err r ≡ found f k (chain.ends f) → ReadsStep f k (Err r) b b
+    reads-refused r e = let q = answer-is _ e in record { result = rw q; buffers = rw q }
 
-    answer-past : Past ≡ place f (chain.ends f) k → chain.step_answer f k b ≡ taken past
-    unfolding chain.picked chain.problems
-    answer-past e = taken_on ∙ go (chain.ends f) e
-      where
-        go : (v : Verdict (List ℕ)) → Past ≡ place f v k → chain.picked (chain.problems f v) k ≡ taken past
-        go (refused m) q = let z : ◌≡◌ {A = ℕ} 0 1 = cc in absurd (omega arith)
-        go (taken s) q = split (leb (length s) k) refl q
-          where
-            split : (t : Bool) → leb (length s) k ≡ t → Past ≡ cond t Past (placed f (get_or s k 0))
-                → chain.picked (chain.problems f (taken s)) k ≡ taken past
-            split true i q = ap (λ (x : Step). taken x) (pick-past f s k (leb-true (length s) k i))
-            split false i q = let z : ◌≡◌ {A = ℕ} 0 1 = cc in absurd (omega arith)
+    pub reads-past : Ok None ≡ found f k (chain.ends f) → ReadsStep f k (Ok None) b b
+    reads-past e = let q = answer-is _ e in record { result = rw q; buffers = rw q }
 
-  -- ---- the call: its answer and its buffers
-
-  pub reads_short : chain.roomy b ≡ false → ReadsStep f k (read.Refused 10) b b
-  reads_short h = record { result = rw (answer-short h); buffers = rw (answer-short h) }
-
-  module _ (wide : chain.roomy b ≡ true) where
-    pub reads-refused : (n : ℕ) → Refused n ≡ place f (chain.ends f) k → ReadsStep f k (read.Refused n) b b
-    reads-refused n e = record { result = rw (answer-refused wide n e); buffers = rw (answer-refused wide n e) }
-
-    pub reads-past : Past ≡ place f (chain.ends f) k → ReadsStep f k read.Past b b
-    reads-past e = record { result = rw (answer-past wide e); buffers = rw (answer-past wide e) }
-
-    pub reads-found : (s n c : ℕ) (t : Float) (after : Lent) → At s n c ≡ place f (chain.ends f) k
-        → t ≡ (problem f s n c).tolerance → after ≡ filled (accepted (problem f s n c)) b → ReadsStep f k (read.Problem n c t) b after
-    unfolding problem
-    reads-found s n c t after e g h =
-        let q = taken_on wide ∙ (step-found f k s n c e).answer in
-        record { result = rw (q, g); buffers = rw q h }
+    pub reads-found : (v : Values) (s : Shape) (after : read.Lent) → Ok (Some v) ≡ found f k (chain.ends f) → s ≡ read.shape (private.problem f v)
+        → after ≡ read.with_problem (private.problem f v) b → ReadsStep f k (Ok (Some s)) b after
+    reads-found v s after e g h = let q = answer-is _ e in record { result = rw (q, g); buffers = rw q h }

@@ -1,17 +1,18 @@
 -- The walk from step to step, as the loop that makes it goes: at the start, after one more step, and each way it ends.
-use Prim.Native.Nat.{ℕ, suc, ◌+◌, ◌≤◌, ◌<◌}
-use mathlib.Core.Path.{◌≡◌, refl, sym, ◌∙◌, ap}
-use mathlib.Core.List.{List, [], ◌∷◌, ◌++◌}
-use native.Mathlib.Omega.{arith}
-use native.Mathlib.Numerals.{add-one}
-use lib.ListN.{length, take, drop, set, replicate, length-take, length-set, length-replicate, take-append-drop}
+use Rattle.std.proofs.Common.{◌≡◌, ℕ, suc, ◌+◌, ◌*◌, ◌≤◌, ◌<◌, Option, Some, None, Result, Ok, Err, List, [], ◌∷◌, ◌++◌, length, take, drop, replicate, add-one, arith, refl, sym, ◌∙◌, ap}
+use lib.ListN.{set, length-take, length-set, length-replicate, take-append-drop}
 use lib.Seq.{take-suc-set, drop-set-lt, drop-drop}
 use borrow.Author.Tests.{eq-eqb, ne_eqb}
 use Rattle.loops.proofs.Turns.{turns-start, turns-step, stays}
+use Rattle.refusals.specs.declared.Refusal.{Refusal}
+use Rattle.refusals.specs.declared.Refusal.TheVariants.{Steps}
+use Rattle.refusals.specs.Calls.{unless}
+use Rattle.refusals.proofs.Calls.{taken, refused}
 use Rattle.bend_file.specs.Little.{over}
-use Rattle.bend_file.specs.Chain.{Verdict, refused, taken, link_at, link, step_number, at, ended, follow, step, turn, walked, settled, ends, told}
-use Rattle.bend_file.specs.Private.{Kept}
+use Rattle.bend_file.specs.Chain.{link_at, link, step_refusal, at, ended, follow, passed, step, turn, walked, settled, ends, told}
+use Rattle.bend_file.specs.Private as private
 use Rattle.bend_file.specs.declared.chain.Chain.{Chain}
+use Rattle.bend_file.specs.declared.step.Step.{Step}
 use Rattle.bend_file.proofs.StepRules.{kept}
 
 -- ---- an array whose front is a list
@@ -31,20 +32,20 @@ module _ (f : List ℕ) where
     unfolding walked turn
     one_more = turns-step (at (length f) []) (turn f) k ∙ ap (turn f k) here
 
-    pub on-refused : (step_number f end ≡ 0 → ⊥) → walked f (suc k) ≡ ended (refused (step_number f end))
-    unfolding step
-    on-refused h = one_more ∙ rw (ne_eqb (step_number f end) 0 h)
+    pub on-refused : (r : Refusal) → step_refusal f end ≡ Some r → walked f (suc k) ≡ ended (Err r)
+    unfolding step passed
+    on-refused r h = one_more ∙ rw h
 
-    pub on-first : step_number f end ≡ 0 → link f end ≡ 0 → walked f (suc k) ≡ ended (taken (s ++ (end ∷ [])))
-    unfolding step follow
-    on-first h e = one_more ∙ rw (eq-eqb (step_number f end) 0 h, eq-eqb (link f end) 0 e)
+    pub on-first : step_refusal f end ≡ None → link f end ≡ 0 → walked f (suc k) ≡ ended (Ok (s ++ (end ∷ [])))
+    unfolding step passed follow
+    on-first h e = one_more ∙ rw (h, eq-eqb (link f end) 0 e)
 
-    pub on-after : step_number f end ≡ 0 → (link f end ≡ 0 → ⊥) → walked f (suc k) ≡ at (link f end) (s ++ (end ∷ []))
-    unfolding step follow
-    on-after h g = one_more ∙ rw (eq-eqb (step_number f end) 0 h, ne_eqb (link f end) 0 g)
+    pub on-after : step_refusal f end ≡ None → (link f end ≡ 0 → ⊥) → walked f (suc k) ≡ at (link f end) (s ++ (end ∷ []))
+    unfolding step passed follow
+    on-after h g = one_more ∙ rw (h, ne_eqb (link f end) 0 g)
 
   -- where the walk has ended, the file's verdict stands
-  pub verdict : (k : ℕ) (v : Verdict (List ℕ)) → k ≤ 40 → walked f k ≡ ended v → ends f ≡ v
+  pub verdict : (k : ℕ) (v : Result (List ℕ) Refusal) → k ≤ 40 → walked f k ≡ ended v → ends f ≡ v
   unfolding ends walked settled turn
   verdict k v h e = ap settled (stays (turn f) (at (length f) []) (ended v) k e (λ i g. refl) 40 h)
 
@@ -55,29 +56,31 @@ module _ (f : List ℕ) where
   -- ---- the loop: `count` steps passed, their ends at the front of the array l, and the next step ends at `end`
 
   pub record Walking (count end : ℕ) (l : List ℕ) : Type 0 where
-    pub few : count ≤ 40
     pub within : end ≤ length f
     pub size : length l ≡ 40
     pub state : walked f count ≡ at end (take count l)
     pub rest : drop count l ≡ drop count (replicate 40 0)
 
   pub walk_start : Walking 0 (length f) (replicate 40 0)
-  walk_start = record { few = omega arith; within = omega arith; size = length-replicate {A = ℕ} 40 0; state = begun; rest = refl }
+  walk_start = record { within = omega arith; size = length-replicate {A = ℕ} 40 0; state = begun; rest = refl }
 
   module _ (count end : ℕ) (l : List ℕ) (w : Walking count end l) where
-    pub walk-over : 40 ≤ count → (r : Chain) → r ≡ told (refused 15) → r ≡ told (ends f)
+    pub walk-over : 40 ≤ count → count ≤ 40 → Err Steps ≡ told (ends f)
     unfolding ends settled
-    walk-over h r e = let q : count ≡ 40 = omega (arith, w.few) in e ∙ rw (← q, w.state)
+    walk-over h few = let q : count ≡ 40 = omega arith in rw (← q, w.state)
 
-    module _ (less : count < 40) (k : ℕ) (is-k : k ≡ step_number f end) where
-      pub walk_refused : (k ≡ 0 → ⊥) → (r : Chain) → r ≡ told (refused k) → r ≡ told (ends f)
-      walk_refused h r e =
-          let q = on-refused count end (take count l) w.state λ z. h (is-k ∙ z) in
-          e ∙ rw (verdict (suc count) (refused (step_number f end)) (omega arith) q, is-k)
+    module _ (less : count < 40) where
+      pub walk_refused : (r : Refusal) → Err r ≡ unless (step_refusal f end) (private.step f end) → Err r ≡ told (ends f)
+      walk_refused r e =
+          rw (verdict (suc count) (Err r) (omega arith) (on-refused count end (take count l) w.state r (refused _ _ r e)))
 
-      module _ (none : k ≡ 0) where
-        pub walk_kept : Kept f end
-        walk_kept = kept f end (sym is-k ∙ none) w.within
+      -- s is what the reader found of the step
+      module _ (s : Step) (read : Ok s ≡ unless (step_refusal f end) (private.step f end)) where
+        none : step_refusal f end ≡ None
+        none = (taken _ _ s read).0
+
+        is-link : s.link ≡ link f end
+        is-link = ap (λ (x : Step). x.link) (taken _ _ s read).1
 
         longer : take (count + 1) (set l count end) ≡ take count l ++ (end ∷ [])
         longer = rw add-one (take-suc-set l count end (omega (arith, w.size)))
@@ -85,27 +88,24 @@ module _ (f : List ℕ) where
         beyond : drop (count + 1) (set l count end) ≡ drop (count + 1) (replicate 40 0)
         beyond = drop-set-lt (count + 1) l count end (omega arith) ∙ drop_more count l (replicate 40 0) w.rest
 
-        module _ (next : ℕ) (is-next : next ≡ link f end) where
-          within-link : next ≤ length f
-          unfolding link_at
-          within-link = omega (arith, walk_kept.back, w.within)
+        within-link : s.link ≤ length f
+        unfolding link_at
+        within-link = omega (arith, is-link, (kept f end none w.within).back, w.within)
 
-          pub walk_again : (next ≡ 0 → ⊥) → Walking (count + 1) next (set l count end)
-          walk_again h =
-              record {
-                few = omega arith;
-                within = within-link;
-                size = length-set l count end ∙ w.size;
-                state = rw (longer, add-one, is-next) (on-after count end (take count l) w.state (sym is-k ∙ none) λ z. h (is-next ∙ z));
-                rest = beyond;
-              }
+        pub walk_again : (s.link ≡ 0 → ⊥) → Walking (count + 1) s.link (set l count end)
+        walk_again h =
+            record {
+              within = within-link;
+              size = length-set l count end ∙ w.size;
+              state = rw (longer, add-one, is-link) (on-after count end (take count l) w.state none λ z. h (is-link ∙ z));
+              rest = beyond;
+            }
 
-          pub walk_done : next ≡ 0 → record { number = 0; count = count + 1; ends = set l count end } ≡ told (ends f)
-          walk_done h =
-              let s = take count l ++ (end ∷ []) in
-              let q = verdict (suc count) (taken s) (omega arith)
-              (on-first count end (take count l) w.state (sym is-k ∙ none) (sym is-next ∙ h)) in
-              let n : length s ≡ count + 1 = omega
-              (arith, ap length longer, length-take (count + 1) (set l count end), length-set l count end, w.size) in
-              let g = front-is (count + 1) (set l count end) (replicate 40 0) s longer beyond n in
-              (λ i. record { number = 0; count = sym n i; ends = g i }) ∙ ap told (sym q)
+        pub walk_done : s.link ≡ 0 → Ok (record { count = count + 1; ends = set l count end }) ≡ told (ends f)
+        walk_done h =
+            let t = take count l ++ (end ∷ []) in
+            let q = verdict (suc count) (Ok t) (omega arith) (on-first count end (take count l) w.state none (sym is-link ∙ h)) in
+            let n : length t ≡ count + 1 = omega
+            (arith, ap length longer, length-take (count + 1) (set l count end), length-set l count end, w.size) in
+            let g = front-is (count + 1) (set l count end) (replicate 40 0) t longer beyond n in
+            (λ i. Ok (record { count = sym n i; ends = g i })) ∙ ap told (sym q)

@@ -1,19 +1,17 @@
 -- Document 02's chained bend file: the rules of one step, the walk from step to step, and the steps that a file holds.
 -- Definitions only. A step is the bytes from the linked offset to `end`, where its trailer ends; the fields and the
 -- rules 2, 3 and 4's count rule are those of Trailer.antt.
-use Rattle.std.specs.Prelude.{ℕ, zero, suc, ◌+◌, ◌-◌, ◌*◌, ◌≡◌, Bool, not, cond, ◌&&◌, List, [], ◌∷◌, ◌++◌, map, leb, eqb, length, replicate}
+use Rattle.std.specs.Prelude.{ℕ, zero, suc, ◌+◌, ◌-◌, ◌*◌, ◌≡◌, Bool, not, cond, ◌&&◌, List, [], ◌∷◌, ◌++◌, map, leb, eqb, length, replicate, slice_get, Option, Some, None, option_map, Result, Ok, Err}
+use Rattle.std.specs.Option.{option_or}
 use Rattle.loops.specs.Loops.{turns}
+use Rattle.refusals.specs.declared.Refusal.{Refusal}
+use Rattle.refusals.specs.declared.Refusal.TheVariants.{FileSize, FileCount, Short, Link, Steps}
+use Rattle.refusals.specs.Calls.{unless, result_map}
 use Rattle.bend_file.specs.Little.{u32, over}
-use Rattle.bend_file.specs.Trailer.{start, rows, coords, count, marked, small, counted}
-use Rattle.bend_file.specs.Read.{Problem, problem, accepted, Lent, filled}
+use Rattle.bend_file.specs.Trailer.{start, rows, coords, count, trailer_refusal}
+use Rattle.bend_file.specs.Read.{Problem, problem, shape, Lent, with_problem}
+use Rattle.bend_file.specs.declared.Shape.{Shape}
 use Rattle.bend_file.specs.declared.chain.Chain.{Chain}
-use Rattle.bend_file.specs.declared.chain.StepReading.{StepReading}
-use Rattle.bend_file.specs.declared.chain.StepReading.TheVariants as read
-
--- what a whole file gets: a number and nothing else, or A
-pub data Verdict (A : Type 0) : Type 0 where
-  refused : ℕ → Verdict A
-  taken : A → Verdict A
 
 -- ---- the link
 
@@ -32,7 +30,7 @@ link f end = u32 f (link_at f end)
 -- ---- the rules of a step
 
 -- 1: the step ends at 16 or later, and 1 MiB at most
-unfoldable pub inside : ℕ → Bool
+abbrev pub inside : ℕ → Bool
 inside end = leb 16 end && leb end 1048576
 
 -- 14: four bytes stand before the numbers
@@ -47,39 +45,35 @@ backward f end = leb (link f end) (link_at f end)
 unfoldable pub reaching_from : List ℕ → ℕ → Bool
 reaching_from f end = eqb (link f end + start f end + 8 * count f end + 16) end
 
--- the number of the first rule that the step breaks; 0 where it keeps them all. First those of the link, then with
--- those of the fields before them, then all
-unfoldable pub link_number : List ℕ → ℕ → ℕ
-link_number f end =
-    cond (not (preceded f end)) 14
-    (cond (not (backward f end)) 14
-    (cond (not (reaching_from f end)) 4 0))
+-- the first of the link's rules that is broken; none where all are kept
+unfoldable pub link_refusal : List ℕ → ℕ → Option Refusal
+link_refusal f end =
+    cond (not (preceded f end)) (Some Link)
+    (cond (not (backward f end)) (Some Link)
+    (cond (not (reaching_from f end)) (Some FileCount) None))
 
-unfoldable pub fields_number : List ℕ → ℕ → ℕ
-fields_number f end =
-    cond (not (small (rows f end) (coords f end))) 3
-    (cond (not (counted f end)) 4
-    (link_number f end))
-
-unfoldable pub step_number : List ℕ → ℕ → ℕ
-step_number f end =
-    cond (not (inside end)) 1
-    (cond (not (marked f end)) 2
-    (fields_number f end))
+-- the first of all rules that the step breaks
+unfoldable pub step_refusal : List ℕ → ℕ → Option Refusal
+step_refusal f end = cond (not (inside end)) (Some FileSize) (option_or (trailer_refusal f end) (link_refusal f end))
 
 -- ---- the walk, newest step first
 
--- where the next step ends, after those that end at `steps`; or what the file gets
+-- where the next step ends, after those that end at `steps`; or what the file gets: where its steps end, or a refusal
 pub data Walk : Type 0 where
   at : ℕ → List ℕ → Walk
-  ended : Verdict (List ℕ) → Walk
+  ended : Result (List ℕ) Refusal → Walk
 
 -- past a step that keeps its rules: a link of 0 is the first step's
 unfoldable pub follow : ℕ → List ℕ → Walk
-follow l steps = cond (eqb l 0) (ended (taken steps)) (at l steps)
+follow l steps = cond (eqb l 0) (ended (Ok steps)) (at l steps)
+
+-- a step's refusal is the whole file's
+unfoldable pub passed : Option Refusal → Walk → Walk
+passed (Some r) w = ended (Err r)
+passed None w = w
 
 unfoldable pub step : List ℕ → ℕ → List ℕ → Walk
-step f end steps = cond (eqb (step_number f end) 0) (follow (link f end) (steps ++ (end ∷ []))) (ended (refused (step_number f end)))
+step f end steps = passed (step_refusal f end) (follow (link f end) (steps ++ (end ∷ [])))
 
 unfoldable pub turn : List ℕ → ℕ → Walk → Walk
 turn f i (at end steps) = step f end steps
@@ -90,12 +84,12 @@ unfoldable pub walked : List ℕ → ℕ → Walk
 walked f i = turns i (at (length f) []) (turn f)
 
 -- 15: a 41st step, before anything else of it
-unfoldable pub settled : Walk → Verdict (List ℕ)
-settled (at end steps) = refused 15
+unfoldable pub settled : Walk → Result (List ℕ) Refusal
+settled (at end steps) = Err Steps
 settled (ended v) = v
 
 -- where the steps of a file end, newest first
-unfoldable pub ends : List ℕ → Verdict (List ℕ)
+unfoldable pub ends : List ℕ → Result (List ℕ) Refusal
 ends f = settled (walked f 40)
 
 -- ---- the steps
@@ -104,59 +98,42 @@ ends f = settled (walked f 40)
 unfoldable pub step_problem : List ℕ → ℕ → Problem
 step_problem f end = problem f (link f end + start f end) (rows f end) (coords f end)
 
-unfoldable pub problems : List ℕ → Verdict (List ℕ) → Verdict (List Problem)
-problems f (refused k) = refused k
-problems f (taken s) = taken (map (step_problem f) s)
-
 -- the steps of a file, newest first
-unfoldable pub pull : List ℕ → Verdict (List Problem)
-pull f = problems f (ends f)
+unfoldable pub pull : List ℕ → Result (List Problem) Refusal
+pull f = result_map (map (step_problem f)) (ends f)
 
 -- step number k, counted from the newest, which is 0
-pub data Step : Type 0 where
-  past : Step
-  found : Problem → Step
-
-unfoldable pub pick : List Problem → ℕ → Step
-pick [] k = past
-pick (p ∷ l) zero = found p
-pick (p ∷ l) (suc k) = pick l k
+unfoldable pub picked : Result (List Problem) Refusal → ℕ → Result (Option Problem) Refusal
+picked r k = result_map (λ l. slice_get l k) r
 
 -- ---- what the calls give back
 
--- `steps`: where the steps end, and 0 past them; 0 everywhere where the file is refused
-abbrev pub told : Verdict (List ℕ) → Chain
-told (refused k) = record { number = k; count = 0; ends = replicate 40 0 }
-told (taken s) = record { number = 0; count = length s; ends = over s (replicate 40 0) }
+abbrev pub chain_of : List ℕ → Chain
+chain_of s = record { count = length s; ends = over s (replicate 40 0) }
+
+-- `steps`: how many there are and where each ends, with 0 past them
+abbrev pub told : Result (List ℕ) Refusal → Result Chain Refusal
+told r = result_map chain_of r
 
 -- 10: the buffers' lengths are those of the largest step, or more
-unfoldable pub wide : ℕ → ℕ → ℕ → ℕ → ℕ → ℕ → ℕ → Bool
-wide w u_free lo hi scale nu motion = leb 1024 w && leb 32 u_free && leb 32 lo && leb 32 hi && leb 32 scale && leb 32 nu && leb 2048 motion
-
 abbrev pub roomy : Lent → Bool
 roomy b =
-    wide (length b.w) (length b.u_free) (length b.lo) (length b.hi) (length b.scale) (length b.nu)
-    (length b.motion)
-
-unfoldable pub picked : Verdict (List Problem) → ℕ → Verdict Step
-picked (refused n) k = refused n
-picked (taken l) k = taken (pick l k)
+    leb 1024 (length b.w) && leb 32 (length b.u_free) && leb 32 (length b.lo) && leb 32 (length b.hi)
+    && leb 32 (length b.scale) && leb 32 (length b.nu) && leb 2048 (length b.motion)
 
 -- `read_step`: 10 before anything of the file
-unfoldable pub step_answer : List ℕ → ℕ → Lent → Verdict Step
-step_answer f k b = cond (roomy b) (picked (pull f) k) (refused 10)
+unfoldable pub step_answer : List ℕ → ℕ → Lent → Result (Option Problem) Refusal
+step_answer f k b = cond (roomy b) (picked (pull f) k) (Err Short)
 
-abbrev pub step_reading : Verdict Step → StepReading
-step_reading (refused n) = read.Refused n
-step_reading (taken past) = read.Past
-step_reading (taken (found p)) = read.Problem p.rows p.coords p.tolerance
+abbrev pub step_reading : Result (Option Problem) Refusal → Result (Option Shape) Refusal
+step_reading r = result_map (option_map shape) r
 
 -- the buffers afterwards: unchanged unless there is such a step
-abbrev pub step_filled : Verdict Step → Lent → Lent
-step_filled (refused n) b = b
-step_filled (taken past) b = b
-step_filled (taken (found p)) b = filled (accepted p) b
+abbrev pub step_filled : Result (Option Problem) Refusal → Lent → Lent
+step_filled (Err r) b = b
+step_filled (Ok None) b = b
+step_filled (Ok (Some p)) b = with_problem p b
 
-pub record ReadsStep (f : List ℕ) (k : ℕ) (r : StepReading) (before after : Lent) : Type 0 where
+pub record ReadsStep (f : List ℕ) (k : ℕ) (r : Result (Option Shape) Refusal) (before after : Lent) : Type 0 where
   pub result : r ≡ step_reading (step_answer f k before)
   pub buffers : after ≡ step_filled (step_answer f k before) before

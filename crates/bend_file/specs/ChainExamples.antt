@@ -1,15 +1,16 @@
 -- Worked chains, as one table that the checker computes: each rule kept and broken at its limit, and which rule comes
 -- first. The numbers are those of the replayed files in crates/replay_chains/data, where the chains too large to
 -- compute here stand too.
-use Rattle.std.specs.Prelude.{◌≡◌, refl, Bool, true, false, ◌&&◌, List, [], ◌∷◌, ◌++◌, ℕ, zero, suc, ◌+◌, ◌-◌, ◌*◌, eqb, length, take, drop, replicate}
+use Rattle.std.specs.Prelude.{◌≡◌, refl, Bool, true, false, ◌&&◌, List, [], ◌∷◌, ◌++◌, ℕ, zero, suc, ◌+◌, ◌-◌, ◌*◌, eqb, length, take, drop, replicate, Result, Ok, Err}
 use Rattle.std.specs.Float.Ieee.{of_bits, to_bits}
 use Rattle.loops.specs.Loops.{tab, turns}
 use Rattle.loops.specs.Lists.{same_by}
 use Rattle.bend_file.specs.Little.{u16, u32, u64, value, values}
-use Rattle.bend_file.specs.Trailer.{start, rows, coords, count, marked, small, counted}
+use Rattle.bend_file.specs.Trailer.{start, rows, coords, count, marked, counted, trailer_refusal}
 use Rattle.bend_file.specs.Read.{Problem, problem}
+use Rattle.refusals.specs.Numbers as numbers
+use Rattle.refusals.specs.declared.Refusal.{Refusal}
 use Rattle.bend_file.specs.Chain as chain
-use Rattle.bend_file.specs.Chain.{Verdict, refused, taken}
 use Rattle.bend_file.specs.Examples.{two, four, eight, patterns, mark, trailer, bits, Bits, same, 1ᵇ, nan_bits, example, example_bits, none, free}
 
 -- ---- files, written out
@@ -42,19 +43,19 @@ data Case : Type 0 where
   gives : List ℕ → List Bits → Case
   gets : List ℕ → ℕ → Case
 
-reads : Verdict (List Problem) → List Bits → Bool
-reads (refused k) b = false
-reads (taken l) b = same_by same l b
+reads : Result (List Problem) Refusal → List Bits → Bool
+reads (Err r) b = false
+reads (Ok l) b = same_by same l b
 
-numbered : Verdict (List Problem) → ℕ → Bool
-numbered (refused n) k = eqb n k
-numbered (taken l) k = false
+numbered : Result (List Problem) Refusal → ℕ → Bool
+numbered (Err r) k = eqb (numbers.number r) k
+numbered (Ok l) k = false
 
 passes : Case → Bool
 unfolding
-    chain.pull chain.problems chain.ends chain.settled chain.walked chain.turn chain.step chain.follow chain.step_number chain.fields_number
-    chain.link_number chain.inside chain.preceded chain.backward chain.reaching_from chain.link chain.link_at chain.step_problem problem
-    marked small counted start rows coords count value values u16 u32 u64 tab turns of_bits to_bits
+    chain.pull chain.ends chain.settled chain.walked chain.turn chain.step chain.passed chain.follow chain.step_refusal
+    chain.link_refusal chain.preceded chain.backward chain.reaching_from chain.link chain.link_at chain.step_problem problem
+    trailer_refusal marked counted start rows coords count value values u16 u32 u64 tab turns of_bits to_bits
 passes (gives f b) = reads (chain.pull f) b
 passes (gets f k) = numbered (chain.pull f) k
 

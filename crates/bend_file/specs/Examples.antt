@@ -1,13 +1,14 @@
 -- Worked files, as one table that the checker computes: document 01's example, and each rule kept and broken at its
 -- limit.
-use Rattle.std.specs.Prelude.{◌≡◌, refl, Bool, true, false, ◌&&◌, List, [], ◌∷◌, ◌++◌, ℕ, ◌/◌, ◌%◌, eqb, Float, replicate}
+use Rattle.std.specs.Prelude.{◌≡◌, refl, Bool, true, false, ◌&&◌, List, [], ◌∷◌, ◌++◌, ℕ, ◌/◌, ◌%◌, eqb, Float, replicate, Result, Ok, Err}
 use Rattle.std.specs.Float.{binary64}
 use Rattle.std.specs.Float.Ieee.{of_bits, to_bits}
 use Rattle.loops.specs.Loops.{tab, turns}
 use Rattle.loops.specs.Lists.{same_by}
 use Rattle.bend_file.specs.Little.{u16, u32, u64, value, values}
-use Rattle.bend_file.specs.Trailer.{start, rows, coords, count, sized, marked, small, counted, reaching, number}
-use Rattle.bend_file.specs.Read.{Problem, problem, Answer, refused, accepted, answer}
+use Rattle.bend_file.specs.Trailer.{start, rows, coords, count, marked, counted, reaching, trailer_refusal, refusal, number}
+use Rattle.refusals.specs.declared.Refusal.{Refusal}
+use Rattle.bend_file.specs.Read.{Problem, problem, answer}
 
 -- ---- files, written out
 
@@ -69,12 +70,12 @@ data Case : Type 0 where
   gives : List ℕ → Bits → Case
   gets : List ℕ → ℕ → Case
 
-reads : Answer → Bits → Bool
-reads (refused k) b = false
-reads (accepted p) b = same p b
+reads : Result Problem Refusal → Bits → Bool
+reads (Err r) b = false
+reads (Ok p) b = same p b
 
 passes : Case → Bool
-unfolding answer problem number sized marked small counted reaching start rows coords count value values u16 u32 u64 tab turns of_bits to_bits
+unfolding answer problem number refusal trailer_refusal marked counted reaching start rows coords count value values u16 u32 u64 tab turns of_bits to_bits
 passes (gives f b) = reads (answer f) b
 passes (gets f k) = eqb (number f) k
 

@@ -1,9 +1,10 @@
 -- The problem that a bend file holds. Definitions only.
-use Rattle.std.specs.Prelude.{ℕ, ◌+◌, ◌*◌, ◌≤◌, ◌≡◌, cond, List, eqb, Float, length}
+use Rattle.std.specs.Prelude.{ℕ, ◌+◌, ◌*◌, ◌≡◌, List, Float, length, Result, Ok, Err}
+use Rattle.refusals.specs.declared.Refusal.{Refusal}
+use Rattle.refusals.specs.Calls.{unless, result_map}
 use Rattle.bend_file.specs.Little.{value, values, over}
-use Rattle.bend_file.specs.Trailer.{start, rows, coords, Small, wanted, number}
-use Rattle.bend_file.specs.declared.Reading.{Reading}
-use Rattle.bend_file.specs.declared.Reading.TheVariants as read
+use Rattle.bend_file.specs.Trailer.{start, rows, coords, refusal}
+use Rattle.bend_file.specs.declared.Shape.{Shape}
 
 pub record Problem : Type 0 where
   pub rows : ℕ
@@ -33,21 +34,17 @@ problem f s n c =
       tolerance = value f (s + 8 * (n * n + 5 * n + c * n));
     }
 
--- an answer, as document 01 has it: a number and nothing else, or the problem
-pub data Answer : Type 0 where
-  refused : ℕ → Answer
-  accepted : Problem → Answer
-
-unfoldable pub answer : List ℕ → Answer
-answer f =
-    let end = length f in
-    cond (eqb (number f) 0) (accepted (problem f (start f end) (rows f end) (coords f end))) (refused (number f))
+-- an answer, as document 01 has it: the problem, or a refusal and nothing else
+unfoldable pub answer : List ℕ → Result Problem Refusal
+answer f = let end = length f in unless (refusal f) (problem f (start f end) (rows f end) (coords f end))
 
 -- ---- what the call gives back
 
-abbrev pub reading : Answer → Reading
-reading (refused k) = read.Refused k
-reading (accepted p) = read.Problem p.rows p.coords p.tolerance
+abbrev pub shape : Problem → Shape
+shape p = record { rows = p.rows; coords = p.coords; tolerance = p.tolerance }
+
+abbrev pub reading : Result Problem Refusal → Result Shape Refusal
+reading a = result_map shape a
 
 -- the lent buffers
 pub record Lent : Type 0 where
@@ -59,10 +56,9 @@ pub record Lent : Type 0 where
   pub nu : List Float
   pub motion : List Float
 
--- the buffers afterwards: unchanged by a refusal, else each with the problem's values at its front
-abbrev pub filled : Answer → Lent → Lent
-filled (refused k) b = b
-filled (accepted p) b =
+-- the buffers with the problem's values at their fronts
+abbrev pub with_problem : Problem → Lent → Lent
+with_problem p b =
     record {
       w = over p.w b.w;
       u_free = over p.u_free b.u_free;
@@ -73,17 +69,12 @@ filled (accepted p) b =
       motion = over p.motion b.motion;
     }
 
--- the values that start at s lie in the file and have room in the buffers
-pub record Room (f : List ℕ) (s n c : ℕ) : Type 0 where
-  pub inside : s + 8 * wanted n c ≤ length f
-  pub small : Small n c
-
--- p's values are in the buffers and its tolerance is t
-pub record Filled (p : Problem) (t : Float) (before after : Lent) : Type 0 where
-  pub tolerance : t ≡ p.tolerance
-  pub buffers : after ≡ filled (accepted p) before
+-- the buffers afterwards: unchanged by a refusal, else each with the problem's values at its front
+abbrev pub filled : Result Problem Refusal → Lent → Lent
+filled (Err r) b = b
+filled (Ok p) b = with_problem p b
 
 -- what `read` ensures: its result and what it leaves in the buffers are those of the file's answer
-pub record Reads (f : List ℕ) (r : Reading) (before after : Lent) : Type 0 where
+pub record Reads (f : List ℕ) (r : Result Shape Refusal) (before after : Lent) : Type 0 where
   pub result : r ≡ reading (answer f)
   pub buffers : after ≡ filled (answer f) before

@@ -1,9 +1,11 @@
 -- The trailer of a bend file and document 01's rules. Definitions only. `end` is where the trailer ends: in a file by
 -- itself, the file's length.
-use Rattle.std.specs.Prelude.{ℕ, ◌+◌, ◌-◌, ◌*◌, ◌≤◌, Bool, not, cond, ◌&&◌, List, leb, eqb, length}
+use Rattle.std.specs.Prelude.{ℕ, ◌+◌, ◌-◌, ◌*◌, ◌≤◌, Bool, not, cond, ◌&&◌, List, leb, eqb, length, Option, Some, None}
+use Rattle.std.specs.Option.{option_or}
+use Rattle.refusals.specs.declared.Refusal.{Refusal}
+use Rattle.refusals.specs.declared.Refusal.TheVariants.{FileSize, FileMark, FileLimits, FileCount}
+use Rattle.refusals.specs.Calls.{or_zero}
 use Rattle.bend_file.specs.Little.{byte, u16, u32}
-use Rattle.bend_file.specs.declared.trailer.Shape.{Shape}
-use Rattle.bend_file.specs.declared.trailer.Shape.TheVariants.{Refused, At}
 
 -- ---- the fields
 
@@ -24,7 +26,7 @@ count f end = u32 f (end - 8)
 -- ---- the rules
 
 -- 1: 16 to 65,536 bytes
-unfoldable pub sized : ℕ → Bool
+abbrev pub sized : ℕ → Bool
 sized bytes = leb 16 bytes && leb bytes 65536
 
 -- 2: the mark is 42 45 4E 44
@@ -32,7 +34,7 @@ unfoldable pub marked : List ℕ → ℕ → Bool
 marked f end = eqb (byte f (end - 4)) 0x42 && eqb (byte f (end - 3)) 0x45 && eqb (byte f (end - 2)) 0x4E && eqb (byte f (end - 1)) 0x44
 
 -- 3: at most 32 rows, and at most 2,048 values of motion
-unfoldable pub small : ℕ → ℕ → Bool
+abbrev pub small : ℕ → ℕ → Bool
 small n c = leb n 32 && leb (c * n) 2048
 
 pub record Small (n c : ℕ) : Type 0 where
@@ -52,16 +54,21 @@ counted f end = eqb (count f end) (wanted (rows f end) (coords f end))
 unfoldable pub reaching : List ℕ → ℕ → Bool
 reaching f end = eqb (start f end + 8 * count f end + 16) end
 
--- the number of the first rule that the file breaks; 0 where it keeps them all
-unfoldable pub number : List ℕ → ℕ
-number f =
-    let end = length f in
-    cond (not (sized end)) 1
-    (cond (not (marked f end)) 2
-    (cond (not (small (rows f end) (coords f end))) 3
-    (cond (not (counted f end)) 4
-    (cond (not (reaching f end)) 4 0))))
+-- the first of the mark's and the fields' rules that is broken; none where all are kept
+unfoldable pub trailer_refusal : List ℕ → ℕ → Option Refusal
+trailer_refusal f end =
+    cond (not (marked f end)) (Some FileMark)
+    (cond (not (small (rows f end) (coords f end))) (Some FileLimits)
+    (cond (not (counted f end)) (Some FileCount) None))
 
--- what the reader's first half answers
-unfoldable pub shape : List ℕ → Shape
-shape f = let end = length f in cond (eqb (number f) 0) (At (start f end) (rows f end) (coords f end)) (Refused (number f))
+-- the first of all rules that the file breaks
+unfoldable pub refusal : List ℕ → Option Refusal
+refusal f =
+    let end = length f in
+    cond (not (sized end)) (Some FileSize)
+    (option_or (trailer_refusal f end)
+    (cond (not (reaching f end)) (Some FileCount) None))
+
+-- its number; 0 where the file keeps them all
+unfoldable pub number : List ℕ → ℕ
+number f = or_zero (refusal f)

@@ -5,21 +5,20 @@
 ghost use Rattle.bend_file.specs.Read as read;
 
 pub mod chain;
+mod lent;
 mod little;
-mod parts;
 mod step;
 mod trailer;
 
-// What a bend file gives: document 01's number, or the problem's rows, coordinates and motion tolerance, its other
-// values being in the lent buffers.
+use lent::Lent;
+use refusals::Refusal;
+
+// A problem's rows, coordinates and motion tolerance. Its other values are in the lent buffers.
 #[derive(Clone, Copy)]
-pub enum Reading {
-    Refused(u32),
-    Problem {
-        rows: usize,
-        coords: usize,
-        tolerance: f64,
-    },
+pub struct Shape {
+    pub rows: usize,
+    pub coords: usize,
+    pub tolerance: f64,
 }
 
 // Reads a bend file. With n rows, W is the first n * n values of `w`, row by row; u_free, lo, hi, scale and nu are the
@@ -34,7 +33,7 @@ pub fn read(
     scale: &mut [f64; 32],
     nu: &mut [f64; 32],
     motion: &mut [f64; 2048],
-) -> Reading
+) -> Result<Shape, Refusal>
     ensures { read.Reads file.now result
         (record {
           w = w.old;
@@ -55,21 +54,15 @@ pub fn read(
           motion = motion.new;
         }) }
 {
-    match trailer::shape_of(file) {
-        trailer::Shape::Refused(number) => Reading::Refused(number),
-        trailer::Shape::At {
-            start,
-            rows,
-            coords,
-        } => {
-            let tolerance = parts::problem(
-                file, start, rows, coords, w, u_free, lo, hi, scale, nu, motion,
-            );
-            Reading::Problem {
-                rows,
-                coords,
-                tolerance,
-            }
-        }
-    }
+    let values = trailer::of_file(file)?;
+    let mut lent = Lent {
+        w,
+        u_free,
+        lo,
+        hi,
+        scale,
+        nu,
+        motion,
+    };
+    Ok(lent.fill(file, values))
 }

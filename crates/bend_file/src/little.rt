@@ -1,43 +1,38 @@
 // Numbers from bytes, the lowest byte first.
-ghost use Rattle.std.specs.Prelude.{◌≡◌, ◌+◌, ◌<◌, ◌≤◌, length};
+ghost use Rattle.std.specs.Prelude.{◌≡◌, ◌+◌, ◌≤◌, length, take, drop};
 ghost use Rattle.bend_file.specs.Little as little;
 
-pub fn byte_at(file: &[u8], at: usize) -> u64
-    requires { at + 1 ≤ length file.now }
-    ensures { (result ≡ little.byte file.now at) × (result < 256) }
+use std::num::f64_from_bits_with_nan;
+
+// The N bytes from `at` on.
+fn bytes_at<const N: usize>(file: &[u8], at: usize) -> [u8; N]
+    requires { at + N ≤ length file.now }
+    ensures { result ≡ take N (drop at file.now) }
 {
-    file[at] as u64
+    let mut bytes = [0; N];
+    bytes.copy_from_slice(&file[at..at + N]);
+    bytes
 }
 
-pub fn u16_at(file: &[u8], at: usize) -> u64
+pub fn u16_at(file: &[u8], at: usize) -> u16
     requires { at + 2 ≤ length file.now }
-    ensures { (result ≡ little.u16 file.now at) × (result < 65536) }
+    ensures { result ≡ little.u16 file.now at }
 {
-    byte_at(file, at) + 256 * byte_at(file, at + 1)
+    u16::from_le_bytes(bytes_at(file, at))
 }
 
-pub fn u32_at(file: &[u8], at: usize) -> u64
+pub fn u32_at(file: &[u8], at: usize) -> u32
     requires { at + 4 ≤ length file.now }
-    ensures { (result ≡ little.u32 file.now at) × (result < 4294967296) }
+    ensures { result ≡ little.u32 file.now at }
 {
-    u16_at(file, at) + 65536 * u16_at(file, at + 2)
+    u32::from_le_bytes(bytes_at(file, at))
 }
 
-pub fn u64_at(file: &[u8], at: usize) -> u64
-    requires { at + 8 ≤ length file.now }
-    ensures { result ≡ little.u64 file.now at }
-{
-    u32_at(file, at) + 4294967296 * u32_at(file, at + 4)
-}
-
-// The f64 of these 8 bytes. `from_bits` is not defined at the pattern of a NaN, and 0.0 / 0.0 is the NaN.
+// The f64 of these 8 bytes: every pattern of a NaN is read as the one NaN.
 pub fn f64_at(file: &[u8], at: usize) -> f64
     requires { at + 8 ≤ length file.now }
     ensures { result ≡ little.value file.now at }
 {
-    let bits = u64_at(file, at);
-    if bits % 0x8000_0000_0000_0000 > 0x7ff0_0000_0000_0000 {
-        return 0.0 / 0.0;
-    }
-    f64::from_bits(bits)
+    let bits = u64::from_le_bytes(bytes_at(file, at));
+    f64_from_bits_with_nan(bits)
 }

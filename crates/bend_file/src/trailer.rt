@@ -1,77 +1,101 @@
 // The trailer of a bend file and the rules that it keeps.
-ghost use Rattle.std.specs.Prelude.{◌≡◌, ◌<◌, ◌≤◌, length};
+ghost use Rattle.std.specs.Prelude.{◌≡◌, leb, ◌&&◌, ◌+◌, ◌*◌, ◌<◌, ◌≤◌, ◌^◌, length, IfOk};
+ghost use Rattle.refusals.specs.Calls.{unless};
 ghost use Rattle.bend_file.specs.Trailer as trailer;
+ghost use Rattle.bend_file.specs.Private as private;
 
-use crate::little;
+use crate::little::{u16_at, u32_at};
+use refusals::Refusal;
 
-// A file's number, or where its values start and how many there are.
+// The most rows of a problem, and the most values of its motion.
+pub const MAX_ROWS: usize = 32;
+
+pub const MAX_MOTION: usize = 2048;
+
+// The bytes of a trailer, and the fewest of a file.
+pub const TRAILER: usize = 16;
+
+// The most bytes of a bend file by itself.
+const MAX_BYTES: usize = 65536;
+
+// Where the values of a problem start, and how many rows, coordinates and values there are.
 #[derive(Clone, Copy)]
-pub enum Shape {
-    Refused(u32),
-    At {
-        start: usize,
-        rows: usize,
-        coords: usize,
-    },
+pub struct Values {
+    pub start: usize,
+    pub rows: usize,
+    pub coords: usize,
+    pub count: usize,
+}
+
+impl Values {
+    // Where a trailer just behind the values ends.
+    pub fn end(self) -> usize
+        requires { self.start + 8 * self.count < 2 ^ 63 }
+        ensures { result ≡ self.start + 8 * self.count + 16 }
+    {
+        self.start + 8 * self.count + TRAILER
+    }
 }
 
 // Document 01's rules in their order.
-pub fn shape_of(file: &[u8]) -> Shape
-    ensures { result ≡ trailer.shape file.now }
+pub fn of_file(file: &[u8]) -> Result<Values, Refusal>
+    ensures { result ≡ unless (trailer.refusal file.now) (private.values file.now (length file.now)) }
 {
     let end = file.len();
-    if end < 16 {
-        return Shape::Refused(1);
+    if !sized(end, MAX_BYTES) {
+        return Err(Refusal::FileSize);
     }
-    if end > 65536 {
-        return Shape::Refused(1);
+    let values = read(file, end)?;
+    if values.end() != end {
+        return Err(Refusal::FileCount);
     }
-    if !marked(file, end) {
-        return Shape::Refused(2);
-    }
-    let start = little::u32_at(file, end - 16) as usize;
-    let rows = little::u16_at(file, end - 12) as usize;
-    let coords = little::u16_at(file, end - 10) as usize;
-    let count = little::u32_at(file, end - 8) as usize;
-    if !small(rows, coords) {
-        return Shape::Refused(3);
-    }
-    if count != wanted(rows, coords) {
-        return Shape::Refused(4);
-    }
-    if start + 8 * count + 16 != end {
-        return Shape::Refused(4);
-    }
-    Shape::At {
-        start,
-        rows,
-        coords,
-    }
+    Ok(values)
 }
 
-// Whether the four bytes before `end` are 42 45 4E 44.
-pub fn marked(file: &[u8], end: usize) -> bool
+// The fields of the trailer that ends at `end`, where it has the mark and they keep the rules of a problem's size.
+pub fn read(file: &[u8], end: usize) -> Result<Values, Refusal>
+    requires { (16 ≤ end) × (end ≤ length file.now) }
+    ensures read { result ≡ unless (trailer.trailer_refusal file.now end) (private.values file.now end) }
+    ensures fits { IfOk result (λ v. (v.start < 2 ^ 32) × (v.count < 2 ^ 32)) }
+{
+    if !marked(file, end) {
+        return Err(Refusal::FileMark);
+    }
+    let rows = usize::from(u16_at(file, end - 12));
+    let coords = usize::from(u16_at(file, end - 10));
+    if !small(rows, coords) {
+        return Err(Refusal::FileLimits);
+    }
+    let count = u32_at(file, end - 8) as usize;
+    if count != rows * rows + 5 * rows + coords * rows + 1 {
+        return Err(Refusal::FileCount);
+    }
+    Ok(Values {
+        start: u32_at(file, end - TRAILER) as usize,
+        rows,
+        coords,
+        count,
+    })
+}
+
+fn marked(file: &[u8], end: usize) -> bool
     requires { (4 ≤ end) × (end ≤ length file.now) }
     ensures { result ≡ trailer.marked file.now end }
 {
-    (file[end - 4] == 0x42)
-        & (file[end - 3] == 0x45)
-        & (file[end - 2] == 0x4E)
-        & (file[end - 1] == 0x44)
+    file[..end].ends_with(b"BEND")
 }
 
-// Whether there are at most 32 rows and 2,048 values of motion.
-pub fn small(rows: usize, coords: usize) -> bool
-    requires { (rows < 65536) × (coords < 65536) }
+// Whether a problem may have so many rows and coordinates.
+fn small(rows: usize, coords: usize) -> bool
+    requires { coords < 65536 }
     ensures { result ≡ trailer.small rows coords }
 {
-    (rows <= 32) & (coords * rows <= 2048)
+    rows <= MAX_ROWS && coords * rows <= MAX_MOTION
 }
 
-// How many values a file of that many rows and coordinates has.
-pub fn wanted(rows: usize, coords: usize) -> usize
-    requires { trailer.Small rows coords }
-    ensures { result ≡ trailer.wanted rows coords }
+// Whether what ends there has room for a trailer and is not too long.
+pub fn sized(end: usize, most: usize) -> bool
+    ensures { result ≡ (leb 16 end && leb end most) }
 {
-    rows * rows + 5 * rows + coords * rows + 1
+    (TRAILER..=most).contains(&end)
 }

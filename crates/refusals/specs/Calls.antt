@@ -12,3 +12,8 @@ or_zero None = 0
 abbrev pub unless : {A : Type 0} → Option Refusal → A → Result A Refusal
 unless (Some r) x = Err r
 unless None x = Ok x
+
+-- `r.map(f)`
+abbrev pub result_map : {A B : Type 0} → (A → B) → Result A Refusal → Result B Refusal
+result_map f (Ok x) = Ok (f x)
+result_map f (Err r) = Err r

@@ -1,40 +1,26 @@
-use native.Mathlib.Omega.{arith}
-use mathlib.Core.Path.{sym, ◌∙◌}
-use Rattle.bend_file.specs.Read as read
-use Rattle.bend_file.proofs.Picked.{reads_short, reads-refused, reads-past, reads-found, fits}
+use Rattle.std.proofs.Common.{◌≡◌, Err, sym, ◌∙◌}
+use borrow.Author.Rules.{rules}
+use Rattle.bend_file.proofs.Picked.{inside, room, reads_short, reads-refused, reads-past, reads-found}
 use Rattle.bend_file.proofs.chain.read_step.Goals as goal
 
-pub returns-then-not-wide : goal.returns-then-not-wide
-returns-then-not-wide c = reads_short _ _ _ (sym c.wide.ensures ∙ c.if-not-wide.true)
+pub returns-then-not-is_roomy : goal.returns-then-not-is_roomy
+returns-then-not-is_roomy c = reads_short _ _ _ (sym c.is_roomy.ensures ∙ c.if-not-is_roomy.true)
 
-pub overflow_mul-rows : goal.overflow_mul-rows
-overflow_mul-rows c = let are-wide = sym c.wide.ensures ∙ c.if-not-wide.false in
-    let is_found = sym c.in-At.is ∙ c.find.ensures in
-    omega (arith, (fits _ _ _ _ _ _ _ _ _ _ _ _ are-wide is_found).square)
+pub returns-in_err-values : goal.returns-in_err-values
+returns-in_err-values c =
+    let is : c.from_residual.result ≡ Err c.in_err-values.field-0.0 = search rules in
+    rw is (reads-refused _ _ _ (sym c.is_roomy.ensures ∙ c.if-not-is_roomy.false) _ c.in_err-values.ensures)
 
-pub boxes-requires : goal.boxes-requires
-boxes-requires c = let are-wide = sym c.wide.ensures ∙ c.if-not-wide.false in
-    let is_found = sym c.in-At.is ∙ c.find.ensures in
-    (fits _ _ _ _ _ _ _ _ _ _ _ _ are-wide is_found).boxes
+pub returns-in_default : goal.returns-in_default
+returns-in_default c = reads-past _ _ _ (sym c.is_roomy.ensures ∙ c.if-not-is_roomy.false) (search rules)
 
-pub cells-tolerance-requires : goal.cells-tolerance-requires
-cells-tolerance-requires c = let are-wide = sym c.wide.ensures ∙ c.if-not-wide.false in
-    let is_found = sym c.in-At.is ∙ c.find.ensures in
-    (fits _ _ _ _ _ _ _ _ _ _ _ _ are-wide is_found).cells
+pub fill-requires-clause-inside : goal.fill-requires-clause-inside
+fill-requires-clause-inside c = inside _ _ _ (rw c.in-Some.is at c.in_ok-values.ensures)
 
-pub returns-in-Refused : goal.returns-in-Refused
-returns-in-Refused c = reads-refused _ _ _ (sym c.wide.ensures ∙ c.if-not-wide.false) _
-    (sym c.in-Refused.is ∙ c.find.ensures)
+pub fill-requires-clause-room : goal.fill-requires-clause-room
+fill-requires-clause-room c =
+    let v = inside _ _ _ (rw c.in-Some.is at c.in_ok-values.ensures) in
+    room _ _ _ (sym c.is_roomy.ensures ∙ c.if-not-is_roomy.false) v.small
 
-pub returns-in-Past : goal.returns-in-Past
-returns-in-Past c = reads-past _ _ _ (sym c.wide.ensures ∙ c.if-not-wide.false)
-    (sym c.in-Past.is ∙ c.find.ensures)
-
-pub returns-in-At : goal.returns-in-At
-unfolding read.problem
-returns-in-At c = let are-wide = sym c.wide.ensures ∙ c.if-not-wide.false in
-    let is_found = sym c.in-At.is ∙ c.find.ensures in
-    let b = c.boxes.ensures in
-    let v = c.cells-tolerance.ensures in
-    reads-found _ _ _ are-wide _ _ _ _ _ is_found v.0
-    (λ i. record { w = v.1 i; u_free = b.0 i; lo = b.1 i; hi = b.2 i; scale = b.3 i; nu = b.4 i; motion = v.2 i })
+pub returns : goal.returns
+returns c = reads-found _ _ _ (sym c.is_roomy.ensures ∙ c.if-not-is_roomy.false) _ _ _ (rw c.in-Some.is at c.in_ok-values.ensures) c.fill.ensures.shape (search rules)

@@ -1,21 +1,18 @@
-use Rattle.bend_file.proofs.Walks.{walk_start, walk_refused, walk_kept, walk_again, walk_done, walk-over}
+use Rattle.bend_file.proofs.Walks.{walk_start, walk_refused, walk_again, walk_done, walk-over}
 use borrow.Author.Rules.{rules}
 use Rattle.bend_file.proofs.chain.steps.Goals as goal
 
-pub loop-count-init : goal.loop-count-init
-loop-count-init c = search (walk_start, rules)
+pub loop-passed-init : goal.loop-passed-init
+loop-passed-init c = walk_start _
 
-pub returns-then-number-ne0 : goal.returns-then-number-ne0
-returns-then-number-ne0 c = search (walk_refused, rules)
+pub returns-in_err-step : goal.returns-in_err-step
+returns-in_err-step c = rw (← walk_refused _ _ _ _ c.loop-passed.invariant c.loop-passed-test.true _ c.in_err-step.ensures) (search rules)
 
-pub link-end-requires : goal.link-end-requires
-link-end-requires c = search (walk_kept, rules)
+pub returns-then-step-eq0 : goal.returns-then-step-eq0
+returns-then-step-eq0 c = walk_done _ _ _ _ c.loop-passed.invariant c.loop-passed-test.true _ c.in_ok-step.ensures c.if-step-eq0.true
 
-pub returns-then-end-eq0 : goal.returns-then-end-eq0
-returns-then-end-eq0 c = search (walk_done, rules)
-
-pub loop-count-preserved : goal.loop-count-preserved
-loop-count-preserved c = search (walk_again, rules)
+pub loop-passed-preserved : goal.loop-passed-preserved
+loop-passed-preserved c = walk_again _ _ _ _ c.loop-passed.invariant c.loop-passed-test.true _ c.in_ok-step.ensures c.if-step-eq0.false
 
 pub returns : goal.returns
-returns c = search (walk-over, rules)
+returns c = walk-over _ _ _ _ c.loop-passed.invariant c.loop-passed-test.false c.loop-passed.auto.passed-end

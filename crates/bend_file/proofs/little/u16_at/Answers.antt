@@ -1,8 +1,5 @@
-use Rattle.bend_file.specs.Little as little
-use borrow.Author.Rules.{rules}
+use Rattle.bend_file.proofs.Bytes.{number16}
 use Rattle.bend_file.proofs.little.u16_at.Goals as goal
 
--- `bend_file::little::u16_at` meets its contract. Assumes nothing.
 pub returns : goal.returns
-unfolding little.u16
-returns c = search rules
+returns c = rw (c.from_le_bytes.ensures, c.bytes_at.ensures, number16)

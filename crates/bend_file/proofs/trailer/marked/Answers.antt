@@ -1,8 +1,6 @@
-use Rattle.bend_file.specs.Trailer as trailer
-use borrow.Author.Rules.{rules}
+use Rattle.bend_file.proofs.Bytes.{mark-at-end}
+use mathlib.Core.Path.{◌∙◌}
 use Rattle.bend_file.proofs.trailer.marked.Goals as goal
 
--- `bend_file::trailer::marked` meets its contract. Assumes nothing.
 pub returns : goal.returns
-unfolding trailer.marked
-returns c = search rules
+returns c = c.ends_with.ensures.value ∙ mark-at-end _ _ c.requires.0 c.requires.1
