@@ -6,6 +6,8 @@ use mathlib.Core.List.{List, [], ◌∷◌, ◌++◌, map, reverse, reverse-appe
 use native.Mathlib.Omega.{arith}
 use native.Mathlib.Nat.{add-zero, add-suc}
 use lib.Dec.{leb}
+use Rattle.std.proofs.Common.{None, Result, Ok}
+use Rattle.refusals.specs.declared.Refusal.{Refusal}
 use lib.Ieee.{Float, nan, fits}
 use lib.ListN.{length, get_or, take, drop, take-append-drop}
 use lib.Seq.{append_snoc, take-append-le, take_all, take_at, get_or-drop}
@@ -20,7 +22,7 @@ use Rattle.bend_writer.specs.Steps.{Step, step_bytes, chained, file, step_number
 use Rattle.bend_writer.specs.Write.{part, before, step_at, lent}
 use Rattle.bend_writer.proofs.Chained.{tab-suc, file_snoc, length-suc, front_length, step_kept}
 use Rattle.bend_writer.proofs.Rules.{Kept, rules-kept, square-fits, accepted, written_is, taken, bytes_are, left-written}
-use Rattle.bend_writer.proofs.StepBack.{number_is, link-is, problem-is}
+use Rattle.bend_writer.proofs.StepBack.{refusal-is, link-is, problem-is}
 use Rattle.bend_writer.proofs.Within.{tab-take}
 
 -- ---- the walk by its first turn
@@ -36,7 +38,7 @@ module _ (f : List ℕ) where
   first-turn zero w = refl
   first-turn (suc k) w = ap (chain.turn f (suc k)) (first-turn k w) ∙ turn_any (suc k) k _
 
-  ended_stays : (k : ℕ) (v : chain.Verdict (List ℕ)) → turns k (chain.ended v) (chain.turn f) ≡ chain.ended v
+  ended_stays : (k : ℕ) (v : Result (List ℕ) Refusal) → turns k (chain.ended v) (chain.turn f) ≡ chain.ended v
   unfolding turns chain.turn
   ended_stays zero v = refl
   ended_stays (suc k) v = rw (ended_stays k v)
@@ -84,8 +86,8 @@ module _ (f : ℕ → Step) (n : ℕ) (kept : steps_number (tab f n) ≡ 0) (few
     inside : end (suc m) ≤ 1048576
     inside = omega (arith, bound (suc m) h)
 
-    rules : chain.step_number whole (end (suc m)) ≡ 0
-    rules = number_is whole (file (tab f m)) (drop (end (suc m)) whole) (f m) (split m h) (end (suc m)) (length-suc f m) (kept_at m h) inside
+    rules : chain.step_refusal whole (end (suc m)) ≡ None
+    rules = refusal-is whole (file (tab f m)) (drop (end (suc m)) whole) (f m) (split m h) (end (suc m)) (length-suc f m) (kept_at m h) inside
 
     link : chain.link whole (end (suc m)) ≡ end m
     link = link-is whole (file (tab f m)) (drop (end (suc m)) whole) (f m) (split m h) (end (suc m)) (length-suc f m) (kept_at m h) inside
@@ -94,7 +96,7 @@ module _ (f : ℕ → Step) (n : ℕ) (kept : steps_number (tab f n) ≡ 0) (few
     problem = problem-is whole (file (tab f m)) (drop (end (suc m)) whole) (f m) (split m h) (end (suc m)) (length-suc f m) (kept_at m h) inside (held m)
 
     turned : (steps : List ℕ) → chain.turn whole 0 (chain.at (end (suc m)) steps) ≡ chain.follow (end m) (steps ++ (end (suc m) ∷ []))
-    unfolding chain.turn chain.step
+    unfolding chain.turn chain.step chain.passed
     turned steps = rw (rules, link)
 
   -- the ends of the first m steps, newest first
@@ -106,7 +108,7 @@ module _ (f : ℕ → Step) (n : ℕ) (kept : steps_number (tab f n) ≡ 0) (few
   unfolding chain.follow
   follows m steps h = rw (ne_eqb (end (suc m)) 0 (λ (e : end (suc m) ≡ 0). omega (arith, length-suc f m)))
 
-  walk : (m k : ℕ) (steps : List ℕ) → m < n → turns (suc m + k) (chain.at (end (suc m)) steps) (chain.turn whole) ≡ chain.ended (chain.taken (steps ++ newest (suc m)))
+  walk : (m k : ℕ) (steps : List ℕ) → m < n → turns (suc m + k) (chain.at (end (suc m)) steps) (chain.turn whole) ≡ chain.ended (Ok (steps ++ newest (suc m)))
   unfolding newest chain.follow
   walk zero k steps h =
       let q : suc zero + k ≡ suc k = omega arith in
@@ -131,16 +133,16 @@ module _ (f : ℕ → Step) (n : ℕ) (kept : steps_number (tab f n) ≡ 0) (few
   problems zero h = refl
   problems (suc m) h = rw (problem m h, problems m (omega arith), map_snoc (tab f m) (f m), reverse-append (map problem_of (tab f m)) (problem_of (f m) ∷ []))
 
-  back : (m : ℕ) → n ≡ suc m → chain.pull whole ≡ chain.taken (reverse (map problem_of (tab f n)))
-  unfolding chain.pull chain.ends chain.walked chain.settled chain.problems
+  back : (m : ℕ) → n ≡ suc m → chain.pull whole ≡ Ok (reverse (map problem_of (tab f n)))
+  unfolding chain.pull chain.ends chain.walked chain.settled
   back m q =
       let k : 40 ≡ suc m + (39 - m) = omega arith in
-      let e : turns 40 (chain.at (end n) []) (chain.turn whole) ≡ chain.ended (chain.taken (newest n)) = rw (← k, ← q) at (walk m (39 - m) [] (omega arith)) in
+      let e : turns 40 (chain.at (end n) []) (chain.turn whole) ≡ chain.ended (Ok (newest n)) = rw (← k, ← q) at (walk m (39 - m) [] (omega arith)) in
       rw (e, problems n (omega arith))
 
 -- ---- the claims
 
-reads-file : (l : List Step) → several (length l) ≡ true → steps_number l ≡ 0 → Held l → chain.pull (file l) ≡ chain.taken (reverse (map problem_of l))
+reads-file : (l : List Step) → several (length l) ≡ true → steps_number l ≡ 0 → Held l → chain.pull (file l) ≡ Ok (reverse (map problem_of l))
 unfolding several
 reads-file l some kept held =
     let s = both_true (leb 1 (length l)) (leb (length l) 40) some in

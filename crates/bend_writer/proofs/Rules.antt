@@ -27,7 +27,7 @@ moving-fits n c h k = mul-le-mul k h
 
 module _ (n c count : ℕ) where
   pub many-rows : 32 < n → 3 ≡ ruled n c count
-  unfolding ruled fair small
+  unfolding ruled fair
   many-rows h = rw (lt-leb n 32 h)
 
   pub wide : 65535 < c → 3 ≡ ruled n c count
@@ -35,12 +35,12 @@ module _ (n c count : ℕ) where
   wide h = rw (lt-leb c 65535 h, and-false)
 
   pub much-motion : 2048 < c * n → 3 ≡ ruled n c count
-  unfolding ruled fair small
+  unfolding ruled fair
   much-motion h = rw (lt-leb (c * n) 2048 h, and-false)
 
   module _ (few : n ≤ 32) (narrow : c ≤ 65535) (moving : c * n ≤ 2048) where
     is-fair : fair n c ≡ true
-    unfolding fair small
+    unfolding fair
     is-fair = rw (le-leb n 32 few, le-leb (c * n) 2048 moving, le-leb c 65535 narrow)
 
     pub miscounted : (count ≡ wanted n c → ⊥) → 4 ≡ ruled n c count
@@ -59,7 +59,7 @@ pub record Kept (n c count : ℕ) : Type 0 where
   pub counted : count ≡ wanted n c
 
 pub rules-kept : (n c count : ℕ) → ruled n c count ≡ 0 → Kept n c count
-unfolding ruled fair small
+unfolding ruled fair
 rules-kept n c count e = go (fair n c) (eqb count (wanted n c)) refl refl e
   where
     go : (a b : Bool) → fair n c ≡ a → eqb count (wanted n c) ≡ b → ◌≡◌ {A = ℕ} (cond (not a) 3 (cond (not b) 4 0)) 0 → Kept n c count

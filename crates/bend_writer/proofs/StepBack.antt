@@ -4,13 +4,14 @@ use mathlib.Core.Path.{◌≡◌, refl, sym, ◌∙◌}
 use mathlib.Core.Bool.{true}
 use mathlib.Core.List.{List, ◌++◌, append_assoc}
 use native.Mathlib.Omega.{arith}
+use Rattle.std.proofs.Common.{None}
 use lib.Ieee.{nan}
 use lib.ListN.{length, get_or, drop, length-append, length-drop}
 use lib.Seq.{get_or-drop}
 use borrow.Author.Tests.{le-leb, eq-eqb}
 use Rattle.floats.specs.Ops.{Fits}
 use Rattle.bend_file.specs.Little.{byte, u16, u32, value, values}
-use Rattle.bend_file.specs.Trailer.{start, rows, coords, count, marked, small, wanted, counted}
+use Rattle.bend_file.specs.Trailer.{start, rows, coords, count, marked, small, wanted, counted, trailer_refusal}
 use Rattle.bend_file.specs.Read.{problem}
 use Rattle.bend_file.specs.Chain as chain
 use Rattle.bend_writer.specs.Bytes.{bytes16, bytes32, patterns}
@@ -124,17 +125,16 @@ module _ (file a rest : List ℕ) (s : Step) (is : file ≡ a ++ step_bytes (len
   -- ---- the rules
 
   small_is : small n c ≡ true
-  unfolding small
   small_is = rw (le-leb n 32 kept.few, le-leb (c * n) 2048 kept.moving)
 
-  link-kept : chain.link_number file end ≡ 0
-  unfolding chain.link_number chain.preceded chain.backward chain.reaching_from
+  link-kept : chain.link_refusal file end ≡ None
+  unfolding chain.link_refusal chain.preceded chain.backward chain.reaching_from
   link-kept =
       rw (link-is, link-at, start_is, count-is, le-leb (20 + 8 * k) end (omega (arith, is-end)), le-leb (length a) (length a) (omega arith), eq-eqb (length a + 4 + 8 * k + 16) end (omega (arith, is-end)))
 
-  pub number_is : chain.step_number file end ≡ 0
-  unfolding chain.step_number chain.fields_number chain.inside counted
-  number_is =
+  pub refusal-is : chain.step_refusal file end ≡ None
+  unfolding chain.step_refusal trailer_refusal counted
+  refusal-is =
       rw (le-leb 16 end (omega (arith, is-end)), le-leb end 1048576 few, marked-is, rows_is, coords_is, count-is, small_is, eq-eqb k (wanted n c) kept.counted) link-kept
 
   -- ---- the values

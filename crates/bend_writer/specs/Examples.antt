@@ -43,7 +43,7 @@ number_is (refused j) k = eqb j k
 number_is (written g) k = false
 
 asked : Lent → ℕ → Answer
-unfolding answer number several steps_number first step_number ruled fair small file chained step_bytes trailer patterns pattern bytes64 bytes32 bytes16 lent step_at part before tab turns of_bits to_bits
+unfolding answer number several steps_number first step_number ruled fair file chained step_bytes trailer patterns pattern bytes64 bytes32 bytes16 lent step_at part before tab turns of_bits to_bits
 asked p room = answer (lent p.steps p.rows p.coords p.counts (map (of_bits binary64) p.values)) room
 
 passes : Case → Bool
