@@ -8,12 +8,14 @@ use lib.Ieee.{Float}
 use lib.ListN.{length, get_or, take, drop, replicate, length-append, length-take, length-drop}
 use lib.Seq.{take_at, sets-eq}
 use borrow.Author.Tests.{lt-ltb, le-ltb}
+use Rattle.std.proofs.Common.{Result, Ok, Err}
+use Rattle.refusals.specs.Numbers.{number}
+use Rattle.refusals.specs.declared.Refusal.{Refusal}
 use Rattle.floats.specs.Ops.{0ᶠ}
 use Rattle.bend_file.specs.Little.{values, over}
 use Rattle.bend_file.specs.Trailer.{Small}
 use Rattle.bend_file.specs.Read as read
-use Rattle.bend_file.specs.declared.Reading.{Reading}
-use Rattle.bend_file.specs.declared.Reading.TheVariants as reading
+use Rattle.bend_file.specs.declared.Shape.{Shape}
 use Rattle.bend_file.proofs.Values.{values_length}
 use Rattle.bend_file.proofs.Accepted.{accepted_is_bend-file}
 use Rattle.boxed.specs.Solve as solve
@@ -50,18 +52,18 @@ left_laid x r nu st q a b n w w' h p = rw (h.answer, h.multipliers, h.states, h.
 
 -- ---- reading
 
-pub refused-file : (f : List ℕ) (k : ℕ) (a b : read.Lent) (r : Reading) → r ≡ reading.Refused k → read.Reads f r a b → def.output f ≡ print.refused k
+pub refused-file : (f : List ℕ) (r : Refusal) (a b : read.Lent) → read.Reads f (Err r) a b → def.output f ≡ print.refused (number r)
 unfolding def.output
-refused-file f k a b r e h = go (read.answer f) (sym e ∙ h.result)
+refused-file f r a b h = go (read.answer f) h.result
   where
-    go : (x : read.Answer) → reading.Refused k ≡ read.reading x → def.classified x ≡ print.refused k
-    go (read.refused j) g = let q : k ≡ j = cc in rw q
-    go (read.accepted p) g = let z : ◌≡◌ {A = ℕ} 0 1 = cc in absurd (omega arith)
+    go : (x : Result read.Problem Refusal) → Err r ≡ read.reading x → def.classified x ≡ print.refused (number r)
+    go (Err q) g = let e : r ≡ q = cc in rw e
+    go (Ok p) g = absurd (cc)
 
 front_of : (k : ℕ) (v l : List Float) → length v ≡ k → take k (over v l) ≡ v
 front_of k v l e = take_at v (drop (length v) l) k e
 
-filled-fronts : (f : List ℕ) (s n c : ℕ) (a : read.Lent) → def.asked (read.problem f s n c) ≡ def.fronts n c (read.problem f s n c).tolerance (read.filled (read.accepted (read.problem f s n c)) a)
+filled-fronts : (f : List ℕ) (s n c : ℕ) (a : read.Lent) → def.asked (read.problem f s n c) ≡ def.fronts n c (read.problem f s n c).tolerance (read.with_problem (read.problem f s n c) a)
 unfolding read.problem
 filled-fronts f s n c a =
     rw (
@@ -87,7 +89,7 @@ pub record Sizes (b : read.Lent) : Type 0 where
 over-size : (k m : ℕ) (v l : List Float) → length v ≡ k → length l ≡ m → k ≤ m → length (over v l) ≡ m
 over-size k m v l e g h = length-append v (drop (length v) l) ∙ omega (arith, length-drop (length v) l)
 
-filled_sizes : (f : List ℕ) (s n c : ℕ) (a : read.Lent) → Small n c → Sizes a → Sizes (read.filled (read.accepted (read.problem f s n c)) a)
+filled_sizes : (f : List ℕ) (s n c : ℕ) (a : read.Lent) → Small n c → Sizes a → Sizes (read.with_problem (read.problem f s n c) a)
 unfolding read.problem
 filled_sizes f s n c a h z =
     record {
@@ -107,28 +109,24 @@ pub record Asked (f : List ℕ) (n c : ℕ) (t : Float) (b : read.Lent) : Type 0
   pub same : def.printed (def.fronts n c t b) ≡ def.output f
 
 module _ (f : List ℕ) (a b : read.Lent) (z : Sizes a) where
-  asked-at : (s n c : ℕ) → Small n c → read.answer f ≡ read.accepted (read.problem f s n c) → b ≡ read.filled (read.accepted (read.problem f s n c)) a → Asked f n c (read.problem f s n c).tolerance b
+  asked-at : (s n c : ℕ) → Small n c → read.answer f ≡ Ok (read.problem f s n c) → b ≡ read.with_problem (read.problem f s n c) a → Asked f n c (read.problem f s n c).tolerance b
   unfolding def.output
   asked-at s n c h e g = record { small = h; sizes = rw g (filled_sizes f s n c a h z); same = rw (g, e) (ap def.printed (sym (filled-fronts f s n c a))) }
 
-  asked : (p : read.Problem) → read.answer f ≡ read.accepted p → b ≡ read.filled (read.accepted p) a → Asked f p.rows p.coords p.tolerance b
+  asked : (p : read.Problem) → read.answer f ≡ Ok p → b ≡ read.with_problem p a → Asked f p.rows p.coords p.tolerance b
   asked p e g =
       let k = accepted_is_bend-file f p e in
       let v = k.values in
       let s : Small p.rows p.coords = record { few = k.few_rows; square = mul-le-mul k.few_rows k.few_rows; moving = k.few_moving } in
       subst (λ (t : Float). Asked f p.rows p.coords t b) (sym (ap (λ (x : read.Problem). x.tolerance) v))
-      (asked-at _ p.rows p.coords s (e ∙ ap read.accepted v) (g ∙ ap (λ (x : read.Problem). read.filled (read.accepted x) a) v))
+      (asked-at _ p.rows p.coords s (e ∙ ap (λ (x : read.Problem). Ok x) v) (g ∙ ap (λ (x : read.Problem). read.with_problem x a) v))
 
-  pub accepted-file : (n c : ℕ) (t : Float) (r : Reading) → r ≡ reading.Problem n c t → read.Reads f r a b → Asked f n c t b
-  accepted-file n c t r e h = go (read.answer f) refl (sym e ∙ h.result) h.buffers
+  pub accepted-file : (x : Shape) → read.Reads f (Ok x) a b → Asked f x.rows x.coords x.tolerance b
+  accepted-file x h = go (read.answer f) refl h.result h.buffers
     where
-      go : (x : read.Answer) → read.answer f ≡ x → reading.Problem n c t ≡ read.reading x → b ≡ read.filled x a → Asked f n c t b
-      go (read.refused j) q g i = let z : ◌≡◌ {A = ℕ} 0 1 = cc in absurd (omega arith)
-      go (read.accepted p) q g i =
-          let en : p.rows ≡ n = cc in
-          let ec : p.coords ≡ c = cc in
-          let et : p.tolerance ≡ t = cc in
-          rw (en, ec, et) at (asked p q i)
+      go : (r : Result read.Problem Refusal) → read.answer f ≡ r → Ok x ≡ read.reading r → b ≡ read.filled r a → Asked f x.rows x.coords x.tolerance b
+      go (Err r) q g i = absurd (cc)
+      go (Ok p) q g i = let e : x ≡ read.shape p = cc in rw e (asked p q i)
 
 -- the reader's buffers as they are at first
 abbrev zeros : read.Lent
@@ -137,8 +135,8 @@ zeros = record { w = replicate 1024 0ᶠ; u_free = replicate 32 0ᶠ; lo = repli
 zeros_sizes : Sizes zeros
 zeros_sizes = record { w = refl; u_free = refl; lo = refl; hi = refl; scale = refl; nu = refl; motion = refl }
 
-pub taken_in : (f : List ℕ) (b : read.Lent) (n c : ℕ) (t : Float) (r : Reading) → r ≡ reading.Problem n c t → read.Reads f r zeros b → Asked f n c t b
-taken_in f b n c t r e h = accepted-file f zeros b zeros_sizes n c t r e h
+pub taken_in : (f : List ℕ) (b : read.Lent) (x : Shape) → read.Reads f (Ok x) zeros b → Asked f x.rows x.coords x.tolerance b
+taken_in f b x h = accepted-file f zeros b zeros_sizes x h
 
 pub room_of : (f : List ℕ) (n c : ℕ) (t : Float) (b : read.Lent) → Asked f n c t b → def.Room n c b
 room_of f n c t b h =

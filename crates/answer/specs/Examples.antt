@@ -86,8 +86,8 @@ unfolding
     solve.unfound solve.result solve.solve solve.refusal solve.reply solve.solve_reply
     add sub mul div of_bits to_bits lt le eq ne neg
     read.answer read.problem
-    trailer.start trailer.rows trailer.coords trailer.count trailer.sized trailer.marked trailer.small trailer.counted
-    trailer.reaching trailer.number
+    trailer.start trailer.rows trailer.coords trailer.count trailer.marked trailer.counted trailer.reaching
+    trailer.trailer_refusal trailer.refusal
     little.u16 little.u32 little.u64 little.value little.values
     print.digit print.digits print.decimal print.hex print.pattern print.flag print.letter print.cause print.report_line
     print.row_line print.row_lines print.listed print.body print.refused print.solved print.infeasible

@@ -28,9 +28,9 @@ solved p m nu = solve.solve_reply p m nu (replicate 32 0) (replicate 32 0) 2304
 abbrev pub asked : read.Problem → solve.Result
 asked p = solved (box.problem p.w p.u_free p.lo p.hi p.scale) (solve.watch p.motion p.tolerance) p.nu
 
-abbrev pub classified : read.Answer → List ℕ
-classified (read.refused k) = print.refused k
-classified (read.accepted p) = printed (asked p)
+abbrev pub classified : Result read.Problem Refusal → List ℕ
+classified (Err r) = print.refused (number r)
+classified (Ok p) = printed (asked p)
 
 -- the bytes that bendsolve writes for a file
 unfoldable pub output : List ℕ → List ℕ

@@ -7,7 +7,7 @@ ghost use Rattle.box_rows.specs.Rows as box;
 ghost use Rattle.boxed.specs.Solve as solve;
 ghost use Rattle.answer.specs.Output as def;
 
-use bend_file::Reading;
+use bend_file::Shape;
 use boxed::{BoxOutcome, BoxSolver};
 use refusals::Refusal;
 
@@ -153,12 +153,12 @@ pub fn of_file(file: &[u8], out: &mut [u8]) -> usize
         &mut nu,
         &mut motion,
     ) {
-        Reading::Refused(number) => printer::refused(number, out),
-        Reading::Problem {
+        Err(refusal) => printer::refused(u32::from(refusal), out),
+        Ok(Shape {
             rows,
             coords,
             tolerance,
-        } => solve_fronts(
+        }) => solve_fronts(
             rows, coords, &w, &u_free, &lo, &hi, &scale, &motion, tolerance, &mut nu, out,
         ),
     }

@@ -2,8 +2,8 @@
 ghost use Rattle.std.specs.Prelude.{◌≤◌, length};
 
 use crate::sum;
-use bend_file::chain;
-use bend_file::chain::StepReading;
+use bend_file::{Shape, chain};
+use refusals::Refusal;
 use std::fmt::InlineText;
 use std::io::Read;
 use std::rt::Files;
@@ -43,15 +43,20 @@ fn step(rt: &impl Print, file: &[u8], k: usize, end: usize) -> io::Result<()> {
     told(rt, reading, end, sum::over(b, &motion))
 }
 
-fn told(rt: &impl Print, reading: StepReading, end: usize, sum: u64) -> io::Result<()> {
+fn told(
+    rt: &impl Print,
+    reading: Result<Option<Shape>, Refusal>,
+    end: usize,
+    sum: u64,
+) -> io::Result<()> {
     match reading {
-        StepReading::Refused(number) => word(rt, "  refused ", number as u64)?,
-        StepReading::Past => word(rt, "  no step ", 0)?,
-        StepReading::Problem {
+        Err(refusal) => word(rt, "  refused ", u32::from(refusal) as u64)?,
+        Ok(None) => word(rt, "  no step ", 0)?,
+        Ok(Some(Shape {
             rows,
             coords,
             tolerance,
-        } => {
+        })) => {
             word(rt, "  end ", end as u64)?;
             word(rt, " rows ", rows as u64)?;
             word(rt, " coords ", coords as u64)?;
@@ -63,12 +68,13 @@ fn told(rt: &impl Print, reading: StepReading, end: usize, sum: u64) -> io::Resu
 
 // The number of a file's refusal, or its steps and the answer for one step more.
 fn file(rt: &impl Print, bytes: &[u8]) -> io::Result<()> {
-    let found = chain::steps(bytes);
-    let number = found.number;
-    if number != 0 {
-        word(rt, " refused ", number as u64)?;
-        return println!(rt);
-    }
+    let found = match chain::steps(bytes) {
+        Ok(found) => found,
+        Err(refusal) => {
+            word(rt, " refused ", u32::from(refusal) as u64)?;
+            return println!(rt);
+        }
+    };
     let count = found.count;
     let ends = found.ends;
     word(rt, " steps ", count as u64)?;
