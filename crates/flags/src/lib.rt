@@ -7,7 +7,7 @@ ghost use Rattle.flags.specs.Flags as def;
 pub fn flag(b: bool) -> u32
     ensures { result ≡ def.flag b }
 {
-    if b { 1 } else { 0 }
+    u32::from(b)
 }
 
 pub fn flagged(k: u32) -> bool
