@@ -1,20 +1,17 @@
 -- Laws of text laid into a buffer: nothing, one byte, and one piece after another.
 use Prim.Native.Nat.{ℕ, zero, suc, ◌+◌, ◌-◌, ◌/◌, ◌%◌, ◌≤◌, ◌<◌}
 use mathlib.Core.Path.{◌≡◌, refl, sym, ◌∙◌, ap}
-use mathlib.Core.Bool.{Bool, true, false, not}
+use mathlib.Core.Bool.{Bool, true, false}
 use mathlib.Core.List.{List, [], ◌∷◌, ◌++◌}
 use native.Mathlib.Omega.{arith}
 use native.Mathlib.Nat.{add-zero}
-use native.Mathlib.Numerals.{add-one}
-use lib.Dec.{T, leb, ltb}
-use lib.Ieee.{Float, nan, is_nan, ne, to_bits}
-use lib.ListN.{length, get_or, set, take, drop, length-append, length-set}
-use Rattle.loops.specs.Loops.{turns}
-use lib.Seq.{sets, length-sets, set_out, take-suc, take_all, take_at, sets-eq}
+use lib.Dec.{leb, ltb}
+use lib.Ieee.{Float, is_nan, to_bits}
+use lib.ListN.{length, set, take, drop, length-append}
+use lib.Seq.{sets, length-sets, set_out, take_at, sets-eq}
 use borrow.Author.Tests.{leb-true, leb-false, ltb-false, lt-ltb, le-ltb}
-use Rattle.printer.specs.Output.{digit, digits, decimal, hex, pattern, bytes, row_line, row_lines, listed}
-use Rattle.floats.specs.Helpers.{nan_test}
-use Rattle.floats.proofs.Meaning.{nan_test_is_nan, only_nan}
+use Rattle.printer.specs.Output.{digit, digits, decimal, hex, pattern}
+use Rattle.floats.proofs.Meaning.{only_nan}
 use Rattle.printer.specs.Writing.{Wrote}
 
 sets_out : (t l : List ℕ) (i : ℕ) → length l ≤ i → sets l i t ≡ l
@@ -27,12 +24,6 @@ sets-append (b ∷ s) t l i = let e : i + suc (length s) ≡ suc i + length s = 
 
 pub nothing-wrote : (l : List ℕ) (at : ℕ) → at ≤ length l → Wrote l at l at []
 nothing-wrote l at h = record { laid = refl; place = omega arith; room = h }
-
-pub one-wrote : (l : List ℕ) (at b : ℕ) → at < length l → Wrote l at (set l at b) (at + 1) (b ∷ [])
-one-wrote l at b h = record { laid = refl; place = omega arith; room = rw (length-set l at b) (omega arith) }
-
-pub none-wrote : (l : List ℕ) (at b : ℕ) → at ≤ length l → length l ≤ at → Wrote l at l at (b ∷ [])
-none-wrote l at b h k = record { laid = sym (set_out l at b k); place = omega arith; room = h }
 
 pub then : {a b c s t : List ℕ} {i j k : ℕ} → Wrote a i b j s → Wrote b j c k t → Wrote a i c k (s ++ t)
 then {a} {b} {c} {s} {t} {i} {j} {k} p q =
@@ -55,23 +46,7 @@ then {a} {b} {c} {s} {t} {i} {j} {k} p q =
         let m : length (sets a i s) ≡ length a = length-sets a i s in
         sets_out t b j (omega (arith, p.place, same)) ∙ p.laid ∙ sym (sets-append s t a i ∙ sets_out t (sets a i s) (i + length s) (omega arith))
 
--- ---- a word, byte by byte
-
-pub word_again : (w a b c : List ℕ) (i at j k : ℕ) → Wrote a at b j (take i w) → Wrote b j c k (get_or w i 0 ∷ []) → i < length w → Wrote a at c k (take (i + 1) w)
-word_again w a b c i at j k p q h = rw (add-one, take-suc w i 0 h) (then p q)
-
-pub word_done : (w a b : List ℕ) (i at j : ℕ) → Wrote a at b j (take i w) → i ≤ length w → length w ≤ i → Wrote a at b j w
-word_done w a b i at j p h k = rw (take_all i w k) at p
-
 -- ---- digits
-
-pub digit_low : (d : ℕ) → d < 10 → 48 + d ≡ digit d
-unfolding digit
-digit_low d h = rw (lt-ltb d 10 h)
-
-pub digit-high : (d : ℕ) → 10 ≤ d → 55 + d ≡ digit d
-unfolding digit
-digit-high d h = rw (le-ltb d 10 h)
 
 -- more places than there are digits change nothing
 enough : (k m x : ℕ) → x < k → x < m → digits k (ltb x 10) x ≡ digits m (ltb x 10) x
@@ -104,51 +79,11 @@ unfolding hex
 hex_more (suc k) x h = rw (sub-one k)
 hex_more zero x h = absurd (omega arith)
 
-pub reading : {a b s t : List ℕ} {i j : ℕ} → Wrote a i b j s → s ≡ t → Wrote a i b j t
-reading p e = rw e at p
-
 -- ---- a value's bits
 
-test_of-nan : (v : Float) → ne v v ≡ is_nan v
-unfolding nan_test
-test_of-nan v = nan_test_is_nan v
-
-pub nan-printed : (v : Float) → ne v v ≡ true → hex 16 0x7FF8000000000000 ≡ pattern v
+pub nan-printed : (v : Float) → is_nan v ≡ true → hex 16 0x7FF8000000000000 ≡ pattern v
 unfolding pattern to_bits
-nan-printed v h = rw (only_nan v (sym (test_of-nan v) ∙ h))
-
-pub has-bits : (v : Float) → ne v v ≡ false → T (not (is_nan v))
-has-bits v h = rw (sym (test_of-nan v) ∙ h) tt
-
--- ---- the rows and the list, one after another
-
-pub rows_start : (states : List ℕ) (nu : List Float) (l : List ℕ) (at : ℕ) → at ≤ length l → Wrote l at l at (row_lines states nu 0)
-unfolding row_lines turns
-rows_start states nu l at h = nothing-wrote l at h
-
-pub rows_again : (states : List ℕ) (nu : List Float) (a b c : List ℕ) (i at j k state : ℕ) → Wrote a at b j (row_lines states nu i) → Wrote b j c k (row_line i state (get_or nu i nan)) → state ≡ get_or states i 0
-    → Wrote a at c k (row_lines states nu (i + 1))
-unfolding row_lines turns
-rows_again states nu a b c i at j k state p q e = rw (add-one, ← e) (then p q)
-
-pub rows_done : (states : List ℕ) (nu : List Float) (a b : List ℕ) (i at j : ℕ) → Wrote a at b j (row_lines states nu i) → i ≤ length nu → length nu ≤ i → Wrote a at b j (row_lines states nu (length nu))
-rows_done states nu a b i at j p h k = let e : i ≡ length nu = omega arith in rw e at p
-
-pub listed_start : (rows l : List ℕ) (at : ℕ) → at ≤ length l → Wrote l at l at (listed rows 0)
-unfolding listed turns
-listed_start rows l at h = nothing-wrote l at h
-
-pub listed_again : (rows a b c : List ℕ) (i at j k : ℕ) → Wrote a at b j (listed rows i) → Wrote b j c k (bytes " " ++ decimal (get_or rows i 0)) → Wrote a at c k (listed rows (i + 1))
-unfolding listed turns
-listed_again rows a b c i at j k p q = rw add-one (then p q)
-
-pub listed_done : (rows a b : List ℕ) (i at j : ℕ) → Wrote a at b j (listed rows i) → i ≤ length rows → length rows ≤ i → Wrote a at b j (listed rows (length rows))
-listed_done rows a b i at j p h k = let e : i ≡ length rows = omega arith in rw e at p
-
-pub past_end : (l : List ℕ) (i : ℕ) → length l ≤ i → 0 ≡ get_or l i 0
-past_end [] i h = refl
-past_end (x ∷ l) zero h = absurd (omega arith)
-past_end (x ∷ l) (suc i) h = past_end l i (omega arith)
+nan-printed v h = rw (only_nan v h)
 
 -- ---- for whoever prints
 

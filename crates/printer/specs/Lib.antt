@@ -1,3 +1,4 @@
 pub mod Writing
+pub mod Pages
 pub mod Output
 pub mod Examples

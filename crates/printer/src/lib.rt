@@ -5,17 +5,22 @@
 ghost use Rattle.printer.specs.Output as print;
 ghost use Rattle.printer.specs.Writing.{Wrote};
 
+use crate::page::Page;
 use boxed::{BoxReport, Cause};
 
+mod digit;
 mod lines;
-mod write;
+mod page;
 
 // The output for document 01's number.
 pub fn refused(number: u32, out: &mut [u8]) -> usize
     ensures { Wrote out.old 0 out.new result (print.refused number) }
 {
-    let a = write::count(out, 0, b"refused ", number as u64);
-    write::put(out, a, b'\n')
+    let mut page = Page { out, at: 0 };
+    page.text(b"refused ");
+    page.decimal(u64::from(number));
+    page.put(b'\n');
+    page.at
 }
 
 // The output for a solved problem: a line for each multiplier in `nu`, with its row's state.
@@ -23,8 +28,10 @@ pub fn solved(report: BoxReport, states: &[u8], nu: &[f64], out: &mut [u8]) -> u
     ensures { Wrote out.old 0 out.new result
         (print.solved report states.now nu.now) }
 {
-    let a = write::text(out, 0, b"solved\n");
-    lines::body(out, a, report, states, nu)
+    let mut page = Page { out, at: 0 };
+    page.text(b"solved\n");
+    page.body(report, states, nu);
+    page.at
 }
 
 // The output for an infeasible problem: as for a solved one, with the cause, and with the listed rows in a line at the
@@ -40,7 +47,9 @@ pub fn infeasible(
     ensures { Wrote out.old 0 out.new result
         (print.infeasible cause report states.now nu.now rows.now) }
 {
-    let a = lines::opening(out, 0, cause);
-    let b = lines::body(out, a, report, states, nu);
-    lines::closing(out, b, rows)
+    let mut page = Page { out, at: 0 };
+    page.opening(cause);
+    page.body(report, states, nu);
+    page.closing(rows);
+    page.at
 }

@@ -1,9 +1,8 @@
 use Rattle.printer.specs.Output as print
-use Rattle.printer.proofs.Laws.{then}
+use Rattle.printer.proofs.Pages.{after}
+use borrow.Author.Rules.{rules}
 use Rattle.printer.proofs.refused.Goals as goal
-
--- TODO unknown goal slice-aggregate-count
 
 pub returns : goal.returns
 unfolding print.refused
-returns c = then c.count-a.ensures c.put.ensures
+returns c = let p = after (after c.text.ensures c.decimal.ensures) c.put.ensures in search rules

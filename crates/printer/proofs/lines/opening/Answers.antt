@@ -1,7 +1,0 @@
-use Rattle.printer.proofs.Laws.{then}
-use Rattle.printer.proofs.lines.opening.Goals as goal
-
--- TODO unknown goal slice-aggregate-text
-
-pub returns : goal.returns
-returns c = then c.text-a.ensures (then c.cause_word-b.ensures c.put.ensures)

@@ -1,5 +1,0 @@
-use Rattle.printer.proofs.Laws.{then}
-use Rattle.printer.proofs.write.bits.Goals as goal
-
-pub returns : goal.returns
-returns c = then c.text-next.ensures c.pattern.ensures
