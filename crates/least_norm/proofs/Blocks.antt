@@ -5,7 +5,7 @@ use mathlib.Core.Path.{◌≡◌, sym, ◌∙◌, ap}
 use mathlib.Core.List.{List}
 use mathlib.Core.Logic.{⊎_elim, ◌⊎◌, inl, inr}
 use native.Mathlib.Omega.{arith}
-use native.Mathlib.Nat.{add-zero, add-suc, zero-add, add_assoc}
+use native.Mathlib.Nat.{add-zero, add-suc, add_assoc}
 use native.Mathlib.Numerals.{add-one}
 use lib.ListN.{length}
 use lib.Ieee.{Float, nan, binary64, add}
@@ -18,11 +18,10 @@ use Rattle.loops.proofs.Index.{place, same_row, same-column, ext-matrix}
 use Rattle.floats.specs.Ops.{◌⊕◌, ◌⊖◌, ◌⊗◌, ◌⊘◌, at, 0ᶠ, 2ᶠ}
 use Rattle.floats.specs.Sums.{gathered}
 use Rattle.floats.proofs.Sums.{gathered_ext}
-use Rattle.floats.proofs.Commute.{product_comm}
 use Rattle.least_norm.specs.Reflector.{reflect}
 use Rattle.least_norm.specs.LeastNorm as least
 use Rattle.least_norm.specs.Private as private
-use Rattle.least_norm.specs.Private.{less, factor}
+use Rattle.least_norm.specs.Private.{factor}
 use Rattle.least_norm.specs.Blocks.{squares, products, less_rows}
 
 -- ---- norms and products
@@ -143,7 +142,7 @@ module _ (m n j : ℕ) (v : List Float) (vtv : Float) (low : j < m) where
 
     module _ (k : ℕ) (f : List Float) (fits : c + k ≤ n) (sized : length A ≡ m * n) (shares : (t : ℕ) → t < k → at f t ≡ share (c + t) A) where
       rows : List Float
-      rows = between j m A λ row a. updated nan (λ t. row * n + c + t) (λ t x. x ⊖ at v row ⊗ at f (0 + t)) 0 k a
+      rows = between j m A λ row a. updated nan (λ t. row * n + c + t) (λ t x. x ⊖ at f t ⊗ at v row) 0 k a
 
       in-columns : (r t : ℕ) → t < k → j ≤ r → r < m → at (done k) (r * n + (c + t)) ≡ at A (r * n + (c + t)) ⊖ share (c + t) A ⊗ at v r
       unfolding done
@@ -159,10 +158,10 @@ module _ (m n j : ℕ) (v : List Float) (vtv : Float) (low : j < m) where
           h
           (omega (arith, place m n r (c + t) h (omega arith)))
 
-      in_rows : (r t : ℕ) → t < k → j ≤ r → r < m → at rows (r * n + c + t) ≡ at A (r * n + c + t) ⊖ at v r ⊗ at f (0 + t)
+      in_rows : (r t : ℕ) → t < k → j ≤ r → r < m → at rows (r * n + c + t) ≡ at A (r * n + c + t) ⊖ at f t ⊗ at v r
       unfolding rows
       in_rows r t u g h =
-          nested_here nan (λ row t. row * n + c + t) (λ row t x. x ⊖ at v row ⊗ at f (0 + t)) 0 k (omega arith) j A m
+          nested_here nan (λ row t. row * n + c + t) (λ row t x. x ⊖ at f t ⊗ at v row) 0 k (omega arith) j A m
           (λ row x y a b l e. omega arith)
           (λ p q x y a l b d e f w z. let s : p ≡ q = same_row n p (c + x) q (c + y) (omega arith) (omega arith) (omega arith) in omega arith)
           r
@@ -185,7 +184,7 @@ module _ (m n j : ℕ) (v : List Float) (vtv : Float) (low : j < m) where
       out-rows : (r q : ℕ) → q < n → (j ≤ r → c ≤ q → q < c + k → ⊥) → at rows (r * n + q) ≡ at A (r * n + q)
       unfolding rows
       out-rows r q g h =
-          nested_away nan (λ row t. row * n + c + t) (λ row t x. x ⊖ at v row ⊗ at f (0 + t)) 0 k (omega arith) j A m (r * n + q) (omega arith)
+          nested_away nan (λ row t. row * n + c + t) (λ row t x. x ⊖ at f t ⊗ at v row) 0 k (omega arith) j A m (r * n + q) (omega arith)
           (λ row t a b d e w.
           let s : q ≡ c + t = same-column n r q row (c + t) g (omega arith) (omega arith) in
           let z : r ≡ row = same_row n r q row (c + t) g (omega arith) (omega arith) in
@@ -193,8 +192,7 @@ module _ (m n j : ℕ) (v : List Float) (vtv : Float) (low : j < m) where
 
       inside : (r t : ℕ) → t < k → j ≤ r → r < m → at rows (r * n + (c + t)) ≡ at (done k) (r * n + (c + t))
       inside r t u g h =
-          rw (in-columns r t u g h, ← add_assoc (r * n) c t, in_rows r t u g h, zero-add t, shares t u)
-          (ap (λ (x : Float). at A (r * n + c + t) ⊖ x) (product_comm (at v r) (share (c + t) A)))
+          rw (in-columns r t u g h, ← add_assoc (r * n) c t, in_rows r t u g h, shares t u)
 
       agree : (r q : ℕ) → r < m → q < n → at rows (r * n + q) ≡ at (done k) (r * n + q)
       agree r q h g =
@@ -215,7 +213,7 @@ module _ (m n j : ℕ) (v : List Float) (vtv : Float) (low : j < m) where
       unfolding rows done
       same h =
           ext-matrix nan m n rows (done k) (omega arith)
-          (nested-long nan (λ row t. row * n + c + t) (λ row t x. x ⊖ at v row ⊗ at f (0 + t)) 0 k (omega arith) j A m (omega arith) ∙ sized)
+          (nested-long nan (λ row t. row * n + c + t) (λ row t x. x ⊖ at f t ⊗ at v row) 0 k (omega arith) j A m (omega arith) ∙ sized)
           (nested-long nan (λ q row. row * n + q) (λ q row x. x ⊖ share q A ⊗ at v row) j m (omega arith) c A (c + k) (omega arith) ∙ sized)
           agree
 
@@ -224,5 +222,5 @@ pub block-is : (m n j c k : ℕ) (v : List Float) (vtv : Float) (A f R : List Fl
     → at f t ≡ factor (j * n + (c + t)) (λ row. row * n + (c + t)) (at v j) (λ row. at v row) vtv (suc j) m A)
     → j < m → c + k ≤ n → 0 < k → length A ≡ m * n
     → R ≡ between c (c + k) A (private.reflect_column m n j (at v j) (λ row. at v row) vtv)
-unfolding less_rows less share column rows
+unfolding less_rows share column rows
 block-is m n j c k v vtv A f R e s low fits some sized = e ∙ same m n j v vtv low c A k f fits sized s some ∙ sym (done-is m n j v vtv low c A k fits)

@@ -1,5 +1,6 @@
 pub mod Steps
 pub mod Blocks
+pub mod Rows
 pub mod Runs
 pub mod Single
 pub mod Starts

@@ -4,20 +4,20 @@ use mathlib.Core.Path.{◌≡◌, refl, sym, ◌∙◌, ap}
 use mathlib.Core.Bool.{Bool, true, false}
 use mathlib.Core.List.{List, ◌++◌}
 use native.Mathlib.Omega.{arith}
-use native.Mathlib.Nat.{zero-add, add_comm, mul-one, not-suc-le-zero}
+use native.Mathlib.Nat.{not-suc-le-zero}
 use native.Mathlib.Numerals.{add-one}
-use borrow.Author.Tests.{eq-eqb, ne_eqb, lt-ltb, le-ltb}
-use lib.ListN.{length, set, replicate, take, drop}
+use borrow.Author.Tests.{eq-eqb, ne_eqb, le-ltb}
+use lib.ListN.{length, set, replicate, take, drop, length-set, length-replicate}
+use Rattle.std.proofs.lemmas.List.{get_or-replicate}
 use lib.Seq.{length-take-le, drop-append-add, drop-drop, get_or-set_same, get_or-set_other}
 use Rattle.std.specs.Prelude.{Ok}
-use lib.Ieee.{Float, nan, binary64, add, sub, lt, eq}
-use Rattle.loops.specs.Loops.{between, swap, tab, turns}
+use lib.Ieee.{Float, nan, binary64, add, eq}
+use Rattle.loops.specs.Loops.{between, tab, turns}
 use Rattle.loops.specs.Updates.{updated}
-use Rattle.loops.proofs.Turns.{between_shift, between_again, between_more, turns-from, downward-from, stays}
+use Rattle.loops.proofs.Turns.{between_shift, between_more, turns-from, downward-from, stays}
 use Rattle.loops.proofs.Updates.{between_ext, updated_here, updated-long}
-use Rattle.floats.specs.Ops.{◌⊕◌, ◌⊖◌, ◌⊗◌, ◌⊘◌, at, 0ᶠ, 2ᶠ, 1e-11}
-use Rattle.floats.specs.Helpers.{abs}
-use Rattle.floats.specs.Sums.{sum, difference}
+use Rattle.floats.specs.Ops.{◌⊕◌, ◌⊖◌, ◌⊗◌, ◌⊘◌, at, 0ᶠ, 2ᶠ}
+use Rattle.floats.specs.Sums.{sum}
 use Rattle.floats.proofs.Sums.{gathered_ext}
 use Rattle.least_norm.specs.declared.Pivot.{Pivot}
 use Rattle.least_norm.specs.declared.Scan.{Scan}
@@ -26,7 +26,7 @@ use Rattle.least_norm.specs.Reflector as reflector
 use Rattle.least_norm.specs.LeastNorm as least
 use Rattle.least_norm.specs.Private as private
 use Rattle.least_norm.specs.Promise as promise
-use Rattle.least_norm.specs.Blocks.{squares, zeros}
+use Rattle.least_norm.specs.Blocks.{squares}
 use Rattle.least_norm.proofs.Blocks.{norms_are}
 
 -- ---- a reflector on other places and entries that are the same
@@ -44,73 +44,46 @@ module _ (first : ℕ) (π ρ : ℕ → ℕ) (v0 : Float) (v w : ℕ → Float) 
     unfolding reflector.reflect private.factor updated
     reflect_ext = rw factor_ext (between_ext _ _ _ lo hi some λ t x l u. rw (places t l u, entries t l u))
 
--- u0's product comes first, then those of u, whose entries are one place apart
-pub reflect-run : (first p k : ℕ) (u0 : Float) (u : List Float) (q : ℕ) (utu : Float) (lo hi : ℕ) (z z1 r : List Float)
-    (s : Float)
-    → r ≡ private.less (λ (t : ℕ). p + t * k) (2ᶠ ⊗ s ⊘ utu) (λ (t : ℕ). at u (q + t)) lo hi z1
-    → z1 ≡ set z first (at z first ⊖ 2ᶠ ⊗ s ⊘ utu ⊗ u0)
-    → s ≡ sum (u0 ⊗ at z first) (λ (t : ℕ). at u (q + t * 1) ⊗ at z (p + t * k)) lo hi → lo ≤ hi
-    → r ≡ reflector.reflect first (λ (t : ℕ). p + t * k) u0 (λ (t : ℕ). at u (q + t)) utu lo hi z
-unfolding reflector.reflect private.factor private.less
-reflect-run first p k u0 u q utu lo hi z z1 r s e w f h =
-    let g : s ≡ sum (u0 ⊗ at z first) (λ (t : ℕ). at u (q + t) ⊗ at z (p + t * k)) lo hi =
-    f ∙ gathered_ext (add binary64) (u0 ⊗ at z first) _ lo _ hi h (λ t l m. rw (mul-one t)) in
-    rw (e, w, g)
+-- u0's product comes first, then those of u
+pub reflect-run : (i : ℕ) (u0 : Float) (u : List Float) (utu : Float) (lo : ℕ) (z z1 r : List Float) (s : Float)
+    → r ≡ private.less (λ (t : ℕ). t) (2ᶠ ⊗ s ⊘ utu) (λ (t : ℕ). at u t) lo (length z1) z1
+    → z1 ≡ set z i (at z i ⊖ 2ᶠ ⊗ s ⊘ utu ⊗ u0)
+    → s ≡ sum (u0 ⊗ at z i) (λ (t : ℕ). at u t ⊗ at z t) lo (length z)
+    → r ≡ reflector.reflect i (λ (t : ℕ). t) u0 (λ (t : ℕ). at u t) utu lo (length z) z
+unfolding reflector.reflect private.less
+reflect-run i u0 u utu lo z z1 r s e w f = rw (e, w, length-set, f)
 
 -- ---- the pivot
 
-pub column_norm-run : (a : List Float) (n j m c : ℕ) (r : Float)
-    → r ≡ sum 0ᶠ (λ (t : ℕ). at a (c + t * n) ⊗ at a (c + t * n)) j m → j ≤ m → r ≡ least.norm2 a n c j m
-unfolding least.norm2
-column_norm-run a n j m c r e h = e ∙ gathered_ext (add binary64) 0ᶠ _ j _ m h λ t l u. rw (add_comm c (t * n))
-
-no_norm : (t : ℕ) → t < 4 → at zeros t ≡ 0ᶠ
-no_norm zero h = refl
-no_norm (suc zero) h = refl
-no_norm (suc (suc zero)) h = refl
-no_norm (suc (suc (suc zero))) h = refl
-no_norm (suc (suc (suc (suc t)))) h = absurd (omega arith)
-
-pub four-picked : (a : List Float) (m n j c : ℕ) (best r : Pivot) (s : List Float)
-    → r ≡ between 0 4 best (λ (t : ℕ) (p : Pivot). private.picked (c + t) (at s t) p) → s ≡ squares a n c 4 zeros j m
-    → j ≤ m → r ≡ between c (c + 4) best (private.better a m n j)
+pub block-picked : (a : List Float) (m n j c k : ℕ) (best r : Pivot) (s : List Float)
+    → r ≡ between 0 k best (λ (t : ℕ) (p : Pivot). private.picked (c + t) (at s t) p) → s ≡ squares a n c k (replicate k 0ᶠ) j m
+    → j ≤ m → r ≡ between c (c + k) best (private.better a m n j)
 unfolding private.better
-four-picked a m n j c best r s e f h =
+block-picked a m n j c k best r s e f h =
     e ∙ rw f
-    (between_ext best _ _ 0 4 (omega arith)
-    λ t p l u. rw (norms_are a n j m c 4 zeros (omega arith) h t u (no_norm t u))) ∙ sym (between_shift best _ c 4)
+    (between_ext best _ _ 0 k (omega arith)
+    λ t p l u. rw (norms_are a n j m c k (replicate k 0ᶠ) (omega (arith, length-replicate k 0ᶠ)) h t u (get_or-replicate k t 0ᶠ nan u)))
+    ∙ sym (between_shift best _ c k)
 
-pub one-picked : (a : List Float) (m n j c k : ℕ) (best p r : Pivot) (norm : Float) → r ≡ private.picked k norm p
-    → norm ≡ least.norm2 a n k j m → p ≡ between c k best (private.better a m n j) → c ≤ k
-    → r ≡ between c (k + 1) best (private.better a m n j)
-unfolding private.better
-one-picked a m n j c k best p r norm e f g h = between_again best _ c k p r h g (rw f at e)
-
-pub find-run : (a : List Float) (m n j : ℕ) (norm : Float) (e : Scan) (g : Pivot)
-    → g ≡ between e.next n e.best (private.better a m n j)
-    → private.Scanned a m n j (j + 1) (record { col = j; norm = norm }) e → norm ≡ least.norm2 a n j j m
-    → g ≡ least.pivot a m n j
+pub find-run : (a : List Float) (m n j : ℕ) (s : List Float) (e g : Scan)
+    → private.Scanned a m n j e.next e.best 1 g → private.Scanned a m n j (j + 1) (record { col = j; norm = at s 0 }) 4 e
+    → s ≡ squares a n j 1 (replicate 1 0ᶠ) j m → j ≤ m → g.best ≡ least.pivot a m n j
 unfolding least.pivot private.better private.picked
-find-run a m n j norm e g eg se en =
+find-run a m n j s e g sg se es h =
+    let q : at s 0 ≡ least.norm2 a n (j + 0) j m = rw es (norms_are a n j m j 1 (replicate 1 0ᶠ) (omega arith) h 0 (omega arith) refl) in
+    let z : j + 0 ≡ j = omega arith in
+    let w : g.next ≡ n = omega (arith, sg.to, sg.left) in
     let x : e.best ≡ between (suc j) e.next (record { col = j; norm = least.norm2 a n j j m }) (private.better a m n j) =
-    rw (add-one, en) at se.pivot in
-    between_more _ _ (suc j) e.next n e.best g eg x (omega (arith, se.from)) se.to
-
-pub brought_still : (m n j c : ℕ) (a b : List Float) (p : List ℕ) → c ≡ j → least.factors a b p ≡ least.brought m n j c (least.factors a b p)
-unfolding least.brought
-brought_still m n j c a b p e = rw (eq-eqb c j e)
-
-pub brought-run : (m n j c : ℕ) (a b : List Float) (p : List ℕ) (a1 : List Float) (p1 : List ℕ) → p1 ≡ swap 0 p j c
-    → a1 ≡ private.swap_columns n j c a m → (c ≡ j → ⊥) → least.factors a1 b p1 ≡ least.brought m n j c (least.factors a b p)
-unfolding least.brought private.swap_columns
-brought-run m n j c a b p a1 p1 ep ea e = rw (ne_eqb c j e, ep, ea)
+    rw (add-one, q, z) at se.pivot in
+    let y : g.best ≡ between e.next n e.best (private.better a m n j) = rw w at sg.pivot in
+    between_more _ _ (suc j) e.next n e.best g.best y x (omega (arith, se.from)) se.to
 
 -- ---- a column's reflector
 
 module _ (a : List Float) (m n j : ℕ) (v v1 : List Float) (sigma beta : Float)
     (copied : v1 ≡ updated nan (λ (row : ℕ). row) (λ (row : ℕ) (x : Float). at a (row * n + j)) j m v)
     (room : m ≤ length v) (low : j < m)
-    (sums : sigma ≡ sum 0ᶠ (λ (t : ℕ). at v1 (0 + t * 1) ⊗ at v1 (0 + t * 1)) (j + 1) m)
+    (sums : sigma ≡ sum 0ᶠ (λ (t : ℕ). at v1 t ⊗ at v1 t) (j + 1) m)
     (signed : beta ≡ reflector.beta (at v1 j) sigma) where
   entry : (row : ℕ) → j ≤ row → row < m → at v1 row ≡ at a (row * n + j)
   entry row l u = rw copied (updated_here nan (λ row. row) (λ row x. at a (row * n + j)) j v (λ t w h e. omega arith) m row l u (omega arith))
@@ -120,61 +93,57 @@ module _ (a : List Float) (m n j : ℕ) (v v1 : List Float) (sigma beta : Float)
 
   sigma-is : sigma ≡ least.norm2 a n j (suc j) m
   unfolding least.norm2
-  sigma-is = sums ∙ rw add-one (gathered_ext (add binary64) 0ᶠ _ (suc j) _ m low λ t l u. rw (mul-one t, zero-add t, entry t (omega arith) u))
+  sigma-is = sums ∙ rw add-one (gathered_ext (add binary64) 0ᶠ _ (suc j) _ m low λ t l u. rw (entry t (omega arith) u))
 
-  parts : record { beta = beta; v0 = at v1 j ⊖ beta; vtv = (at v1 j ⊖ beta) ⊗ (at v1 j ⊖ beta) ⊕ sigma } ≡ private.householder a m n j
+  parts : record { beta = beta; vtv = (at v1 j ⊖ beta) ⊗ (at v1 j ⊖ beta) ⊕ sigma } ≡ private.householder a m n j
   unfolding private.householder
   parts = rw (signed, sigma-is, entry j (omega arith) low)
 
   pub householder-run : private.Reflects a m n j
-      (record { beta = beta; v0 = at v1 j ⊖ beta; vtv = (at v1 j ⊖ beta) ⊗ (at v1 j ⊖ beta) ⊕ sigma })
+      (record { beta = beta; vtv = (at v1 j ⊖ beta) ⊗ (at v1 j ⊖ beta) ⊕ sigma })
       (set v1 j (at v1 j ⊖ beta))
   householder-run =
       record {
         parts = parts;
-        first = get_or-set_same v1 j (at v1 j ⊖ beta) nan (omega (arith, long));
+        first = rw (← entry j (omega arith) low) (get_or-set_same v1 j (at v1 j ⊖ beta) nan (omega (arith, long)));
         below = λ row l u. get_or-set_other v1 j row (at v1 j ⊖ beta) nan (λ e. omega arith) ∙ entry row (omega arith) u;
       }
 
-pub reflect-column-run : (m n j : ℕ) (v : List Float) (vtv : Float) (c first : ℕ) (a r : List Float)
-    → r ≡ reflector.reflect first (λ (t : ℕ). c + t * n) (at v j) (λ (t : ℕ). at v (0 + t)) vtv (j + 1) m a → first ≡ j * n + c
-    → j < m → r ≡ private.reflect_column m n j (at v j) (λ row. at v row) vtv c a
-unfolding private.reflect_column
-reflect-column-run m n j v vtv c first a r e f h =
-    e ∙ rw (f, add-one)
-    (reflect_ext (j * n + c) (λ t. c + t * n) (λ row. row * n + c) (at v j) (λ t. at v (0 + t)) (λ row. at v row) vtv
-    (suc j) m a h (λ t l u. add_comm c (t * n)) (λ t l u. rw (zero-add t)))
-
-pub columns-run : (n j c : ℕ) (f : ℕ → List Float → List Float) (a a1 a2 : List Float) → a2 ≡ between c n a1 f
-    → a1 ≡ between (j + 1) c a f → j + 1 ≤ c → c ≤ n → a2 ≡ between (suc j) n a f
-columns-run n j c f a a1 a2 e2 e1 h1 h2 = let x : a1 ≡ between (suc j) c a f = rw add-one at e1 in
-    between_more a f (suc j) c n a1 a2 e2 x (omega arith) h2
+pub columns-run : (n j c d : ℕ) (f : ℕ → List Float → List Float) (a a1 a2 : List Float) → a2 ≡ between c d a1 f
+    → a1 ≡ between (j + 1) c a f → j + 1 ≤ c → c ≤ d → d ≤ n → n < d + 1 → a2 ≡ between (suc j) n a f
+columns-run n j c d f a a1 a2 e2 e1 h1 h2 h3 h4 = let x : a1 ≡ between (suc j) c a f = rw add-one at e1 in
+    let q : d ≡ n = omega arith in
+    rw q at (between_more a f (suc j) c d a1 a2 e2 x (omega arith) h2)
 
 module _ (m n j : ℕ) (a b v : List Float) (h : Householder) (refl_of : private.Reflects a m n j h v) (low : j < m) (small : j < n) where
+  v0 : Float
+  v0 = at a (j * n + j) ⊖ h.beta
+
   columns-same : between (suc j) n a (private.reflect_column m n j (at v j) (λ row. at v row) h.vtv)
-      ≡ between (suc j) n a (private.reflect_column m n j h.v0 (λ row. at a (row * n + j)) h.vtv)
-  unfolding private.reflect_column
+      ≡ between (suc j) n a (private.reflect_column m n j v0 (λ row. at a (row * n + j)) h.vtv)
+  unfolding private.reflect_column v0
   columns-same =
       between_ext a _ _ (suc j) n small λ c x l u.
       rw refl_of.first
-      (reflect_ext (j * n + c) (λ row. row * n + c) (λ row. row * n + c) h.v0 (λ row. at v row)
+      (reflect_ext (j * n + c) (λ row. row * n + c) (λ row. row * n + c) v0 (λ row. at v row)
       (λ row. at a (row * n + j)) h.vtv (suc j) m x low (λ t l u. refl) refl_of.below)
 
-  side_same : reflector.reflect j (λ (t : ℕ). 0 + t * 1) h.v0 (λ (t : ℕ). at v (0 + t)) h.vtv (suc j) m b
-      ≡ reflector.reflect j (λ row. row) h.v0 (λ row. at a (row * n + j)) h.vtv (suc j) m b
+  side_same : between 0 (0 + 1) b (private.reflect_column m 1 j (at v j) (λ (row : ℕ). at v row) h.vtv)
+      ≡ reflector.reflect j (λ row. row) v0 (λ row. at a (row * n + j)) h.vtv (suc j) m b
+  unfolding private.reflect_column v0 between turns
   side_same =
-      reflect_ext j (λ t. 0 + t * 1) (λ row. row) h.v0 (λ t. at v (0 + t)) (λ row. at a (row * n + j)) h.vtv
-      (suc j) m b low (λ t l u. rw (mul-one t, zero-add t)) (λ t l u. rw (zero-add t) (refl_of.below t l u))
+      let q : j * 1 + 0 ≡ j = omega arith in
+      rw (refl_of.first, q)
+      (reflect_ext j (λ row. row * 1 + 0) (λ row. row) v0 (λ row. at v row) (λ row. at a (row * n + j)) h.vtv
+      (suc j) m b low (λ t l u. omega arith) refl_of.below)
 
   pub eliminated-run : (p : List ℕ) (a1 a2 a3 b1 : List Float) → a3 ≡ private.zero_below n j a2 m
       → a2 ≡ set a1 (j * n + j) h.beta
-      → b1 ≡ reflector.reflect j (λ (t : ℕ). 0 + t * 1) h.v0 (λ (t : ℕ). at v (0 + t)) h.vtv (j + 1) m b
+      → b1 ≡ between 0 (0 + 1) b (private.reflect_column m 1 j (at v j) (λ (row : ℕ). at v row) h.vtv)
       → a1 ≡ between (suc j) n a (private.reflect_column m n j (at v j) (λ row. at v row) h.vtv)
       → least.factors a3 b1 p ≡ least.eliminated m n j (least.factors a b p)
-  unfolding least.eliminated private.householder private.reflect_column private.zero_below
-  eliminated-run p a1 a2 a3 b1 e3 e2 eb e1 =
-      let x : b1 ≡ reflector.reflect j (λ (t : ℕ). 0 + t * 1) h.v0 (λ (t : ℕ). at v (0 + t)) h.vtv (suc j) m b = rw add-one at eb in
-      rw (e3, e2, x, e1, columns-same, side_same, refl_of.parts)
+  unfolding least.eliminated private.householder private.reflect_column private.zero_below v0
+  eliminated-run p a1 a2 a3 b1 e3 e2 eb e1 = rw (e3, e2, eb, e1, columns-same, side_same, refl_of.parts)
 
 pub reduce-run : (m n j : ℕ) (a b : List Float) (p : List ℕ) (a2 b1 a1 : List Float) (p1 : List ℕ) (q : Pivot)
     → ((r : List ℕ) → least.factors a2 b1 r ≡ least.eliminated m n j (least.factors a1 b r))
@@ -215,19 +184,7 @@ module _ (m n : ℕ) (a b : List Float) (j : ℕ) (s t : least.Factors) (r : Boo
         (least.going (least.factors a b (tab (λ (i : ℕ). i) n))) (least.ended j t) (suc j) (sym g) (λ i b. refl) k l in
         rw i (record { columns = refl; most = omega arith; factors = refl })
 
-pub reduced_done : (m n : ℕ) (a b : List Float) (j k : ℕ) (s : least.Factors) → least.going s ≡ least.reduced m n a b j
-    → j ≤ k → k ≤ j → private.Stopped k (least.reduced m n a b k) k s
-reduced_done m n a b j k s e g h =
-    let q : j ≡ k = omega arith in
-    let f : least.going s ≡ least.reduced m n a b k = rw q at e in
-    rw (← f) (record { columns = refl; most = omega arith; factors = refl })
-
 -- ---- the rank
-
-pub leads-run : (n : ℕ) (a : List Float) (i : ℕ) (x y v w : Float) → x ≡ abs v → y ≡ abs w → v ≡ at a (0 * n + 0)
-    → w ≡ at a (i * n + i) → lt (1e-11 ⊗ x) y ≡ private.leads n a i
-unfolding private.leads
-leads-run n a i x y v w ex ey ev ew = let q : 0 * n + 0 ≡ 0 = omega arith in rw (ex, ey, ev, ew, q)
 
 -- all of the first i lead; the next does too, or it ends the count
 module _ (n : ℕ) (a : List Float) (i : ℕ) (all : i ≡ least.leading n a i) (l : Bool) (this : l ≡ private.leads n a i) where
@@ -247,99 +204,16 @@ module _ (n : ℕ) (a : List Float) (i : ℕ) (all : i ≡ least.leading n a i) 
   unfolding least.leading private.counted private.leads
   leading-ended k t h = sym (stays (private.counted n a) 0 i (suc i) (leading_here t) (λ j b. counted_still j (omega arith)) k h)
 
-pub leading_done : (n : ℕ) (a : List Float) (i k : ℕ) → i ≡ least.leading n a i → i ≤ k → k ≤ i → k ≡ least.leading n a k
-leading_done n a i k e g h = let q : i ≡ k = omega arith in rw q at e
-
--- ---- the trapezoid: p is where row i starts
-
-module _ (n rank i : ℕ) (p : ℕ) (start : p ≡ i * n + 0) where
-  row : p ≡ i * n
-  row = omega arith
-
-  pub row_norm-run : (a : List Float) (s r : Float) → r ≡ sum s (λ (t : ℕ). at a (p + t * 1) ⊗ at a (p + t * 1)) rank n
-      → rank ≤ n → r ≡ private.row_norm2 n rank i a s
-  unfolding private.row_norm2
-  row_norm-run a s r e h = e ∙ rw row (gathered_ext (add binary64) s _ rank _ n h λ t l u. rw (mul-one t))
-
-  pub kept_run : (q : ℕ) (a right right1 : List Float)
-      → right1 ≡ updated nan (λ (t : ℕ). q + t) (λ (t : ℕ) (v : Float). at a (p + t)) rank n right → q ≡ i * n + 0
-      → right1 ≡ private.kept_row n rank i a right
-  unfolding private.kept_row
-  kept_run q a right right1 e f = let g : q ≡ i * n = omega arith in rw (row, g) at e
-
-  pub known-run : (a b y : List Float) (r : Float)
-      → r ≡ difference (at b i) (λ (t : ℕ). at a (p + t) ⊗ at y (0 + t)) (i + 1) rank → i < rank
-      → r ≡ private.known n rank a b y i
-  unfolding private.known
-  known-run a b y r e h = e ∙ rw (add-one, row) (gathered_ext (sub binary64) (at b i) _ (suc i) _ rank h λ t l u. rw (zero-add t))
-
-  pub reflect-row-run : (right : List Float) (u0 utu : Float) (k q first : ℕ) (a a1 : List Float)
-      → a1 ≡ reflector.reflect first (λ (t : ℕ). q + t * 1) u0 (λ (t : ℕ). at right (p + t)) utu rank n a → q ≡ k * n + 0
-      → first ≡ k * n + i → rank ≤ n → a1 ≡ private.reflect_row n rank i right u0 utu k a
-  unfolding private.reflect_row
-  reflect-row-run right u0 utu k q first a a1 e f g h =
-      let r : q ≡ k * n = omega arith in
-      e ∙ rw (row, r, g)
-      (reflect_ext (k * n + i) (λ t. k * n + t * 1) (λ c. k * n + c) u0 (λ t. at right (i * n + t))
-      (λ c. at right (i * n + c)) utu rank n a h (λ t l u. rw (mul-one t)) (λ t l u. refl))
-
-  pub turn-run : (right y y1 : List Float) (u0 utu : Float)
-      → y1 ≡ reflector.reflect i (λ (t : ℕ). 0 + t * 1) u0 (λ (t : ℕ). at right (p + t)) utu rank n y → eq utu 0ᶠ ≡ false
-      → utu ≡ private.row_norm2 n rank i right (u0 ⊗ u0) → u0 ≡ at right (i * n + i) → rank ≤ n
-      → y1 ≡ private.turn n rank right i y
-  unfolding private.turn
-  turn-run right y y1 u0 utu e h d u l =
-      let q : eq (private.row_norm2 n rank i right (at right (i * n + i) ⊗ at right (i * n + i))) 0ᶠ ≡ false = rw (← u, ← d) h in
-      e ∙ rw (row, q, ← u, ← d)
-      (reflect_ext i (λ t. 0 + t * 1) (λ t. t) u0 (λ t. at right (i * n + t)) (λ t. at right (i * n + t)) utu rank n y l
-      (λ t l u. rw (mul-one t, zero-add t)) (λ t l u. refl))
-
-pub turn_still : (n rank : ℕ) (right : List Float) (i : ℕ) (y : List Float) (utu u0 : Float) → eq utu 0ᶠ ≡ true
-    → utu ≡ private.row_norm2 n rank i right (u0 ⊗ u0) → u0 ≡ at right (i * n + i) → y ≡ private.turn n rank right i y
-unfolding private.turn
-turn_still n rank right i y utu u0 h d u =
-    let q : eq (private.row_norm2 n rank i right (at right (i * n + i) ⊗ at right (i * n + i))) 0ᶠ ≡ true =
-    rw (← u, ← d) h in
-    rw q
-
-module _ (n rank i : ℕ) (a right : List Float) (alpha sigma : Float) (sums : sigma ≡ private.row_norm2 n rank i a 0ᶠ) where
-  pub clear_still : eq sigma 0ᶠ ≡ true → least.trapezoid a right ≡ private.clear n rank i (least.trapezoid a right)
-  unfolding private.clear
-  clear_still h = let q : eq (private.row_norm2 n rank i a 0ᶠ) 0ᶠ ≡ true = rw (← sums) h in rw q
-
-  pub clear-run : (a1 u u1 : List Float) (g : Float)
-      → a1 ≡ private.reflect_rows n rank i u (alpha ⊖ g) ((alpha ⊖ g) ⊗ (alpha ⊖ g) ⊕ sigma) a (suc i)
-      → u ≡ private.kept_row n rank i a u1 → u1 ≡ set right (i * n + i) (alpha ⊖ g) → g ≡ reflector.beta alpha sigma
-      → eq sigma 0ᶠ ≡ false → alpha ≡ at a (i * n + i) → least.trapezoid a1 u ≡ private.clear n rank i (least.trapezoid a right)
-  unfolding private.clear
-  clear-run a1 u u1 g ea eu e1 eg h el = let q : eq (private.row_norm2 n rank i a 0ᶠ) 0ᶠ ≡ false = rw (← sums) h in rw (q, ea, eu, e1, eg, sums, el)
-
-pub cleared-some : (n rank : ℕ) (a : List Float) (t : least.Trapezoid) → t ≡ least.cleared n rank a 0 → rank < n
-    → t ≡ least.cleared n rank a (private.last_cleared n rank)
-unfolding private.last_cleared
-cleared-some n rank a t e h = rw (lt-ltb rank n h) e
-
-pub cleared-none : (n rank : ℕ) (a right : List Float) (k : ℕ) → right ≡ replicate k 0ᶠ → k ≡ rank * n → n ≤ rank
-    → least.trapezoid a right ≡ least.cleared n rank a (private.last_cleared n rank)
-unfolding private.last_cleared least.cleared
-cleared-none n rank a right k e q h = rw (le-ltb rank n h, e, q) (downward-from _ _ rank)
-
 -- ---- the solution
-
-pub turned-some : (n rank : ℕ) (right y z : List Float) → z ≡ least.turned n rank right y rank → rank < n
-    → z ≡ least.turned n rank right y (private.first_turned n rank)
-unfolding private.first_turned
-turned-some n rank right y z e h = rw (lt-ltb rank n h) e
 
 pub turned_none : (n rank : ℕ) (right y : List Float) → n ≤ rank → y ≡ least.turned n rank right y (private.first_turned n rank)
 unfolding private.first_turned least.turned
 turned_none n rank right y h = rw (le-ltb rank n h) (turns-from _ _)
 
-pub replicate-at : (s : List Float) (v : Float) (k l : ℕ) → s ≡ replicate k v → k ≡ l → s ≡ replicate l v
-replicate-at s v k l e q = rw (← q) e
-
-pub tab-at : (s : List ℕ) (k l : ℕ) → s ≡ tab (λ (i : ℕ). i) k → k ≡ l → s ≡ tab (λ (i : ℕ). i) l
-tab-at s k l e q = rw (← q) e
+pub cleared-none : (n rank : ℕ) (a right : List Float) (k : ℕ) → right ≡ replicate k 0ᶠ → k ≡ rank * n → n ≤ rank
+    → least.trapezoid a right ≡ least.cleared n rank a (private.last_cleared n rank)
+unfolding private.last_cleared least.cleared
+cleared-none n rank a right k e q h = rw (le-ltb rank n h, e, q) (downward-from _ _ rank)
 
 pub solved-run : (n rank : ℕ) (a b : List Float) (perm : List ℕ) (x z y u a1 : List Float)
     → x ≡ least.unpermuted (length perm) perm z (length perm) → length perm ≡ n

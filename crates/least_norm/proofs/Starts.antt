@@ -237,16 +237,14 @@ order-run n perm x z y e lp lz onto =
 
 -- ---- the solution at full rank, from any x and y
 
-pub full-run : (n : ℕ) (a b : List Float) (perm : List ℕ) (x z y w : List Float)
-    → x ≡ starts.unpermuted z perm y (length perm) → y ≡ starts.substituted w n n a b 0 → length perm ≡ n → length z ≡ n
-    → length w ≡ n → private.Onto n perm → 0 < n → least.solution n a b x ≡ least.solved n (least.factors a b perm) n
-full-run n a b perm x z y w ex ey lp lz lw onto h =
+pub full-run : (n rank : ℕ) (a b : List Float) (perm : List ℕ) (x z y w : List Float) → rank ≡ n
+    → x ≡ starts.unpermuted z perm y (length perm) → y ≡ starts.substituted w n rank a b 0 → length perm ≡ n → length z ≡ n
+    → length w ≡ n → private.Onto n perm → 0 < n → least.solution rank a b x ≡ least.solved n (least.factors a b perm) rank
+full-run n rank a b perm x z y w q ex ey lp lz lw onto h =
     let l : length (replicate n 0ᶠ) ≡ n = length-replicate n 0ᶠ in
-    let fy = zeros-substituted n n a b y (replicate n 0ᶠ) (ey ∙ substituted_any n a b w (replicate n 0ᶠ) lw l) refl in
+    let e : y ≡ starts.substituted w n n a b 0 = rw q at ey in
+    let fy = zeros-substituted n n a b y (replicate n 0ᶠ) (e ∙ substituted_any n a b w (replicate n 0ᶠ) lw l) refl in
     let k : n ≤ n = omega arith in
-    solved-run n n a b perm x y y (replicate (n * n) 0ᶠ) a (order-run n perm x z y ex lp lz onto) lp
-    (turned_none n n (replicate (n * n) 0ᶠ) y k) fy (cleared-none n n a (replicate (n * n) 0ᶠ) (n * n) refl refl k) h
-
-pub full_at : (n rank : ℕ) (a b x : List Float) (s : least.Factors) → rank ≡ n → least.solution n a b x ≡ least.solved n s n
-    → least.solution rank a b x ≡ least.solved n s rank
-full_at n rank a b x s q e = rw q e
+    rw q
+    (solved-run n n a b perm x y y (replicate (n * n) 0ᶠ) a (order-run n perm x z y ex lp lz onto) lp
+    (turned_none n n (replicate (n * n) 0ᶠ) y k) fy (cleared-none n n a (replicate (n * n) 0ᶠ) (n * n) refl refl k) h)

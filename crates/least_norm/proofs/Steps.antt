@@ -1,19 +1,18 @@
 -- Loops whose turns read the matrix by place: where each starts, its next turn, and its end, in the form in which
 -- `search` applies them.
 use Prim.Native.Nat.{ℕ, suc, ◌+◌, ◌-◌, ◌*◌, ◌≤◌, ◌<◌}
-use mathlib.Core.Path.{◌≡◌, refl, ◌∙◌}
+use mathlib.Core.Path.{◌≡◌}
 use mathlib.Core.List.{List}
 use native.Mathlib.Numerals.{add-one}
 use lib.ListN.{get_or, set, replicate}
 use lib.Ieee.{Float, nan}
 use Rattle.loops.specs.Updates.{updated}
-use Rattle.loops.proofs.Turns.{between-from, between_again, between_done, downward-from, downward_again, downward_done, turns-from, turns_again, turns_done}
-use Rattle.loops.proofs.Updates.{updated-start, updated_again, updated_done}
-use Rattle.floats.specs.Ops.{◌⊕◌, ◌⊗◌, ◌⊘◌, at, 0ᶠ}
+use Rattle.loops.proofs.Turns.{between-from, between_again, downward-from, downward_again, turns-from, turns_again}
+use Rattle.loops.proofs.Updates.{updated-start}
+use Rattle.floats.specs.Ops.{◌⊕◌, ◌⊖◌, ◌⊗◌, ◌⊘◌, at, 0ᶠ}
 use Rattle.least_norm.specs.LeastNorm as least
 use Rattle.least_norm.specs.Starts as starts
 use Rattle.least_norm.specs.Private as private
-use Rattle.least_norm.specs.Private.{less}
 use Rattle.least_norm.specs.Blocks.{squares, products, less_rows}
 
 -- p is the place of row i and column c
@@ -22,18 +21,11 @@ module _ (a : List Float) (n c k : ℕ) (s₀ : List Float) (j : ℕ) where
   unfolding squares
   squares-start = between-from _ _ _
 
-  pub squares-from : (s : List Float) → s ≡ s₀ → s ≡ squares a n c k s₀ j j
-  squares-from s e = e ∙ squares-start
-
   pub squares_again : (i p : ℕ) (s x : List Float)
       → x ≡ updated nan (λ (t : ℕ). t) (λ (t : ℕ) (v : Float). v ⊕ at a (p + t) ⊗ at a (p + t)) 0 k s
       → s ≡ squares a n c k s₀ j i → p ≡ i * n + c → j ≤ i → x ≡ squares a n c k s₀ j (i + 1)
   unfolding squares
   squares_again i p s x g e q h = between_again _ _ j i s x h e (rw (← q) g)
-
-  pub squares_done : (i m : ℕ) (s : List Float) → i ≤ m → m ≤ i → s ≡ squares a n c k s₀ j i → s ≡ squares a n c k s₀ j m
-  unfolding squares
-  squares_done i m s g h e = between_done _ _ j i m s g h e
 
   module _ (v : List Float) where
     pub products-start : s₀ ≡ products a n c k v s₀ j j
@@ -46,38 +38,21 @@ module _ (a : List Float) (n c k : ℕ) (s₀ : List Float) (j : ℕ) where
     unfolding products
     products_again i p s x g e q h = between_again _ _ j i s x h e (rw (← q) g)
 
-    pub products_done : (i m : ℕ) (s : List Float) → i ≤ m → m ≤ i → s ≡ products a n c k v s₀ j i → s ≡ products a n c k v s₀ j m
-    unfolding products
-    products_done i m s g h e = between_done _ _ j i m s g h e
-
 module _ (n c k : ℕ) (v f a₀ : List Float) (j : ℕ) where
   pub less_rows-start : a₀ ≡ less_rows n c k v f a₀ j j
   unfolding less_rows
   less_rows-start = between-from _ _ _
 
   pub less_rows_again : (i p : ℕ) (s x : List Float)
-      → x ≡ less (λ (t : ℕ). p + t) (at v i) (λ (t : ℕ). at f (0 + t)) 0 k s → s ≡ less_rows n c k v f a₀ j i
+      → x ≡ updated nan (λ (t : ℕ). p + t) (λ (t : ℕ) (y : Float). y ⊖ at f t ⊗ at v i) 0 k s → s ≡ less_rows n c k v f a₀ j i
       → p ≡ i * n + c → j ≤ i → x ≡ less_rows n c k v f a₀ j (i + 1)
   unfolding less_rows
   less_rows_again i p s x g e q h = between_again _ _ j i s x h e (rw (← q) g)
-
-  pub less_rows_done : (i m : ℕ) (s : List Float) → i ≤ m → m ≤ i → s ≡ less_rows n c k v f a₀ j i → s ≡ less_rows n c k v f a₀ j m
-  unfolding less_rows
-  less_rows_done i m s g h e = between_done _ _ j i m s g h e
 
 module _ (n j : ℕ) (a : List Float) where
   pub zero_below-start : a ≡ private.zero_below n j a (j + 1)
   unfolding private.zero_below
   zero_below-start = rw add-one (updated-start nan _ _ (suc j) a)
-
-  pub zero_below_again : (i : ℕ) (s x : List Float) → x ≡ set s (i * n + j) 0ᶠ → s ≡ private.zero_below n j a i → suc j ≤ i
-      → x ≡ private.zero_below n j a (i + 1)
-  unfolding private.zero_below
-  zero_below_again i s x g e h = g ∙ updated_again nan _ _ (suc j) a i (i * n + j) s 0ᶠ h e refl refl
-
-  pub zero_below_done : (i m : ℕ) (s : List Float) → i ≤ m → m ≤ i → s ≡ private.zero_below n j a i → s ≡ private.zero_below n j a m
-  unfolding private.zero_below
-  zero_below_done i m s g h e = updated_done nan _ _ (suc j) a i m s g h e
 
 pub cleared-from : (n rank : ℕ) (a right : List Float) → right ≡ replicate (rank * n) 0ᶠ → least.trapezoid a right ≡ least.cleared n rank a rank
 unfolding least.cleared
@@ -94,10 +69,6 @@ module _ (y₀ : List Float) (n rank : ℕ) (a b : List Float) where
   unfolding starts.substituted
   substituted_again i y u v h g e f p = downward_again _ _ rank i y (set y (i - 1) (u ⊘ v)) h g e (rw (f, p))
 
-  pub substituted_done : (i : ℕ) (y : List Float) → i ≤ 0 → y ≡ starts.substituted y₀ n rank a b i → y ≡ starts.substituted y₀ n rank a b 0
-  unfolding starts.substituted
-  substituted_done i y h e = downward_done _ _ rank i y h e
-
 module _ (x₀ : List Float) (perm : List ℕ) (y : List Float) where
   pub unpermuted-from : x₀ ≡ starts.unpermuted x₀ perm y 0
   unfolding starts.unpermuted
@@ -107,7 +78,3 @@ module _ (x₀ : List Float) (perm : List ℕ) (y : List Float) where
       → x ≡ starts.unpermuted x₀ perm y j → z ≡ starts.unpermuted x₀ perm y (j + 1)
   unfolding starts.unpermuted
   unpermuted_again j p x z g q e = turns_again _ _ j x z e (rw (← q) g)
-
-  pub unpermuted_done : (j k : ℕ) (x : List Float) → j ≤ k → k ≤ j → x ≡ starts.unpermuted x₀ perm y j → x ≡ starts.unpermuted x₀ perm y k
-  unfolding starts.unpermuted
-  unpermuted_done j k x g h e = turns_done _ _ j k x g h e

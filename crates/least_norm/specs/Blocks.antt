@@ -1,20 +1,11 @@
 -- The same operations in another order: k adjacent columns, from column c on, together and row by row. Each scalar
 -- keeps its operations and their order (proofs/Blocks.antt). Words of private contracts: no promise of a public call
 -- stands on them. Definitions only.
-use Rattle.std.specs.Prelude.{ℕ, ◌+◌, ◌*◌, List, [], ◌∷◌, Float}
+use Rattle.std.specs.Prelude.{ℕ, ◌+◌, ◌*◌, List, Float}
 use Rattle.std.specs.Float.{nan}
 use Rattle.loops.specs.Loops.{between}
 use Rattle.loops.specs.Updates.{updated}
-use Rattle.floats.specs.Ops.{◌⊕◌, ◌⊗◌, at, 0ᶠ}
-use Rattle.least_norm.specs.Private.{less}
-use Rattle.least_norm.specs.declared.Four.{Four}
-
--- four entries as a list, and four zeros
-abbrev pub lanes : Four → List Float
-lanes s = s.a ∷ s.b ∷ s.c ∷ s.d ∷ []
-
-abbrev pub zeros : List Float
-zeros = 0ᶠ ∷ 0ᶠ ∷ 0ᶠ ∷ 0ᶠ ∷ []
+use Rattle.floats.specs.Ops.{◌⊕◌, ◌⊖◌, ◌⊗◌, at}
 
 -- to s t the squares of column c + t, from row `from` up to row m
 unfoldable pub squares : List Float → ℕ → ℕ → ℕ → List Float → ℕ → ℕ → List Float
@@ -24,6 +15,6 @@ squares a n c k s from m = between from m s λ row s. updated nan (λ t. t) (λ 
 unfoldable pub products : List Float → ℕ → ℕ → ℕ → List Float → List Float → ℕ → ℕ → List Float
 products a n c k v s from m = between from m s λ row s. updated nan (λ t. t) (λ t x. x ⊕ at v row ⊗ at a (row * n + c + t)) 0 k s
 
--- each row less v's entry times the columns' factors f
+-- each row less the columns' factors f times v's entry
 unfoldable pub less_rows : ℕ → ℕ → ℕ → List Float → List Float → List Float → ℕ → ℕ → List Float
-less_rows n c k v f a from m = between from m a λ row a. less (λ t. row * n + c + t) (at v row) (λ t. at f (0 + t)) 0 k a
+less_rows n c k v f a from m = between from m a λ row a. updated nan (λ t. row * n + c + t) (λ t x. x ⊖ at f t ⊗ at v row) 0 k a

@@ -1,6 +1,6 @@
 -- Words of private contracts: lengths and places, and the parts of the steps between which the code passes. No promise of a public call
 -- stands on them; those are in Promise.antt. Definitions only.
-use Rattle.std.specs.Prelude.{ℕ, suc, ◌+◌, ◌*◌, ◌≤◌, ◌<◌, ◌≡◌, Bool, true, false, cond, ◌&&◌, List, ltb, eqb, length, get_or, set, Float}
+use Rattle.std.specs.Prelude.{ℕ, suc, ◌+◌, ◌*◌, ◌≤◌, ◌<◌, ◌≡◌, Bool, true, false, cond, ◌&&◌, List, ltb, eqb, length, get_or, set, slice_range, Float}
 use Rattle.std.specs.Float.{nan}
 use Rattle.std.specs.Float.Ieee.{lt, eq}
 use Rattle.loops.specs.Loops.{turns, between, swap}
@@ -12,38 +12,39 @@ use Rattle.least_norm.specs.Reflector.{beta, reflect}
 use Rattle.least_norm.specs.declared.Householder.{Householder}
 use Rattle.least_norm.specs.declared.Pivot.{Pivot}
 use Rattle.least_norm.specs.declared.Scan.{Scan}
+use Rattle.least_norm.specs.declared.size.Size.{Size}
 use Rattle.least_norm.specs.LeastNorm as least
 
--- a holds m rows of n entries, few enough
-abbrev pub Matrix : List Float → ℕ → ℕ → Type 0
-Matrix a m n = (length a ≡ m * n) × (m ≤ 32) × (n ≤ 32)
+-- a holds as many rows and columns
+abbrev pub Matrix : List Float → Size → Type 0
+Matrix a size = length a ≡ size.m * size.n
 
--- and has row i and column j
-abbrev pub Cell : List Float → ℕ → ℕ → ℕ → ℕ → Type 0
-Cell a m n i j = (length a ≡ m * n) × (i < m) × (j < n) × (m ≤ 32) × (n ≤ 32)
-
--- r is the place of row i and column j, and what is left of the row stands after it
+-- r is the place of row i and column c, and what is left of the row stands after it
 abbrev pub Place : ℕ → ℕ → ℕ → ℕ → ℕ → Type 0
-Place m n i j r = (r ≡ i * n + j) × (r + n ≤ m * n + j)
+Place m n i c r = (r ≡ i * n + c) × (r + n ≤ m * n + c)
 
--- x has the places from p + lo up to p + hi
-abbrev pub Part : List Float → ℕ → ℕ → ℕ → Type 0
-Part x p lo hi = (lo ≤ hi) × (p + hi ≤ length x)
+-- row i of rows of n entries
+abbrev pub row : ℕ → ℕ → List Float → List Float
+row n i a = slice_range a (i * n) ((i + 1) * n)
 
--- x has the places p + lo * k, p + (lo + 1) * k, .. up to hi
-abbrev pub Strided : List Float → ℕ → ℕ → ℕ → ℕ → Type 0
-Strided x p k lo hi = (lo ≤ hi) × (p + hi * k < length x + k)
+-- x has the places from lo up to hi
+abbrev pub Part : List Float → ℕ → ℕ → Type 0
+Part x lo hi = (lo ≤ hi) × (hi ≤ length x)
 
 -- room for the reduction: b has m entries, perm n, and v at least m
-abbrev pub Reducing : List Float → ℕ → ℕ → List Float → List ℕ → List Float → Type 0
-Reducing a m n b perm v = (length a ≡ m * n) × (m ≤ 32) × (n ≤ 32) × (length b ≡ m) × (length perm ≡ n) × (m ≤ length v)
+abbrev pub Reducing : List Float → Size → List Float → List ℕ → List Float → Type 0
+Reducing a size b perm v = (length a ≡ size.m * size.n) × (length b ≡ size.m) × (length perm ≡ size.n) × (size.m ≤ length v)
 
--- a rank that a can have, and room for as many reflectors from the right
-abbrev pub Trapezoidal : List Float → ℕ → ℕ → ℕ → List Float → Type 0
-Trapezoidal a m n rank right = (length a ≡ m * n) × (m ≤ 32) × (n ≤ 32) × (rank ≤ m) × (rank ≤ n) × (length right ≡ rank * n)
+-- a trapezoid at the top of a, and room for as many reflectors from the right
+abbrev pub Trapezoidal : List Float → Size → List Float → Type 0
+Trapezoidal a top right = (top.m * top.n ≤ length a) × (top.m ≤ top.n) × (length right ≡ top.m * top.n)
 
-abbrev pub Turning : List Float → ℕ → ℕ → List Float → Type 0
-Turning right n rank y = (length right ≡ rank * n) × (n ≤ 32) × (rank ≤ n) × (length y ≡ n)
+-- a trapezoid at the top of a, with a value of b for each of its rows, and room in y
+abbrev pub Substituting : List Float → Size → List Float → List Float → Type 0
+Substituting a top b y = (top.m * top.n ≤ length a) × (top.m ≤ top.n) × (top.m ≤ length b) × (length y ≡ top.n)
+
+abbrev pub Turning : List Float → Size → List Float → Type 0
+Turning right top y = (length right ≡ top.m * top.n) × (top.m ≤ top.n) × (length y ≡ top.n)
 
 -- each number below n stands at a place of perm below n
 abbrev pub Onto : ℕ → List ℕ → Type 0
@@ -76,7 +77,7 @@ householder a m n j =
     let alpha = at a (j * n + j) in
     let sigma = least.norm2 a n j (suc j) m in
     let v0 = alpha ⊖ beta alpha sigma in
-    record { beta = beta alpha sigma; v0 = v0; vtv = v0 ⊗ v0 ⊕ sigma }
+    record { beta = beta alpha sigma; vtv = v0 ⊗ v0 ⊕ sigma }
 
 unfoldable pub reflect_column : ℕ → ℕ → ℕ → Float → (ℕ → Float) → Float → ℕ → List Float → List Float
 reflect_column m n j v0 v vtv c a = reflect (j * n + c) (λ row. row * n + c) v0 v vtv (suc j) m a
@@ -130,17 +131,18 @@ first_turned n rank = cond (ltb rank n) rank 0
 
 -- ---- what the functions leave
 
--- the pivot of the columns from c on to the next one, from a pivot before them
-pub record Scanned (a : List Float) (m n j c : ℕ) (best : Pivot) (r : Scan) : Type 0 where
+-- the pivot of the columns from c on to the next one, from a pivot before them; fewer than k columns are left
+pub record Scanned (a : List Float) (m n j c : ℕ) (best : Pivot) (k : ℕ) (r : Scan) : Type 0 where
   pub pivot : r.best ≡ between c r.next best (better a m n j)
   pub before : r.best.col < r.next
   pub from : c ≤ r.next
   pub to : r.next ≤ n
+  pub left : n < r.next + k
 
 -- v is column j's reflector h, from row j to row m
 pub record Reflects (a : List Float) (m n j : ℕ) (h : Householder) (v : List Float) : Type 0 where
   pub parts : h ≡ householder a m n j
-  pub first : at v j ≡ h.v0
+  pub first : at v j ≡ at a (j * n + j) ⊖ h.beta
   pub below : (row : ℕ) → suc j ≤ row → row < m → at v row ≡ at a (row * n + j)
 
 -- one column's work left s: it goes on, or it does not

@@ -1,4 +1,4 @@
-// A column's reflector, applied to the columns after it and to b. The reflector is copied to v, entry by row, and four
+// A column's reflector, applied to the columns after it and to b. The reflector is copied to v, entry by row, and K
 // adjacent columns are reflected together, row by row: each scalar keeps its operations and their order.
 ghost use Rattle.std.specs.Prelude.{◌≡◌, List, ℕ, suc, ◌+◌, ◌*◌, ◌≤◌, ◌<◌, length, Float};
 ghost use Rattle.std.specs.Float.{nan};
@@ -10,183 +10,141 @@ ghost use Rattle.least_norm.specs.Blocks as blocks;
 ghost use Rattle.least_norm.specs.Private as private;
 ghost use Rattle.least_norm.specs.Private.{Matrix, Reflects};
 
-use crate::{Four, Householder, lanes, place, reflect, vector};
+use crate::size::Size;
+use crate::{Householder, lanes, reflect, vector};
 
 // Column j from row j down, copied to v.
-fn copy_column(a: &[f64], m: usize, n: usize, j: usize, v: &mut [f64])
-    requires { Matrix a.now m n × (j < n) × (j ≤ m) × (m ≤ length v.old) }
+fn copy_column(a: &[f64], size: Size, j: usize, v: &mut [f64])
+    requires { Matrix a.now size × (j < size.n) × (j ≤ size.m) × (size.m ≤ length v.old) }
     ensures { v.new
-        ≡ updated nan (λ (row : ℕ). row) (λ (row : ℕ) (x : Float). at a.now (row * n + j)) j m
+        ≡ updated nan (λ (row : ℕ). row) (λ (row : ℕ) (x : Float). at a.now (row * size.n + j)) j size.m
         v.old }
 {
-    let mut row = j;
-    while row < m {
-        v[row] = place::cell(a, m, n, row, j);
-        row += 1;
+    for row in j..size.m {
+        v[row] = a[size.place(row, j)];
     }
 }
 
 // Column j's reflector, left in v from row j down. The column's norm may be guessed to be near.
-fn householder(a: &[f64], m: usize, n: usize, j: usize, v: &mut [f64], near: f64) -> Householder
-    requires { Matrix a.now m n × (j < n) × (j < m) × (m ≤ length v.old) }
-    ensures { Reflects a.now m n j result v.new }
+fn householder(a: &[f64], size: Size, j: usize, v: &mut [f64], near: f64) -> Householder
+    requires { Matrix a.now size × (j < size.n) × (j < size.m) × (size.m ≤ length v.old) }
+    ensures { Reflects a.now size.m size.n j result v.new }
 {
-    copy_column(a, m, n, j, v);
+    copy_column(a, size, j, v);
     let alpha = v[j];
-    let sigma = vector::dot(0.0, v, 0, 1, v, 0, 1, j + 1, m);
+    let sigma = vector::dot(0.0, v, v, j + 1, size.m);
     let beta = reflect::beta(alpha, sigma, near);
     let v0 = alpha - beta;
     v[j] = v0;
     Householder {
-        beta: beta,
-        v0: v0,
+        beta,
         vtv: v0 * v0 + sigma,
     }
 }
 
-// Adds to s the products of v with four columns from column c on, from row `from` down.
-fn add_products(a: &[f64], m: usize, n: usize, from: usize, c: usize, v: &[f64], s: Four) -> Four
-    requires { Matrix a.now m n × (from ≤ m) × (c + 4 ≤ n) × (m ≤ length v.now) }
-    ensures { blocks.lanes result
-        ≡ blocks.products a.now n c 4 v.now (blocks.lanes s) from m }
+// Adds to s the products of v with K columns from column c on, from row `from` down.
+fn add_products<const K: usize>(
+    mut s: [f64; K],
+    a: &[f64],
+    size: Size,
+    from: usize,
+    c: usize,
+    v: &[f64],
+) -> [f64; K]
+    requires { Matrix a.now size × (from ≤ size.m) × (c + K ≤ size.n) × (size.m ≤ length v.now) }
+    ensures { result ≡ blocks.products a.now size.n c K v.now s.entry from size.m }
 {
-    let mut r = s;
-    let mut row = from;
-    while row < m {
-        let p = place::place(m, n, row, c);
-        r = lanes::add_scaled(r, v[row], a, p);
-        row += 1;
+    for row in from..size.m {
+        s = lanes::add_scaled(s, v[row], a, size.place(row, c));
     }
-    r
+    s
 }
 
-// The factors of four columns from column c on: 2 * (v · column) / vtv.
-fn column_factors(a: &[f64], m: usize, n: usize, j: usize, c: usize, v: &[f64], vtv: f64) -> Four
-    requires { Matrix a.now m n × (j < m) × (c + 4 ≤ n) × (m ≤ length v.now) }
-    ensures { (t : ℕ) → t < 4
-        → at (blocks.lanes result) t
-        ≡ private.factor (j * n + (c + t)) (λ (row : ℕ). row * n + (c + t)) (at v.now j)
-        (λ (row : ℕ). at v.now row) vtv (suc j) m a.now }
+// The factors of K columns from column c on: 2 * (v · column) / vtv.
+fn column_factors<const K: usize>(
+    a: &[f64],
+    size: Size,
+    j: usize,
+    c: usize,
+    v: &[f64],
+    vtv: f64,
+) -> [f64; K]
+    requires { Matrix a.now size × (j < size.m) × (c + K ≤ size.n) × (size.m ≤ length v.now) }
+    ensures { (t : ℕ) → t < K
+        → at result t
+        ≡ private.factor (j * size.n + (c + t)) (λ (row : ℕ). row * size.n + (c + t)) (at v.now j)
+        (λ (row : ℕ). at v.now row) vtv (suc j) size.m a.now }
 {
-    let p = place::place(m, n, j, c);
-    let first = lanes::scaled(v[j], a, p);
-    let s = add_products(a, m, n, j + 1, c, v, first);
-    lanes::factors(s, vtv)
+    let first: [f64; K] = lanes::scaled(v[j], a, size.place(j, c));
+    lanes::factors(add_products(first, a, size, j + 1, c, v), vtv)
 }
 
-// Each row from row j down less v's entry times the factors f of its four entries from column c on.
-fn less_rows(a: &mut [f64], m: usize, n: usize, j: usize, c: usize, v: &[f64], f: Four)
-    requires { Matrix a.old m n × (j < m) × (c + 4 ≤ n) × (m ≤ length v.now) }
-    ensures { a.new ≡ blocks.less_rows n c 4 v.now (blocks.lanes f) a.old j m }
+// Each row from row j down less the factors f of its K entries from column c on times v's entry.
+fn less_rows<const K: usize>(a: &mut [f64], size: Size, j: usize, c: usize, v: &[f64], f: [f64; K])
+    requires { Matrix a.old size × (j < size.m) × (c + K ≤ size.n) × (size.m ≤ length v.now) }
+    ensures { a.new ≡ blocks.less_rows size.n c K v.now f.entry a.old j size.m }
 {
-    let mut row = j;
-    while row < m {
-        let p = place::place(m, n, row, c);
-        lanes::less_lanes(a, p, v[row], f);
-        row += 1;
+    for row in j..size.m {
+        lanes::less_lanes(a, size.place(row, c), f, v[row]);
     }
 }
 
-// H applied to four columns from column c on.
-fn reflect_four(a: &mut [f64], m: usize, n: usize, j: usize, c: usize, v: &[f64], vtv: f64)
-    requires { Matrix a.old m n × (j < m) × (c + 4 ≤ n) × (m ≤ length v.now) }
+// H applied to K columns from column c on.
+fn reflect_lanes<const K: usize>(a: &mut [f64], size: Size, j: usize, c: usize, v: &[f64], vtv: f64)
+    requires { Matrix a.old size × (j < size.m) × (c + K ≤ size.n) × (size.m ≤ length v.now) × (0 < K) }
     ensures { a.new
-        ≡ between c (c + 4) a.old
-        (private.reflect_column m n j (at v.now j) (λ (row : ℕ). at v.now row) vtv) }
+        ≡ between c (c + K) a.old
+        (private.reflect_column size.m size.n j (at v.now j) (λ (row : ℕ). at v.now row) vtv) }
 {
-    let f = column_factors(a, m, n, j, c, v, vtv);
-    less_rows(a, m, n, j, c, v, f);
+    let f: [f64; K] = column_factors(a, size, j, c, v, vtv);
+    less_rows(a, size, j, c, v, f);
 }
 
-// The same for as many four columns as there are. Returns the column after them.
-fn reflect_fours(
+// The same for K columns more, and K more, as long as there are so many. Returns the column after them. A `for` would
+// have to count such blocks by a division, and find each column again from its block's number.
+fn reflect_columns<const K: usize>(
     a: &mut [f64],
-    m: usize,
-    n: usize,
+    size: Size,
     j: usize,
     c: usize,
     v: &[f64],
     vtv: f64,
 ) -> usize
-    requires { Matrix a.old m n × (j < m) × (c ≤ n) × (m ≤ length v.now) }
+    requires { Matrix a.old size × (j < size.m) × (c ≤ size.n) × (size.m ≤ length v.now) × (0 < K) }
     ensures { (a.new
         ≡ between c result a.old
-        (private.reflect_column m n j (at v.now j) (λ (row : ℕ). at v.now row) vtv))
-        × (c ≤ result) × (result ≤ n) }
+        (private.reflect_column size.m size.n j (at v.now j) (λ (row : ℕ). at v.now row) vtv))
+        × (c ≤ result) × (result ≤ size.n) × (size.n < result + K) }
 {
     let mut next = c;
-    while next + 4 <= n {
-        reflect_four(a, m, n, j, next, v, vtv);
-        next += 4;
+    while K <= size.n - next {
+        reflect_lanes::<K>(a, size, j, next, v, vtv);
+        next += K;
     }
     next
 }
 
-// H applied to column c.
-fn reflect_column(a: &mut [f64], m: usize, n: usize, j: usize, c: usize, v: &[f64], vtv: f64)
-    requires { Matrix a.old m n × (j < m) × (c < n) × (m ≤ length v.now) }
-    ensures { a.new
-        ≡ private.reflect_column m n j (at v.now j) (λ (row : ℕ). at v.now row) vtv c
-        a.old }
+fn zero_below(a: &mut [f64], size: Size, j: usize)
+    requires { Matrix a.old size × (j < size.m) × (j < size.n) }
+    ensures { a.new ≡ private.zero_below size.n j a.old size.m }
 {
-    let first = place::place(m, n, j, c);
-    reflect::reflect(a, first, c, n, v[j], v, 0, vtv, j + 1, m);
-}
-
-// The same for all columns from column c on, one by one.
-fn reflect_each(a: &mut [f64], m: usize, n: usize, j: usize, c: usize, v: &[f64], vtv: f64)
-    requires { Matrix a.old m n × (j < m) × (c ≤ n) × (m ≤ length v.now) }
-    ensures { a.new
-        ≡ between c n a.old
-        (private.reflect_column m n j (at v.now j) (λ (row : ℕ). at v.now row) vtv) }
-{
-    let mut next = c;
-    while next < n {
-        reflect_column(a, m, n, j, next, v, vtv);
-        next += 1;
+    for row in j + 1..size.m {
+        a[size.place(row, j)] = 0.0;
     }
 }
 
-// The same for all columns after column j.
-fn reflect_columns(a: &mut [f64], m: usize, n: usize, j: usize, v: &[f64], vtv: f64)
-    requires { Matrix a.old m n × (j < m) × (j < n) × (m ≤ length v.now) }
-    ensures { a.new
-        ≡ between (suc j) n a.old
-        (private.reflect_column m n j (at v.now j) (λ (row : ℕ). at v.now row) vtv) }
-{
-    let c = reflect_fours(a, m, n, j, j + 1, v, vtv);
-    reflect_each(a, m, n, j, c, v, vtv);
-}
-
-fn zero_below(a: &mut [f64], m: usize, n: usize, j: usize)
-    requires { Matrix a.old m n × (j < m) × (j < n) }
-    ensures { a.new ≡ private.zero_below n j a.old m }
-{
-    let mut row = j + 1;
-    while row < m {
-        place::put(a, m, n, row, j, 0.0);
-        row += 1;
-    }
-}
-
-// Column j's reflector applied to the columns after it and to b. The column's norm may be guessed to be near.
-pub fn eliminate(
-    a: &mut [f64],
-    m: usize,
-    n: usize,
-    j: usize,
-    b: &mut [f64],
-    v: &mut [f64],
-    near: f64,
-)
-    requires { Matrix a.old m n × (j < m) × (j < n) × (length b.old ≡ m) × (m ≤ length v.old) }
+// Column j's reflector applied to the columns after it, four at a time and then one by one, and to b, a matrix of one
+// column. The column's norm may be guessed to be near.
+pub fn eliminate(a: &mut [f64], size: Size, j: usize, b: &mut [f64], v: &mut [f64], near: f64)
+    requires { Matrix a.old size × (j < size.m) × (j < size.n) × (length b.old ≡ size.m) × (size.m ≤ length v.old) }
     ensures { (p : List ℕ)
         → least.factors a.new b.new p
-        ≡ least.eliminated m n j (least.factors a.old b.old p) }
+        ≡ least.eliminated size.m size.n j (least.factors a.old b.old p) }
 {
-    let h = householder(a, m, n, j, v, near);
-    reflect_columns(a, m, n, j, v, h.vtv);
-    reflect::reflect(b, j, 0, 1, h.v0, v, 0, h.vtv, j + 1, m);
-    place::put(a, m, n, j, j, h.beta);
-    zero_below(a, m, n, j);
+    let h = householder(a, size, j, v, near);
+    let c = reflect_columns::<4>(a, size, j, j + 1, v, h.vtv);
+    reflect_columns::<1>(a, size, j, c, v, h.vtv);
+    reflect_lanes::<1>(b, Size { m: size.m, n: 1 }, j, 0, v, h.vtv);
+    a[size.place(j, j)] = h.beta;
+    zero_below(a, size, j);
 }

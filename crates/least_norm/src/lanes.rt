@@ -1,88 +1,64 @@
-// Four adjacent entries together, which the compiler keeps in registers. Each is computed as by itself; `lanes` of
-// specs/ lists the four.
-ghost use Rattle.std.specs.Prelude.{◌≡◌, ℕ, ◌+◌, ◌≤◌, length, Float};
+// K adjacent entries together, which the compiler keeps in registers. Each is computed as by itself.
+ghost use Rattle.std.specs.Prelude.{◌≡◌, ℕ, ◌+◌, ◌≤◌, length, replicate, Float};
 ghost use Rattle.std.specs.Float.{nan};
 ghost use Rattle.loops.specs.Updates.{updated};
-ghost use Rattle.floats.specs.Ops.{at, 2ᶠ, ◌⊕◌, ◌⊗◌, ◌⊘◌};
-ghost use Rattle.least_norm.specs.Blocks.{lanes, zeros};
-ghost use Rattle.least_norm.specs.Private.{less};
-
-use crate::{Four, vector};
-
-pub fn none() -> Four
-    ensures { lanes result ≡ zeros }
-{
-    Four {
-        a: 0.0,
-        b: 0.0,
-        c: 0.0,
-        d: 0.0,
-    }
-}
+ghost use Rattle.floats.specs.Ops.{at, 0ᶠ, 2ᶠ, ◌⊕◌, ◌⊖◌, ◌⊗◌, ◌⊘◌};
 
 // f * x[p], f * x[p + 1], ..
-pub fn scaled(f: f64, x: &[f64], p: usize) -> Four
-    requires { p + 4 ≤ length x.now }
-    ensures { lanes result
-        ≡ updated nan (λ (t : ℕ). t) (λ (t : ℕ) (v : Float). f ⊗ at x.now (p + t)) 0 4 zeros }
+pub fn scaled<const K: usize>(f: f64, x: &[f64], p: usize) -> [f64; K]
+    requires { p + K ≤ length x.now }
+    ensures { result
+        ≡ updated nan (λ (t : ℕ). t) (λ (t : ℕ) (v : Float). f ⊗ at x.now (p + t)) 0 K (replicate K 0ᶠ) }
 {
-    Four {
-        a: f * x[p],
-        b: f * x[p + 1],
-        c: f * x[p + 2],
-        d: f * x[p + 3],
+    let mut s = [0.0; K];
+    for t in 0..K {
+        s[t] = f * x[p + t];
     }
+    s
 }
 
-// s.a + f * x[p], s.b + f * x[p + 1], ..
-pub fn add_scaled(s: Four, f: f64, x: &[f64], p: usize) -> Four
-    requires { p + 4 ≤ length x.now }
-    ensures { lanes result
-        ≡ updated nan (λ (t : ℕ). t) (λ (t : ℕ) (v : Float). v ⊕ f ⊗ at x.now (p + t)) 0 4 (lanes s) }
+// s[0] + f * x[p], s[1] + f * x[p + 1], ..
+pub fn add_scaled<const K: usize>(mut s: [f64; K], f: f64, x: &[f64], p: usize) -> [f64; K]
+    requires { p + K ≤ length x.now }
+    ensures { result
+        ≡ updated nan (λ (t : ℕ). t) (λ (t : ℕ) (v : Float). v ⊕ f ⊗ at x.now (p + t)) 0 K s.entry }
 {
-    Four {
-        a: s.a + f * x[p],
-        b: s.b + f * x[p + 1],
-        c: s.c + f * x[p + 2],
-        d: s.d + f * x[p + 3],
+    for t in 0..K {
+        s[t] = s[t] + f * x[p + t];
     }
+    s
 }
 
-// s.a + x[p] * x[p], ..
-pub fn add_squares(s: Four, x: &[f64], p: usize) -> Four
-    requires { p + 4 ≤ length x.now }
-    ensures { lanes result
+// s[0] + x[p] * x[p], ..
+pub fn add_squares<const K: usize>(mut s: [f64; K], x: &[f64], p: usize) -> [f64; K]
+    requires { p + K ≤ length x.now }
+    ensures { result
         ≡ updated nan (λ (t : ℕ). t)
-        (λ (t : ℕ) (v : Float). v ⊕ at x.now (p + t) ⊗ at x.now (p + t)) 0 4 (lanes s) }
+        (λ (t : ℕ) (v : Float). v ⊕ at x.now (p + t) ⊗ at x.now (p + t)) 0 K s.entry }
 {
-    Four {
-        a: s.a + x[p] * x[p],
-        b: s.b + x[p + 1] * x[p + 1],
-        c: s.c + x[p + 2] * x[p + 2],
-        d: s.d + x[p + 3] * x[p + 3],
+    for t in 0..K {
+        s[t] = s[t] + x[p + t] * x[p + t];
     }
+    s
 }
 
-// 2 * s.a / d, ..
-pub fn factors(s: Four, d: f64) -> Four
-    ensures { lanes result ≡ updated nan (λ (t : ℕ). t) (λ (t : ℕ) (v : Float). 2ᶠ ⊗ v ⊘ d) 0 4 (lanes s) }
+// 2 * s[0] / d, ..
+pub fn factors<const K: usize>(mut s: [f64; K], d: f64) -> [f64; K]
+    ensures { result ≡ updated nan (λ (t : ℕ). t) (λ (t : ℕ) (v : Float). 2ᶠ ⊗ v ⊘ d) 0 K s.entry }
 {
-    Four {
-        a: 2.0 * s.a / d,
-        b: 2.0 * s.b / d,
-        c: 2.0 * s.c / d,
-        d: 2.0 * s.d / d,
+    for t in 0..K {
+        s[t] = 2.0 * s[t] / d;
     }
+    s
 }
 
-// x[p] -= y * f.a, x[p + 1] -= y * f.b, ..
-pub fn less_lanes(x: &mut [f64], p: usize, y: f64, f: Four)
-    requires { p + 4 ≤ length x.old }
+// x[p] -= f[0] * y, x[p + 1] -= f[1] * y, ..
+pub fn less_lanes<const K: usize>(x: &mut [f64], p: usize, f: [f64; K], y: f64)
+    requires { p + K ≤ length x.old }
     ensures { x.new
-        ≡ less (λ (t : ℕ). p + t) y (λ (t : ℕ). at (lanes f) (0 + t)) 0 4 x.old }
+        ≡ updated nan (λ (t : ℕ). p + t) (λ (t : ℕ) (v : Float). v ⊖ at f.entry t ⊗ y) 0 K x.old }
 {
-    vector::less_at(x, p, y * f.a);
-    vector::less_at(x, p + 1, y * f.b);
-    vector::less_at(x, p + 2, y * f.c);
-    vector::less_at(x, p + 3, y * f.d);
+    for t in 0..K {
+        x[p + t] = x[p + t] - f[t] * y;
+    }
 }

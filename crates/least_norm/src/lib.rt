@@ -13,29 +13,21 @@ mod columns;
 mod lanes;
 mod one;
 mod pivoting;
-mod place;
 mod rank;
 mod reflect;
+mod size;
 mod solution;
 mod trapezoid;
 mod vector;
 
 use refusals::Refusal;
+use size::Size;
 
 // A column and its squared norm.
 #[derive(Clone, Copy)]
 pub struct Pivot {
     pub col: usize,
     pub norm: f64,
-}
-
-// Four adjacent entries.
-#[derive(Clone, Copy)]
-pub struct Four {
-    pub a: f64,
-    pub b: f64,
-    pub c: f64,
-    pub d: f64,
 }
 
 // The pivot among the columns before `next`.
@@ -45,18 +37,11 @@ pub struct Scan {
     pub next: usize,
 }
 
-// A column's reflector: the entry that it leaves, its own first entry and its square.
+// A column's reflector: the entry that it leaves and its square.
 #[derive(Clone, Copy)]
 pub struct Householder {
     pub beta: f64,
-    pub v0: f64,
     pub vtv: f64,
-}
-
-fn fewer(m: usize, n: usize) -> usize
-    ensures { result ≡ min m n }
-{
-    if m <= n { m } else { n }
 }
 
 // 0, 1, 2, ..
@@ -64,10 +49,8 @@ fn count_up(perm: &mut [u8])
     requires { length perm.old ≤ 32 }
     ensures { perm.new ≡ tab (λ (i : ℕ). i) (length perm.old) }
 {
-    let mut i = 0;
-    while i < perm.len() {
+    for i in 0..perm.len() {
         perm[i] = i as u8;
-        i += 1;
     }
 }
 
@@ -76,48 +59,44 @@ fn count_up(perm: &mut [u8])
 // columns are swapped.
 fn reduce(
     a: &mut [f64],
-    m: usize,
-    n: usize,
+    size: Size,
     j: usize,
     b: &mut [f64],
     perm: &mut [u8],
     v: &mut [f64],
 ) -> bool
-    requires { private.Reducing a.old m n b.old perm.old v.old × (j < m) × (j < n) }
+    requires { private.Reducing a.old size b.old perm.old v.old × (j < size.m) × (j < size.n) }
     ensures { private.standing result j (least.factors a.new b.new perm.new)
-        ≡ least.reduce m n j (least.going (least.factors a.old b.old perm.old)) }
+        ≡ least.reduce size.m size.n j (least.going (least.factors a.old b.old perm.old)) }
 {
-    let p = pivoting::find_pivot(a, m, n, j);
+    let p = pivoting::find_pivot(a, size, j);
     let near = floats::sqrt_rough(p.norm);
-    pivoting::bring(a, m, n, j, p.col, perm);
+    pivoting::bring(a, size, j, p.col, perm);
     if p.norm == 0.0 {
         return false;
     }
-    columns::eliminate(a, m, n, j, b, v, near);
+    columns::eliminate(a, size, j, b, v, near);
     true
 }
 
 // A P = Q R, Q applied to b as it is built. How many columns were reduced, of the first k.
 fn reduce_columns(
     a: &mut [f64],
-    m: usize,
-    n: usize,
+    size: Size,
     k: usize,
     b: &mut [f64],
     perm: &mut [u8],
     v: &mut [f64],
 ) -> usize
-    requires { private.Reducing a.old m n b.old perm.old v.old × (k ≤ m) × (k ≤ n)
-        × (perm.old ≡ tab (λ (i : ℕ). i) n) }
-    ensures { private.Stopped k (least.reduced m n a.old b.old k) result
+    requires { private.Reducing a.old size b.old perm.old v.old × (k ≤ size.m) × (k ≤ size.n)
+        × (perm.old ≡ tab (λ (i : ℕ). i) size.n) }
+    ensures { private.Stopped k (least.reduced size.m size.n a.old b.old k) result
         (least.factors a.new b.new perm.new) }
 {
-    let mut j = 0;
-    while j < k {
-        if !reduce(a, m, n, j, b, perm, v) {
+    for j in 0..k {
+        if !reduce(a, size, j, b, perm, v) {
             return j;
         }
-        j += 1;
     }
     k
 }
@@ -125,44 +104,41 @@ fn reduce_columns(
 // The solution at a rank above 0, y cleared. Every entry of x is written.
 fn solve_ranked(
     a: &mut [f64],
-    m: usize,
-    n: usize,
+    top: Size,
     b: &[f64],
     x: &mut [f64],
     right: &mut [f64],
     perm: &[u8],
     y: &mut [f64],
-    rank: usize,
 )
-    requires { private.Trapezoidal a.old m n rank right.old × (0 < rank) × (length b.now ≡ m)
-        × (length perm.now ≡ n) × (length y.old ≡ n) × (y.old ≡ replicate n 0ᶠ) × (length x.old ≡ n)
-        × private.Onto n perm.now }
-    ensures { least.solution rank a.new b.now x.new
-        ≡ least.solved n (least.factors a.old b.now perm.now) rank }
+    requires { private.Trapezoidal a.old top right.old × (0 < top.m) × (top.m ≤ length b.now)
+        × (length perm.now ≡ top.n) × (y.old ≡ replicate top.n 0ᶠ) × (length x.old ≡ top.n)
+        × private.Onto top.n perm.now }
+    ensures { least.solution top.m a.new b.now x.new
+        ≡ least.solved top.n (least.factors a.old b.now perm.now) top.m }
 {
-    trapezoid::clear(a, m, n, rank, right);
-    solution::substitute(a, m, n, rank, b, y);
-    solution::turn_back(right, n, rank, y);
+    trapezoid::clear(a, top, right);
+    solution::substitute(a, top, b, y);
+    solution::turn_back(right, top, y);
     solution::unpermute(perm, y, x);
 }
 
 // The solution at full rank. Every entry of y and of x is written, so neither need be cleared, and there is no
 // reflector from the right.
-fn solve_full(a: &[f64], m: usize, n: usize, b: &[f64], x: &mut [f64], perm: &[u8], y: &mut [f64])
-    requires { private.Matrix a.now m n × (0 < n) × (n ≤ m) × (length b.now ≡ m) × (length x.old ≡ n)
-        × (length perm.now ≡ n) × (length y.old ≡ n) × private.Onto n perm.now }
-    ensures { least.solution n a.now b.now x.new
-        ≡ least.solved n (least.factors a.now b.now perm.now) n }
+fn solve_full(a: &[f64], top: Size, b: &[f64], x: &mut [f64], perm: &[u8], y: &mut [f64])
+    requires { private.Substituting a.now top b.now y.old × (0 < top.n) × (top.m ≡ top.n)
+        × (length x.old ≡ top.n) × (length perm.now ≡ top.n) × private.Onto top.n perm.now }
+    ensures { least.solution top.m a.now b.now x.new
+        ≡ least.solved top.n (least.factors a.now b.now perm.now) top.m }
 {
-    solution::substitute(a, m, n, n, b, y);
+    solution::substitute(a, top, b, y);
     solution::unpermute(perm, y, x);
 }
 
 // The solution at any rank. The reflectors stand in the front of the workspace.
 fn solve_at(
     a: &mut [f64],
-    m: usize,
-    n: usize,
+    size: Size,
     b: &[f64],
     x: &mut [f64],
     workspace: &mut [f64],
@@ -170,47 +146,46 @@ fn solve_at(
     y: &mut [f64],
     rank: usize,
 )
-    requires { private.Matrix a.old m n × (rank ≤ m) × (rank ≤ n) × (length b.now ≡ m) × (length perm.now ≡ n)
-        × (1056 ≤ length workspace.old) × (length y.old ≡ n) × (length x.old ≡ n) × private.Onto n perm.now }
+    requires { private.Matrix a.old size × (rank ≤ size.m) × (rank ≤ size.n) × (length b.now ≡ size.m)
+        × (length perm.now ≡ size.n) × (1056 ≤ length workspace.old) × (length y.old ≡ size.n)
+        × (length x.old ≡ size.n) × private.Onto size.n perm.now }
     ensures { (least.solution rank a.new b.now x.new
-        ≡ least.solved n (least.factors a.old b.now perm.now) rank)
+        ≡ least.solved size.n (least.factors a.old b.now perm.now) rank)
         × (drop 1056 workspace.new ≡ drop 1056 workspace.old) }
 {
     if rank == 0 {
-        vector::zero(x);
+        x.fill(0.0);
         return;
     }
-    if rank == n {
-        solve_full(a, m, n, b, x, perm, y);
+    let top = Size { m: rank, n: size.n };
+    if rank == size.n {
+        solve_full(a, top, b, x, perm, y);
         return;
     }
-    let w = rank * n;
-    vector::zero(y);
-    solve_ranked(a, m, n, b, x, &mut workspace[..w], perm, y, rank);
+    y.fill(0.0);
+    solve_ranked(a, top, b, x, &mut workspace[..rank * size.n], perm, y);
 }
 
 // The whole, the sizes checked. v has room for a column and for y.
 fn least_norm(
     a: &mut [f64],
-    m: usize,
-    n: usize,
+    size: Size,
     b: &mut [f64],
     x: &mut [f64],
     workspace: &mut [f64],
     perm: &mut [u8],
     v: &mut [f64],
 ) -> usize
-    requires { private.Reducing a.old m n b.old perm.old v.old × (length x.old ≡ n) × (n ≤ length v.old)
+    requires { private.Reducing a.old size b.old perm.old v.old × (length x.old ≡ size.n) × (size.n ≤ length v.old)
         × (1056 ≤ length workspace.old) }
     ensures { (least.solution result a.new b.new x.new
-        ≡ least.least_norm m n a.old b.old)
+        ≡ least.least_norm size.m size.n a.old b.old)
         × (drop 1056 workspace.new ≡ drop 1056 workspace.old) × (result ≤ 32) }
 {
     count_up(perm);
-    let k = fewer(m, n);
-    let columns = reduce_columns(a, m, n, k, b, perm, v);
-    let rank = rank::leading(a, m, n, columns);
-    solve_at(a, m, n, b, x, workspace, perm, &mut v[..n], rank);
+    let columns = reduce_columns(a, size, size.m.min(size.n), b, perm, v);
+    let rank = rank::leading(a, size, columns);
+    solve_at(a, size, b, x, workspace, perm, &mut v[..size.n], rank);
     rank
 }
 
@@ -254,6 +229,6 @@ impl LeastNorm {
         }
         let mut perm = [0u8; 32];
         let mut v = [0.0f64; 32];
-        Ok(least_norm(a, m, n, b, x, workspace, &mut perm[..n], &mut v))
+        Ok(least_norm(a, Size { m, n }, b, x, workspace, &mut perm[..n], &mut v))
     }
 }

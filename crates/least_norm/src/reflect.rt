@@ -1,9 +1,9 @@
 // Householder reflectors H = I - 2 v vᵀ / vᵀv.
-ghost use Rattle.std.specs.Prelude.{◌≡◌, ℕ, ◌+◌, ◌*◌, ◌≤◌, ◌<◌, length};
+ghost use Rattle.std.specs.Prelude.{◌≡◌, ℕ, ◌≤◌, ◌<◌, length};
 ghost use Rattle.floats.specs.Ops.{at, ◌⊕◌, ◌⊗◌};
 ghost use Rattle.floats.specs.Sqrt.{sqrt};
 ghost use Rattle.least_norm.specs.Reflector as reflector;
-ghost use Rattle.least_norm.specs.Private.{Part, Strided};
+ghost use Rattle.least_norm.specs.Private.{less};
 
 use crate::vector;
 
@@ -32,26 +32,23 @@ pub fn beta(alpha: f64, sigma: f64, near: f64) -> f64
     if alpha >= 0.0 { -root } else { root }
 }
 
-// H applied to z: v is u0 at place `first` and u[q + t] at place p + t * k, for t from lo up to hi, and utu is its
-// square.
-pub fn reflect(
-    z: &mut [f64],
-    first: usize,
-    p: usize,
-    k: usize,
-    u0: f64,
-    u: &[f64],
-    q: usize,
-    utu: f64,
-    lo: usize,
-    hi: usize,
-)
-    requires { (first < length z.old) × Strided z.old p k lo hi × Part u.now q lo hi }
-    ensures { z.new
-        ≡ reflector.reflect first (λ (t : ℕ). p + t * k) u0 (λ (t : ℕ). at u.now (q + t)) utu lo hi
-        z.old }
+// x[t] -= f * y[t], for t from lo on.
+fn less_scaled(x: &mut [f64], f: f64, y: &[f64], lo: usize)
+    requires { (lo ≤ length x.old) × (length x.old ≤ length y.now) }
+    ensures { x.new ≡ less (λ (t : ℕ). t) f (λ (t : ℕ). at y.now t) lo (length x.old) x.old }
 {
-    let f = 2.0 * vector::dot(u0 * z[first], u, q, 1, z, p, k, lo, hi) / utu;
-    vector::less_at(z, first, f * u0);
-    vector::less_scaled(z, p, k, f, u, q, lo, hi);
+    for t in lo..x.len() {
+        x[t] = x[t] - f * y[t];
+    }
+}
+
+// H applied to z: v is u0 at place i and u's entries from place lo on, and utu is its square.
+pub fn reflect(z: &mut [f64], i: usize, u0: f64, u: &[f64], utu: f64, lo: usize)
+    requires { (i < length z.old) × (lo ≤ length z.old) × (length z.old ≡ length u.now) }
+    ensures { z.new
+        ≡ reflector.reflect i (λ (t : ℕ). t) u0 (λ (t : ℕ). at u.now t) utu lo (length z.old) z.old }
+{
+    let f = 2.0 * vector::dot(u0 * z[i], u, z, lo, z.len()) / utu;
+    z[i] = z[i] - f * u0;
+    less_scaled(z, f, u, lo);
 }

@@ -1,94 +1,75 @@
-// T w = c by back substitution, then the reflectors from the right, then the columns' order.
-ghost use Rattle.std.specs.Prelude.{◌≡◌, ◌+◌, ◌*◌, ◌≤◌, ◌<◌, length, set};
+// T w = c by back substitution, then the reflectors from the right, then the columns' order. `top` is the trapezoid's
+// size: as many rows as the rank.
+ghost use Rattle.std.specs.Prelude.{◌≡◌, ◌*◌, ◌≤◌, ◌<◌, length};
 ghost use Rattle.least_norm.specs.LeastNorm as least;
 ghost use Rattle.least_norm.specs.Starts as starts;
 ghost use Rattle.least_norm.specs.Private as private;
-ghost use Rattle.least_norm.specs.Private.{Matrix, Turning};
+ghost use Rattle.least_norm.specs.Private.{Substituting, Turning};
 
-use crate::{place, reflect, trapezoid, vector};
+use crate::size::Size;
+use crate::{reflect, trapezoid, vector};
 
 // What row i leaves of b once the entries of y after i are known.
-fn known(a: &[f64], m: usize, n: usize, rank: usize, b: &[f64], y: &[f64], i: usize) -> f64
-    requires { Matrix a.now m n × (rank ≤ m) × (rank ≤ n) × (i < rank) × (length b.now ≡ m)
-        × (length y.now ≡ n) }
-    ensures { result ≡ private.known n rank a.now b.now y.now i }
+fn known(a: &[f64], top: Size, b: &[f64], y: &[f64], i: usize) -> f64
+    requires { Substituting a.now top b.now y.now × (i < top.m) }
+    ensures { result ≡ private.known top.n top.m a.now b.now y.now i }
 {
-    let p = place::place(m, n, i, 0);
-    vector::less_dot(b[i], a, p, y, 0, i + 1, rank)
+    vector::less_dot(b[i], top.row(a, i), y, i + 1, top.m)
 }
 
 // What stands in y past the rank stays.
-pub fn substitute(a: &[f64], m: usize, n: usize, rank: usize, b: &[f64], y: &mut [f64])
-    requires { Matrix a.now m n × (rank ≤ m) × (rank ≤ n) × (length b.now ≡ m) × (length y.old ≡ n) }
-    ensures { y.new ≡ starts.substituted y.old n rank a.now b.now 0 }
+pub fn substitute(a: &[f64], top: Size, b: &[f64], y: &mut [f64])
+    requires { Substituting a.now top b.now y.old }
+    ensures { y.new ≡ starts.substituted y.old top.n top.m a.now b.now 0 }
 {
-    let mut i = rank;
-    while i > 0 {
-        i -= 1;
-        y[i] = known(a, m, n, rank, b, y, i) / place::cell(a, m, n, i, i);
+    for i in (0..top.m).rev() {
+        y[i] = known(a, top, b, y, i) / a[top.place(i, i)];
     }
 }
 
 // Reflector i applied to y.
-fn turn(right: &[f64], n: usize, rank: usize, i: usize, y: &mut [f64])
-    requires { Turning right.now n rank y.old × (i < rank) }
-    ensures { y.new ≡ private.turn n rank right.now i y.old }
+fn turn(right: &[f64], top: Size, i: usize, y: &mut [f64])
+    requires { Turning right.now top y.old × (i < top.m) }
+    ensures { y.new ≡ private.turn top.n top.m right.now i y.old }
 {
-    let u0 = place::cell(right, rank, n, i, i);
-    let utu = trapezoid::row_norm2(right, rank, n, rank, i, u0 * u0);
+    let u0 = right[top.place(i, i)];
+    let utu = trapezoid::row_norm2(right, top, i, u0 * u0);
     if utu == 0.0 {
         return;
     }
-    let q = place::place(rank, n, i, 0);
-    reflect::reflect(y, i, 0, 1, u0, right, q, utu, rank, n);
+    reflect::reflect(y, i, u0, top.row(right, i), utu, top.m);
 }
 
-fn turn_each(right: &[f64], n: usize, rank: usize, y: &mut [f64])
-    requires { Turning right.now n rank y.old }
-    ensures { y.new ≡ least.turned n rank right.now y.old rank }
+fn turn_each(right: &[f64], top: Size, y: &mut [f64])
+    requires { Turning right.now top y.old }
+    ensures { y.new ≡ least.turned top.n top.m right.now y.old top.m }
 {
-    let mut i = 0;
-    while i < rank {
-        turn(right, n, rank, i, y);
-        i += 1;
+    for i in 0..top.m {
+        turn(right, top, i, y);
     }
 }
 
 // Every reflector applied to y; at full rank there is none.
-pub fn turn_back(right: &[f64], n: usize, rank: usize, y: &mut [f64])
-    requires { Turning right.now n rank y.old }
+pub fn turn_back(right: &[f64], top: Size, y: &mut [f64])
+    requires { Turning right.now top y.old }
     ensures { y.new
-        ≡ least.turned n rank right.now y.old (private.first_turned n rank) }
+        ≡ least.turned top.n top.m right.now y.old (private.first_turned top.n top.m) }
 {
-    if rank < n {
-        turn_each(right, n, rank, y);
+    if top.m < top.n {
+        turn_each(right, top, y);
     }
 }
 
-// x[p] = v; where there is no place p, nothing.
-fn put_at(x: &mut [f64], p: usize, v: f64)
-    ensures { x.new ≡ set x.old p v }
-{
-    if p < x.len() {
-        x[p] = v;
-    }
-}
-
-fn wide(p: u8) -> usize
-    ensures { result ≡ p }
-{
-    p as usize
-}
-
+// Entry j of y is x's entry in the column that stands at place j.
 pub fn unpermute(perm: &[u8], y: &[f64], x: &mut [f64])
     requires { (length y.now ≡ length perm.now) × (length perm.now ≤ 32) }
     ensures { x.new
         ≡ starts.unpermuted x.old perm.now y.now (length perm.now) }
 {
-    let n = perm.len();
-    let mut j = 0;
-    while j < n {
-        put_at(x, wide(perm[j]), y[j]);
-        j += 1;
+    for (j, p) in perm.iter().enumerate() {
+        let p = usize::from(*p);
+        if p < x.len() {
+            x[p] = y[j];
+        }
     }
 }

@@ -1,16 +1,13 @@
-use borrow.Author.Rules.{rules}
 use native.Mathlib.Omega.{arith}
-use Rattle.least_norm.proofs.Runs.{columns-run}
+use Rattle.loops.proofs.Turns.{between-from, between_more}
 use Rattle.least_norm.proofs.columns.reflect_columns.Goals as goal
 
-pub overflow_add-j : goal.overflow_add-j
-overflow_add-j c = omega arith
+pub loop-next-init : goal.loop-next-init
+loop-next-init g c = (omega arith, omega arith, between-from _ _ _)
 
-pub reflect_fours-c-requires : goal.reflect_fours-c-requires
-reflect_fours-c-requires c = omega arith
-
-pub reflect_each-requires : goal.reflect_each-requires
-reflect_each-requires c = omega arith
-
-pub returns : goal.returns
-returns c = search (columns-run, rules)
+pub loop-next-preserved : goal.loop-next-preserved
+loop-next-preserved g c = (
+  omega arith,
+  omega arith,
+  between_more _ _ _ _ _ _ _ c.reflect_lanes.ensures c.loop-next.invariant.2 c.loop-next.invariant.0 (omega arith),
+)

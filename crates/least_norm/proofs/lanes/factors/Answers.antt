@@ -1,9 +1,9 @@
-use mathlib.Core.Path.{refl}
-use Rattle.loops.specs.Loops.{turns, between}
-use Rattle.loops.specs.Updates.{updated}
+use borrow.Author.Rules.{rules}
+use Rattle.loops.proofs.Updates.{updated-start, updated_again}
 use Rattle.least_norm.proofs.lanes.factors.Goals as goal
 
--- `least_norm::lanes::factors` meets its contract. Assumes nothing.
-pub returns : goal.returns
-unfolding updated between turns
-returns c = refl
+pub loop-t-init : goal.loop-t-init
+loop-t-init g c = (search rules, search (updated-start, rules))
+
+pub loop-t-preserved : goal.loop-t-preserved
+loop-t-preserved g c = (search rules, search (updated_again, rules))

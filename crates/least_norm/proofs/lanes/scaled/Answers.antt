@@ -1,43 +1,10 @@
-use native.Mathlib.Omega.{arith}
-use native.Mathlib.Nat.{add-zero}
-use Rattle.loops.specs.Loops.{turns, between}
-use Rattle.loops.specs.Updates.{updated}
+use borrow.Author.Rules.{rules}
+use lib.ListN.{length-replicate}
+use Rattle.loops.proofs.Updates.{updated-start, updated_again}
 use Rattle.least_norm.proofs.lanes.scaled.Goals as goal
 
-pub offset_bounds-x-p : goal.offset_bounds-x-p
-offset_bounds-x-p c = omega arith
+pub loop-t-init : goal.loop-t-init
+loop-t-init g c = (length-replicate _ _, search (updated-start, rules))
 
-pub bounds-x-p : goal.bounds-x-p
-bounds-x-p c = omega arith
-
-pub overflow_add-result : goal.overflow_add-result
-overflow_add-result c = omega arith
-
-pub offset_bounds-x-p-2 : goal.offset_bounds-x-p-2
-offset_bounds-x-p-2 c = omega arith
-
-pub bounds-x-p-2 : goal.bounds-x-p-2
-bounds-x-p-2 c = omega arith
-
-pub overflow_add-result-2 : goal.overflow_add-result-2
-overflow_add-result-2 c = omega arith
-
-pub offset_bounds-x-p-3 : goal.offset_bounds-x-p-3
-offset_bounds-x-p-3 c = omega arith
-
-pub bounds-x-p-3 : goal.bounds-x-p-3
-bounds-x-p-3 c = omega arith
-
-pub overflow_add-result-3 : goal.overflow_add-result-3
-overflow_add-result-3 c = omega arith
-
-pub offset_bounds-x-p-4 : goal.offset_bounds-x-p-4
-offset_bounds-x-p-4 c = omega arith
-
-pub bounds-x-p-4 : goal.bounds-x-p-4
-bounds-x-p-4 c = omega arith
-
--- `least_norm::lanes::scaled` meets its contract. Assumes nothing.
-pub returns : goal.returns
-unfolding updated between turns
-returns c = rw (add-zero c.args.p)
+pub loop-t-preserved : goal.loop-t-preserved
+loop-t-preserved g c = (search rules, search (updated_again, rules))

@@ -1,13 +1,13 @@
 use borrow.Author.Rules.{rules}
-use native.Mathlib.Omega.{arith}
-use Rattle.least_norm.proofs.Runs.{turned-some, turned_none}
+use Rattle.loops.specs.Loops.{turns}
+use Rattle.least_norm.specs.LeastNorm.{turned}
+use Rattle.least_norm.specs.Private.{first_turned}
 use Rattle.least_norm.proofs.solution.turn_back.Goals as goal
 
-pub turn_each-requires : goal.turn_each-requires
-turn_each-requires c = omega arith
+pub returns-then-top : goal.returns-then-top
+unfolding first_turned
+returns-then-top c = search rules
 
-pub returns-then-rank-n : goal.returns-then-rank-n
-returns-then-rank-n c = search (turned-some, rules)
-
-pub returns-else-rank-n : goal.returns-else-rank-n
-returns-else-rank-n c = turned_none _ _ _ _ c.if-rank-n.false
+pub returns-else-top : goal.returns-else-top
+unfolding turned turns first_turned
+returns-else-top c = search rules

@@ -1,12 +1,13 @@
 use borrow.Author.Rules.{rules}
-use Rattle.least_norm.proofs.Runs.{replicate-at, cleared-some, cleared-none}
+use Rattle.loops.specs.Loops.{turns, downward}
+use Rattle.least_norm.specs.LeastNorm.{cleared}
+use Rattle.least_norm.specs.Private.{last_cleared}
 use Rattle.least_norm.proofs.trapezoid.clear.Goals as goal
 
-pub clear_rows-requires : goal.clear_rows-requires
-clear_rows-requires c = search (replicate-at, rules)
+pub returns-then-top : goal.returns-then-top
+unfolding last_cleared
+returns-then-top c = search rules
 
-pub returns-then-rank-n : goal.returns-then-rank-n
-returns-then-rank-n c = search (cleared-some, rules)
-
-pub returns-else-rank-n : goal.returns-else-rank-n
-returns-else-rank-n c = search (cleared-none, rules)
+pub returns-else-top : goal.returns-else-top
+unfolding cleared downward turns last_cleared
+returns-else-top c = search rules

@@ -1,16 +1,14 @@
 use borrow.Author.Rules.{rules}
-use native.Mathlib.Omega.{arith}
-use Rattle.least_norm.proofs.Runs.{kept_run}
+use Rattle.loops.proofs.Updates.{updated-start, updated_again}
+use Rattle.least_norm.specs.Private.{kept_row}
 use Rattle.least_norm.proofs.trapezoid.keep_row.Goals as goal
 
-pub place-p-requires : goal.place-p-requires
-place-p-requires c = omega arith
+pub loop-c-init : goal.loop-c-init
+loop-c-init c = search (updated-start, rules)
 
-pub place-q-requires : goal.place-q-requires
-place-q-requires c = omega arith
-
-pub copy-requires : goal.copy-requires
-copy-requires c = omega arith
+pub loop-c-preserved : goal.loop-c-preserved
+loop-c-preserved c = search (updated_again, rules)
 
 pub returns : goal.returns
-returns c = search (kept_run, rules)
+unfolding kept_row
+returns c = search rules

@@ -1,37 +1,9 @@
-use native.Mathlib.Omega.{arith}
 use borrow.Author.Rules.{rules}
-use Rattle.floats.proofs.Sums.{gathered-start, difference_again, gathered_done}
+use Rattle.floats.proofs.Sums.{gathered-start, difference_again}
 use Rattle.least_norm.proofs.vector.less_dot.Goals as goal
 
 pub loop-t-init : goal.loop-t-init
-loop-t-init c = (omega arith, omega arith, search (gathered-start, rules))
-
-pub overflow_add-r : goal.overflow_add-r
-overflow_add-r c = omega arith
-
-pub offset_bounds-x-p : goal.offset_bounds-x-p
-offset_bounds-x-p c = omega arith
-
-pub bounds-x-p : goal.bounds-x-p
-bounds-x-p c = omega arith
-
-pub overflow_add-r-in-loop-t : goal.overflow_add-r-in-loop-t
-overflow_add-r-in-loop-t c = omega arith
-
-pub offset_bounds-y-q : goal.offset_bounds-y-q
-offset_bounds-y-q c = omega arith
-
-pub bounds-y-q : goal.bounds-y-q
-bounds-y-q c = omega arith
-
-pub overflow_add-t : goal.overflow_add-t
-overflow_add-t c = omega arith
-
-pub loop-t-smaller : goal.loop-t-smaller
-loop-t-smaller c = omega arith
+loop-t-init c = search (gathered-start, rules)
 
 pub loop-t-preserved : goal.loop-t-preserved
-loop-t-preserved c = (omega arith, omega arith, search (difference_again, rules))
-
-pub returns : goal.returns
-returns c = search (gathered_done, rules)
+loop-t-preserved c = search (difference_again, rules)
