@@ -1,12 +1,11 @@
 -- The magnitude of a negative number in two's complement, and which numbers are negative. Assumes nothing.
 use Prim.Native.Nat.{ℕ, zero, suc, ◌+◌, ◌-◌, ◌*◌, ◌^◌, ◌≤◌, ◌<◌}
 use mathlib.Core.Path.{◌≡◌, refl, sym, ap, ◌∙◌, subst}
-use mathlib.Core.Logic.{◌⊎◌, inl, inr}
 use mathlib.Core.Bool.{Bool, true, false, cond}
 use mathlib.Core.List.{List}
 use native.Mathlib.Omega.{arith}
 use native.Mathlib.Numerals.{add-one}
-use native.Mathlib.Nat.{eq-zero-or-pos, mul-le-mul_right}
+use native.Mathlib.Nat.{zero-add}
 use lib.Dec.{leb}
 use lib.IntN.{pos, neg_ℤ}
 use lib.Pow.{pow_pos}
@@ -15,18 +14,19 @@ use lib.Seq.{take-suc, take-suc-set, take_all, length-take-le}
 use borrow.Author.Tests.{le-leb, lt-leb, lt-ltb, le-ltb, leb-true, leb-false}
 use lib.Ieee.{Float, binary64, round, neg}
 use Rattle.floats.proofs.Rounding.{round-neg}
+use Rattle.std.specs.Int.{from_bool}
 use Rattle.accumulator.specs.Accumulators.{value_in, value, base, size, half, meaning}
 use Rattle.nearest.specs.ToNearest.{plus_zero, nearest}
 use Rattle.nearest.proofs.Words.{Below, under, over, more, appended, at_word, from_word, front-lt, alone}
 
--- ---- the loop: what is left and what was read make base ^ i, with the carry
+-- ---- the loop: what is left and what was read make what is owed
 
-pub neg-start : (a b : List ℕ) → value (take 0 a) + value (take 0 b) + 1 * base ^ 0 ≡ base ^ 0
+pub neg-start : (a b : List ℕ) → value (take 0 a) + value (take 0 b) ≡ 0 * base ^ 0
 unfolding value_in
 neg-start a b = refl
 
-neg-step : (A W x w c c' p b : ℕ) → A + W + c * p ≡ p → x + b * c' + w + 1 ≡ b + c → A + x * p + (W + w * p) + c' * (b * p) ≡ b * p
-neg-step A W x w c c' p b h e = let g : (x + b * c' + w + 1) * p ≡ (b + c) * p = ap (λ (y : ℕ). y * p) e in omega arith
+neg-step : (A W x w c c' p b : ℕ) → A + W ≡ c * p → x + w + c ≡ c' * b → A + x * p + (W + w * p) ≡ c' * (b * p)
+neg-step A W x w c c' p b h e = let g : (x + w + c) * p ≡ c' * b * p = ap (λ (y : ℕ). y * p) e in omega arith
 
 front_more : (l : List ℕ) (i : ℕ) → i < length l → value (take (suc i) l) ≡ value (take i l) + get_or l i 0 * base ^ i
 front_more l i h = ap value (take-suc l i 0 h) ∙ appended base (take i l) (get_or l i 0) ∙ ap (λ (n : ℕ). value (take i l) + get_or l i 0 * base ^ n) (length-take-le i l (omega arith))
@@ -34,34 +34,27 @@ front_more l i h = ap value (take-suc l i 0 h) ∙ appended base (take i l) (get
 front-set : (l : List ℕ) (i x : ℕ) → i < length l → value (take (suc i) (set l i x)) ≡ value (take i l) + x * base ^ i
 front-set l i x h = ap value (take-suc-set l i x h) ∙ appended base (take i l) x ∙ ap (λ (n : ℕ). value (take i l) + x * base ^ n) (length-take-le i l (omega arith))
 
-pub neg_again : (a b : List ℕ) (i x c c' : ℕ) → length a ≡ 67 → length b ≡ 67 → i < 67
-    → value (take i a) + value (take i b) + c * base ^ i ≡ base ^ i
-    → x + 18446744073709551616 * c' + get_or b i 0 ≡ 18446744073709551615 + c
-    → value (take (i + 1) (set a i x)) + value (take (i + 1) b) + c' * base ^ (i + 1) ≡ base ^ (i + 1)
+pub neg_again : (a b : List ℕ) (i x : ℕ) (c c' : Bool) → length a ≡ 67 → length b ≡ 67 → i < 67
+    → value (take i a) + value (take i b) ≡ from_bool c * base ^ i
+    → x + get_or b i 0 + from_bool c ≡ 0 + from_bool c' * 2 ^ 64
+    → value (take (i + 1) (set a i x)) + value (take (i + 1) b) ≡ from_bool c' * base ^ (i + 1)
 neg_again a b i x c c' f g h e k =
-    let q : x + base * c' + get_or b i 0 + 1 ≡ base + c = omega arith in
     rw (add-one, front-set a i x (omega arith), front_more b i (omega arith), more base i)
-    (neg-step (value (take i a)) (value (take i b)) x (get_or b i 0) c c' (base ^ i) base e q)
+    (neg-step (value (take i a)) (value (take i b)) x (get_or b i 0) (from_bool c) (from_bool c') (base ^ i) base e (k ∙ zero-add (from_bool c' * base)))
 
-left_over : (A W c p : ℕ) → A + W + c * p ≡ p → 0 < W → A ≡ p - W
-left_over A W c p h w = go (eq-zero-or-pos c)
-  where
-    go : (c ≡ 0) ⊎ (0 < c) → A ≡ p - W
-    go (inl z) = let e : c * p ≡ 0 * p = ap (λ (x : ℕ). x * p) z in omega arith
-    go (inr q) = let e : 1 * p ≤ c * p = mul-le-mul_right p q in absurd (omega arith)
+left_over : (A W p : ℕ) (c : Bool) → A + W ≡ from_bool c * p → 0 < W → A ≡ p - W
+left_over A W p true h w = omega arith
+left_over A W p false h w = absurd (omega arith)
 
-pub neg_done : (a b : List ℕ) (i c : ℕ) → length a ≡ 67 → length b ≡ 67 → i ≤ 67 → 67 ≤ i
-    → value (take i a) + value (take i b) + c * base ^ i ≡ base ^ i → 0 < value b → value a ≡ size - value b
+pub neg_done : (a b : List ℕ) (i : ℕ) (c : Bool) → length a ≡ 67 → length b ≡ 67 → i ≡ 67
+    → value (take i a) + value (take i b) ≡ from_bool c * base ^ i → 0 < value b → value a ≡ size - value b
 unfolding size
-neg_done a b i c f g l m e p = left_over (value a) (value b) c (base ^ 67) whole p
+neg_done a b i c f g m e p = left_over (value a) (value b) (base ^ 67) c whole p
   where
-    at-end : i ≡ 67
-    at-end = omega arith
-
-    whole : value a + value b + c * base ^ 67 ≡ base ^ 67
+    whole : value a + value b ≡ from_bool c * base ^ 67
     whole =
-        sym (ap (λ (x : List ℕ). value x + value (take 67 b) + c * base ^ 67) (take_all 67 a (omega arith)) ∙ ap (λ (x : List ℕ). value a + value x + c * base ^ 67) (take_all 67 b (omega arith)))
-        ∙ subst (λ (n : ℕ). value (take n a) + value (take n b) + c * base ^ n ≡ base ^ n) at-end e
+        sym (ap (λ (x : List ℕ). value x + value (take 67 b)) (take_all 67 a (omega arith)) ∙ ap (λ (x : List ℕ). value a + value x) (take_all 67 b (omega arith)))
+        ∙ subst (λ (n : ℕ). value (take n a) + value (take n b) ≡ from_bool c * base ^ n) m e
 
 -- ---- the highest word says the sign
 
@@ -85,11 +78,12 @@ module _ (l : List ℕ) (B : Below base l) (long : length l ≡ 67) where
   unfolding size
   below-size = subst (λ (x : ℕ). x < size) (sym by_top) (under (value (take 66 l)) (2 ^ (66 * 64)) (get_or l 66 0) base (front-lt l B 66) (B 66))
 
-  pub not_negative : get_or l 66 0 < 9223372036854775808 → (false ≡ leb half (value l)) × (value l < size)
-  not_negative h = (sym (lt-leb half (value l) (below_half h)), below-size)
-
-  pub is_negative : 9223372036854775808 ≤ get_or l 66 0 → (true ≡ leb half (value l)) × (value l < size)
-  is_negative h = (sym (le-leb half (value l) (from-half h)), below-size)
+  pub by_top_bit : (leb 9223372036854775808 (get_or l 66 0) ≡ leb half (value l)) × (value l < size)
+  by_top_bit = (go (leb 9223372036854775808 (get_or l 66 0)) refl, below-size)
+    where
+      go : (b : Bool) → leb 9223372036854775808 (get_or l 66 0) ≡ b → b ≡ leb half (value l)
+      go true e = sym (le-leb half (value l) (from-half (leb-true 9223372036854775808 (get_or l 66 0) e)))
+      go false e = sym (lt-leb half (value l) (below_half (leb-false 9223372036854775808 (get_or l 66 0) e)))
 
 -- ---- what the words mean
 

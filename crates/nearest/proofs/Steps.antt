@@ -2,31 +2,18 @@
 use Prim.Native.Nat.{ℕ, suc, ◌+◌, ◌-◌, ◌*◌, ◌/◌, ◌%◌, ◌^◌, ◌≤◌, ◌<◌}
 use mathlib.Core.Path.{◌≡◌, sym, ap, ◌∙◌, subst}
 use mathlib.Core.Bool.{Bool, true, false, not}
-use mathlib.Core.List.{List}
 use native.Mathlib.Omega.{arith}
 use native.Mathlib.Nat.{pow-succ', mod-eq_of_lt}
 use lib.Arith.{le→nltb}
 use lib.Dec.{T, ltb}
-use lib.ListN.{length, get_or}
 use lib.Pow.{pow_pos}
 use borrow.Author.Tests.{ltb-true, ltb-false}
 use lib.Ieee.{binary64, size, round, of_bits, nan_bits}
 use lib.Ieee.Bits.{nan_bits_above}
 use lib.Ieee.Nearest.{closest}
 use Rattle.floats.proofs.SquareRoot.Patterns.{hidden_bit, sign_bit}
-use Rattle.accumulator.specs.Accumulators.{value, base}
-use Rattle.nearest.proofs.Words.{Below, quotient}
 use Rattle.nearest.proofs.Halves.{digit-zero, more_than-half, tie}
 use Rattle.nearest.proofs.Patterns.{infinity_bits, with-half, rounded-is, overflowed}
-
--- ---- two words without their last digits, by the powers p and q
-
-pub joined : (l : List ℕ) → Below base l → (d p q : ℕ) → length l ≡ 67 → d < 4224 → value l / 2 ^ d < 18014398509481984 → p ≡ 2 ^ (d % 64) → q ≡ 2 ^ (63 - d % 64)
-    → get_or l (d / 64) 0 / p + get_or l (d / 64 + 1) 0 * q * 2 ≡ value l / 2 ^ d
-joined l B d p q long h g e f =
-    ap (λ (x : ℕ). get_or l (d / 64) 0 / x + get_or l (d / 64 + 1) 0 * q * 2) e
-    ∙ ap (λ (x : ℕ). get_or l (d / 64) 0 / 2 ^ (d % 64) + get_or l (d / 64 + 1) 0 * x * 2) f
-    ∙ quotient l B d (omega arith) g
 
 -- ---- what is kept of m without its last 1074 + k digits; h has one digit more
 

@@ -5,7 +5,7 @@ use mathlib.Core.Logic.{◌⊎◌, inl, inr}
 use mathlib.Core.List.{List, [], ◌∷◌, ◌++◌}
 use native.Mathlib.Omega.{arith}
 use native.Mathlib.Numerals.{add-one}
-use native.Mathlib.Nat.{pow-zero, pow-suc, mul_comm, mul-pos, suc-mul, mul-le-mul_left, eq-zero-or-pos, lt_of_lt_of_le, div-lt_iff_lt-mul, div-add-mod', mod-add-div', add-mul-div_right, add-mul-mod_self_right}
+use native.Mathlib.Nat.{pow-zero, pow-suc, mul_comm, mul-pos, suc-mul, mul-le-mul_left, eq-zero-or-pos, lt_of_lt_of_le, div-lt_iff_lt-mul, div-add-mod', mod-add-div', add-mul-mod_self_right}
 use lib.Arith.{digits_div, digits_mod}
 use lib.Pow.{pow_pos, pow_mono, pow-add, shr-shr, mod-pow-add}
 use lib.ListN.{length, get_or, take, drop}
@@ -130,10 +130,6 @@ base_split b h =
 times_split : (c y p q : ℕ) → q * 2 * p ≡ c → c * y ≡ y * q * 2 * p
 times_split c y p q h = rw (← h) (omega arith)
 
-moved : (a y b : ℕ) → b < 64 → (a + base * y) / 2 ^ b ≡ a / 2 ^ b + y * 2 ^ (63 - b) * 2
-moved a y b h =
-    ap (λ (x : ℕ). (a + x) / 2 ^ b) (times_split base y (2 ^ b) (2 ^ (63 - b)) (base_split b h)) ∙ add-mul-div_right a (y * 2 ^ (63 - b) * 2) (pow_pos b)
-
 kept-digits : (a y b : ℕ) → b < 64 → (a + base * y) % 2 ^ b ≡ a % 2 ^ b
 kept-digits a y b h =
     ap (λ (x : ℕ). (a + x) % 2 ^ b) (times_split base y (2 ^ b) (2 ^ (63 - b)) (base_split b h)) ∙ add-mul-mod_self_right a (y * 2 ^ (63 - b) * 2) (2 ^ b)
@@ -150,14 +146,17 @@ few_words N b h g =
     let e : 54 + b ≤ 128 = omega arith in
     lt_of_lt_of_le (subst (λ (x : ℕ). N < x) (sym (pow-add 2 54 b)) ((div-lt_iff_lt-mul {k = 2 ^ b} {x = N} {y = 2 ^ 54} (pow_pos b)).0 g)) (pow_mono e)
 
+whole_word : (y : ℕ) → y < base → y * base % 2 ^ 128 ≡ base * y
+whole_word y h = omega arith
+
 module _ (l : List ℕ) (B : Below base l) (d : ℕ) where
   at-digit : value l / 2 ^ d ≡ value (drop (d / 64) l) / 2 ^ (d % 64)
   at-digit =
       ap (λ (x : ℕ). value l / 2 ^ x) (sym (div-add-mod' d 64)) ∙ sym (shr-shr (value l) (d / 64 * 64) (d % 64)) ∙ ap (λ (x : ℕ). x / 2 ^ (d % 64)) (words-above l B (d / 64))
 
-  -- two words hold what is left of a number without its last d digits
+  -- two words hold what is left of a number without its last d digits, and are the code's number of 128 bits
   pub quotient : d / 64 + 1 < length l → value l / 2 ^ d < 2 ^ 54
-      → get_or l (d / 64) 0 / 2 ^ (d % 64) + get_or l (d / 64 + 1) 0 * 2 ^ (63 - d % 64) * 2 ≡ value l / 2 ^ d
+      → (get_or l (d / 64) 0 + get_or l (d / 64 + 1) 0 * base % 2 ^ 128) / 2 ^ (d % 64) ≡ value l / 2 ^ d
   quotient h g =
       let w = d / 64 in
       let b = d % 64 in
@@ -169,7 +168,8 @@ module _ (l : List ℕ) (B : Below base l) (d : ℕ) where
       let two : value (drop w l) ≡ a + base * (y + base * v) = from_word l w first ∙ ap (λ (x : ℕ). a + base * x) (from_word l (w + 1) h) in
       let none : v ≡ 0 = no_third (value (drop w l)) base a y v two (few_words (value (drop w l)) b k (subst (λ (x : ℕ). x < 2 ^ 54) at-digit g)) in
       let just : y + base * v ≡ y = alone y base v none in
-      sym (at-digit ∙ ap (λ (x : ℕ). x / 2 ^ b) (two ∙ ap (λ (x : ℕ). a + base * x) just) ∙ moved a y b k)
+      let fit : y * base % 2 ^ 128 ≡ base * y = whole_word y (B (w + 1)) in
+      ap (λ (x : ℕ). (a + x) / 2 ^ b) fit ∙ sym (at-digit ∙ ap (λ (x : ℕ). x / 2 ^ b) (two ∙ ap (λ (x : ℕ). a + base * x) just))
 
   pub remainder : d / 64 < length l → value l % 2 ^ d ≡ get_or l (d / 64) 0 % 2 ^ (d % 64) * 2 ^ (d / 64 * 64) + value (take (d / 64) l)
   remainder h =

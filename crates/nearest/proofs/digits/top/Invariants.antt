@@ -1,12 +1,6 @@
-use Prim.Native.Nat.{◌+◌, ◌≤◌}
-use mathlib.Core.Path.{◌≡◌}
-use lib.ListN.{drop}
+use Rattle.std.proofs.Common.{◌≡◌, ◌<◌, ◌≤◌, drop}
 use Rattle.accumulator.specs.Accumulators.{value}
 use Rattle.nearest.proofs.digits.top.Given as goal
 
--- `nearest::digits::top` meets its contract. Assumes nothing.
 abbrev pub invariant-loop-j : goal.invariant-loop-j
-invariant-loop-j l = (l.j ≤ 66) × (value (drop (l.j + 1) l.m) ≡ 0)
-
-abbrev pub decreases-loop-j : goal.decreases-loop-j
-decreases-loop-j l = l.j
+invariant-loop-j l = (0 < l.j) × (l.j ≤ 67) × (value (drop l.j l.m) ≡ 0)
