@@ -29,8 +29,8 @@ fn good_scales(scale: &[f64]) -> bool
     ensures { result ≡ loops.every (private.good_scale_at scale.now) (length scale.now) }
 {
     let mut good = true;
-    for i in 0..scale.len() {
-        good = good & floats::is_finite(scale[i]) & (scale[i] > 0.0);
+    for s in scale {
+        good &= floats::is_finite(*s) & (*s > 0.0);
     }
     good
 }

@@ -65,6 +65,7 @@ pub extern "C" fn piskorlu_least_norm(
 }
 
 // Two reports joined by `and`, each ten counts and a residual: 0 and the joined report in counts and residual, or 13.
+#[tactic(auto, unfolding(crate::specs::Reports::taken))]
 #[unsafe(no_mangle)]
 pub extern "C" fn piskorlu_and(
     a: &[u32],
@@ -80,15 +81,16 @@ pub extern "C" fn piskorlu_and(
         (joins.and (report.read a.now a_residual) (report.read b.now b_residual)))
         result counts.old counts.new residual.old residual.new }
 {
-    if reports::taken(a, b, counts, residual) {
-        let joined = reports::read(a, a_residual).and(reports::read(b, b_residual));
-        return reports::leave(joined, counts, residual);
+    if !reports::taken(a, b, counts, residual) {
+        return Refusal::Join.into();
     }
-    13
+    let joined = reports::read(a, a_residual).and(reports::read(b, b_residual));
+    reports::leave(joined, counts, residual)
 }
 
 // One increment's report a, gone on from there as b reports, by `continued`: 0 and the report in counts and residual,
 // or 13.
+#[tactic(auto, unfolding(crate::specs::Reports::taken))]
 #[unsafe(no_mangle)]
 pub extern "C" fn piskorlu_continued(
     a: &[u32],
@@ -104,15 +106,16 @@ pub extern "C" fn piskorlu_continued(
         (joins.continued (report.read a.now a_residual) (report.read b.now b_residual)))
         result counts.old counts.new residual.old residual.new }
 {
-    if reports::taken(a, b, counts, residual) {
-        let joined = reports::read(a, a_residual).continued(reports::read(b, b_residual));
-        return reports::leave(joined, counts, residual);
+    if !reports::taken(a, b, counts, residual) {
+        return Refusal::Join.into();
     }
-    13
+    let joined = reports::read(a, a_residual).continued(reports::read(b, b_residual));
+    reports::leave(joined, counts, residual)
 }
 
 // BoxSolver::solve: 0, with eight counts and the residual of the answer; or document 01's number, and nothing is
 // written.
+#[tactic(auto, unfolding(crate::specs::Solves::taken, crate::specs::Solves::reply))]
 #[unsafe(no_mangle)]
 pub extern "C" fn piskorlu_solve(
     w: &[f64],

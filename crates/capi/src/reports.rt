@@ -6,6 +6,7 @@ use flags::{flag, flagged};
 use refusals::Refusal;
 use report::SolveReport;
 
+#[tactic(auto, unfolding(crate::specs::Reports::read))]
 pub fn read(counts: &[u32], residual: f64) -> SolveReport
     requires { 10 ≤ length counts.now }
     ensures { result ≡ report.read counts.now residual }
@@ -25,6 +26,7 @@ pub fn read(counts: &[u32], residual: f64) -> SolveReport
     }
 }
 
+#[tactic(auto, unfolding(crate::specs::Reports::written))]
 pub fn write(r: SolveReport, counts: &mut [u32])
     requires { 10 ≤ length counts.old }
     ensures { counts.new ≡ report.written r counts.old }
@@ -59,17 +61,9 @@ pub fn leave(joined: Result<SolveReport, Refusal>, counts: &mut [u32], residual:
 }
 
 // Whether the slices hold ten counts each, and one residual.
+#[tactic(auto, unfolding(crate::specs::Reports::taken))]
 pub fn taken(a: &[u32], b: &[u32], counts: &[u32], residual: &[f64]) -> bool
     ensures { result ≡ report.taken a.now b.now counts.now residual.now }
 {
-    if a.len() < 10 {
-        return false;
-    }
-    if b.len() < 10 {
-        return false;
-    }
-    if counts.len() < 10 {
-        return false;
-    }
-    1 <= residual.len()
+    a.len() >= 10 && b.len() >= 10 && counts.len() >= 10 && residual.len() >= 1
 }

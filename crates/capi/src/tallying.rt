@@ -35,6 +35,7 @@ pub fn keep(s: Tallied, tally: &mut [u32], tally_residual: &mut [f64])
 
 // A tallied solve: 0, the answer in eight counts and a residual, and the tally, ten counts and a residual, joined
 // with it; or 5 to 11 and nothing written, 10 also where a slice of these has no room.
+#[tactic(auto, unfolding(crate::specs::Solves::taken, crate::specs::Tallies::taken, crate::specs::Tallies::reply))]
 #[unsafe(no_mangle)]
 pub extern "C" fn piskorlu_tallied(
     tally: &mut [u32],

@@ -14,6 +14,7 @@ use tallied::Sent;
 
 // triangle::solve: what piskorlu_solve answers and leaves of the mirrored matrix; or 5, 16 in the place of 6, or 7 to
 // 10, and nothing is written.
+#[tactic(auto, unfolding(crate::specs::Solves::taken, crate::specs::Solves::reply))]
 #[unsafe(no_mangle)]
 pub extern "C" fn piskorlu_solve_triangle(
     t: &[f64],
@@ -52,6 +53,7 @@ pub extern "C" fn piskorlu_solve_triangle(
 }
 
 // A tallied solve of a triangle: as piskorlu_tallied of the mirrored matrix, with 16 in the place of 6.
+#[tactic(auto, unfolding(crate::specs::Solves::taken, crate::specs::Tallies::taken, crate::specs::Tallies::reply))]
 #[unsafe(no_mangle)]
 pub extern "C" fn piskorlu_tallied_triangle(
     tally: &mut [u32],

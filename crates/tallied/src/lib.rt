@@ -40,8 +40,8 @@ pub fn no_nan(nu: &[f64]) -> bool
     ensures { result ≡ def.no_nan nu.now }
 {
     let mut none = true;
-    for i in 0..nu.len() {
-        none = none & !floats::is_nan(nu[i]);
+    for v in nu {
+        none &= !floats::is_nan(*v);
     }
     none
 }
