@@ -100,8 +100,7 @@ fn reflect_lanes<const K: usize>(a: &mut [f64], size: Size, j: usize, c: usize, 
     less_rows(a, size, j, c, v, f);
 }
 
-// The same for K columns more, and K more, as long as there are so many. Returns the column after them. A `for` would
-// have to count such blocks by a division, and find each column again from its block's number.
+// The same for K columns more, and K more, as long as there are so many. Returns the column after them.
 fn reflect_columns<const K: usize>(
     a: &mut [f64],
     size: Size,
@@ -117,6 +116,7 @@ fn reflect_columns<const K: usize>(
         × (c ≤ result) × (result ≤ size.n) × (size.n < result + K) }
 {
     let mut next = c;
+    // A `for` would count the blocks of K by a division, and find each column again from its block's number.
     while K <= size.n - next {
         reflect_lanes::<K>(a, size, j, next, v, vtv);
         next += K;

@@ -49,13 +49,13 @@ fn pick_lanes<const K: usize>(c: usize, s: [f64; K], best: Pivot) -> Pivot
     p
 }
 
-// The pivot among K columns of a more, and K more, as long as there are so many. A `for` would have to count such
-// blocks by a division, and find each column again from its block's number.
+// The pivot among K columns of a more, and K more, as long as there are so many.
 fn pick<const K: usize>(a: &[f64], size: Size, j: usize, from: Scan) -> Scan
     requires { Matrix a.now size × (j ≤ size.m) × (from.best.col < from.next) × (from.next ≤ size.n) × (0 < K) }
     ensures { Scanned a.now size.m size.n j from.next from.best K result }
 {
     let Scan { mut best, mut next } = from;
+    // A `for` would count the blocks of K by a division, and find each column again from its block's number.
     while K <= size.n - next {
         let s: [f64; K] = column_norms(a, size, next, j);
         best = pick_lanes(next, s, best);

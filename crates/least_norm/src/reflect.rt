@@ -14,10 +14,8 @@ fn norm(alpha: f64, sigma: f64, near: f64) -> f64
 {
     if sigma == 0.0 {
         let size = floats::abs(alpha);
-        if size > 1e-140 {
-            if size < 1e140 {
-                return size;
-            }
+        if size > 1e-140 && size < 1e140 {
+            return size;
         }
         return floats::sqrt_near(alpha * alpha + sigma, size);
     }
@@ -25,6 +23,7 @@ fn norm(alpha: f64, sigma: f64, near: f64) -> f64
 }
 
 // The same with the sign that alpha does not have.
+#[tactic(auto, unfolding(crate::specs::Reflector::beta))]
 pub fn beta(alpha: f64, sigma: f64, near: f64) -> f64
     ensures { result ≡ reflector.beta alpha sigma }
 {

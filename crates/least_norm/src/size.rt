@@ -1,7 +1,8 @@
 // The size of a matrix that is kept row by row: the entry in row i and column c stands at i * n + c.
 ghost use Rattle.std.specs.Prelude.{◌≤◌};
 
-// m rows of n entries, few enough.
+// m rows of n entries, few enough. The entries are lent beside it: a struct that held them as a `&mut` would have each
+// function that writes promise that m, n and the reference stay.
 #[derive(Clone, Copy)]
 pub struct Size {
     pub m: usize,
