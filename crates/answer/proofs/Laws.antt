@@ -5,14 +5,13 @@ use mathlib.Core.List.{List, [], ◌∷◌, ◌++◌}
 use native.Mathlib.Omega.{arith}
 use native.Mathlib.Nat.{mul-le-mul}
 use lib.Ieee.{Float}
-use lib.ListN.{length, get_or, take, drop, replicate, length-append, length-take, length-drop}
+use lib.ListN.{length, get_or, take, drop, length-take}
 use lib.Seq.{take_at, sets-eq}
 use borrow.Author.Tests.{lt-ltb, le-ltb}
 use Rattle.std.proofs.Common.{Result, Ok, Err}
 use Rattle.refusals.specs.Numbers.{number}
 use Rattle.refusals.specs.declared.Refusal.{Refusal}
-use Rattle.floats.specs.Ops.{0ᶠ}
-use Rattle.bend_file.specs.Little.{values, over}
+use Rattle.bend_file.specs.Little.{over}
 use Rattle.bend_file.specs.Trailer.{Small}
 use Rattle.bend_file.specs.Read as read
 use Rattle.bend_file.specs.declared.Shape.{Shape}
@@ -26,6 +25,7 @@ use Rattle.std.specs.Prelude.{Result}
 use Rattle.printer.specs.Output as print
 use Rattle.printer.proofs.Lengths.{Word}
 use Rattle.answer.specs.Output as def
+use Rattle.answer.specs.Private as private
 
 -- ---- printing
 
@@ -63,7 +63,8 @@ refused-file f r a b h = go (read.answer f) h.result
 front_of : (k : ℕ) (v l : List Float) → length v ≡ k → take k (over v l) ≡ v
 front_of k v l e = take_at v (drop (length v) l) k e
 
-filled-fronts : (f : List ℕ) (s n c : ℕ) (a : read.Lent) → def.asked (read.problem f s n c) ≡ def.fronts n c (read.problem f s n c).tolerance (read.with_problem (read.problem f s n c) a)
+-- the problem as it was read is the one at the fronts
+filled-fronts : (f : List ℕ) (s n c : ℕ) (a : read.Lent) → let p = read.problem f s n c in def.asked p ≡ private.fronts_of (read.shape p) (read.with_problem p a)
 unfolding read.problem
 filled-fronts f s n c a =
     rw (
@@ -76,82 +77,27 @@ filled-fronts f s n c a =
       front_of (c * n) _ a.motion (values_length f s (n * n + 5 * n) (c * n)),
     )
 
--- buffers of the reader's sizes
-pub record Sizes (b : read.Lent) : Type 0 where
-  pub w : length b.w ≡ 1024
-  pub u_free : length b.u_free ≡ 32
-  pub lo : length b.lo ≡ 32
-  pub hi : length b.hi ≡ 32
-  pub scale : length b.scale ≡ 32
-  pub nu : length b.nu ≡ 32
-  pub motion : length b.motion ≡ 2048
+-- a file that is accepted: the output is that of the solve of the fronts
+pub record Asked (f : List ℕ) (x : Shape) (b : read.Lent) : Type 0 where
+  pub small : Small x.rows x.coords
+  pub same : def.printed (private.fronts_of x b) ≡ def.output f
 
-over-size : (k m : ℕ) (v l : List Float) → length v ≡ k → length l ≡ m → k ≤ m → length (over v l) ≡ m
-over-size k m v l e g h = length-append v (drop (length v) l) ∙ omega (arith, length-drop (length v) l)
-
-filled_sizes : (f : List ℕ) (s n c : ℕ) (a : read.Lent) → Small n c → Sizes a → Sizes (read.with_problem (read.problem f s n c) a)
-unfolding read.problem
-filled_sizes f s n c a h z =
-    record {
-      w = over-size (n * n) 1024 (values f s 0 (n * n)) a.w (values_length f s 0 (n * n)) z.w h.square;
-      u_free = over-size n 32 (values f s (n * n) n) a.u_free (values_length f s (n * n) n) z.u_free h.few;
-      lo = over-size n 32 (values f s (n * n + n) n) a.lo (values_length f s (n * n + n) n) z.lo h.few;
-      hi = over-size n 32 (values f s (n * n + 2 * n) n) a.hi (values_length f s (n * n + 2 * n) n) z.hi h.few;
-      scale = over-size n 32 (values f s (n * n + 3 * n) n) a.scale (values_length f s (n * n + 3 * n) n) z.scale h.few;
-      nu = over-size n 32 (values f s (n * n + 4 * n) n) a.nu (values_length f s (n * n + 4 * n) n) z.nu h.few;
-      motion = over-size (c * n) 2048 (values f s (n * n + 5 * n) (c * n)) a.motion (values_length f s (n * n + 5 * n) (c * n)) z.motion h.moving;
-    }
-
--- a file that is accepted: the output is that of the solve of the buffers' fronts
-pub record Asked (f : List ℕ) (n c : ℕ) (t : Float) (b : read.Lent) : Type 0 where
-  pub small : Small n c
-  pub sizes : Sizes b
-  pub same : def.printed (def.fronts n c t b) ≡ def.output f
-
-module _ (f : List ℕ) (a b : read.Lent) (z : Sizes a) where
-  asked-at : (s n c : ℕ) → Small n c → read.answer f ≡ Ok (read.problem f s n c) → b ≡ read.with_problem (read.problem f s n c) a → Asked f n c (read.problem f s n c).tolerance b
+module _ (f : List ℕ) (a b : read.Lent) where
+  asked : (p : read.Problem) → read.answer f ≡ Ok p → b ≡ read.with_problem p a → Asked f (read.shape p) b
   unfolding def.output
-  asked-at s n c h e g = record { small = h; sizes = rw g (filled_sizes f s n c a h z); same = rw (g, e) (ap def.printed (sym (filled-fronts f s n c a))) }
-
-  asked : (p : read.Problem) → read.answer f ≡ Ok p → b ≡ read.with_problem p a → Asked f p.rows p.coords p.tolerance b
   asked p e g =
       let k = accepted_is_bend-file f p e in
-      let v = k.values in
-      let s : Small p.rows p.coords = record { few = k.few_rows; square = mul-le-mul k.few_rows k.few_rows; moving = k.few_moving } in
-      subst (λ (t : Float). Asked f p.rows p.coords t b) (sym (ap (λ (x : read.Problem). x.tolerance) v))
-      (asked-at _ p.rows p.coords s (e ∙ ap (λ (x : read.Problem). Ok x) v) (g ∙ ap (λ (x : read.Problem). read.with_problem x a) v))
+      record {
+        small = record { few = k.few_rows; square = mul-le-mul k.few_rows k.few_rows; moving = k.few_moving };
+        same = rw (g, e) (sym (ap def.printed (subst (λ (q : read.Problem). def.asked q ≡ private.fronts_of (read.shape q) (read.with_problem q a)) (sym k.values) (filled-fronts _ _ _ _ a))));
+      }
 
-  pub accepted-file : (x : Shape) → read.Reads f (Ok x) a b → Asked f x.rows x.coords x.tolerance b
-  accepted-file x h = go (read.answer f) refl h.result h.buffers
+  pub taken_in : (x : Shape) → read.Reads f (Ok x) a b → Asked f x b
+  taken_in x h = go (read.answer f) refl h.result h.buffers
     where
-      go : (r : Result read.Problem Refusal) → read.answer f ≡ r → Ok x ≡ read.reading r → b ≡ read.filled r a → Asked f x.rows x.coords x.tolerance b
+      go : (r : Result read.Problem Refusal) → read.answer f ≡ r → Ok x ≡ read.reading r → b ≡ read.filled r a → Asked f x b
       go (Err r) q g i = absurd (cc)
       go (Ok p) q g i = let e : x ≡ read.shape p = cc in rw e (asked p q i)
-
--- the reader's buffers as they are at first
-abbrev zeros : read.Lent
-zeros = record { w = replicate 1024 0ᶠ; u_free = replicate 32 0ᶠ; lo = replicate 32 0ᶠ; hi = replicate 32 0ᶠ; scale = replicate 32 0ᶠ; nu = replicate 32 0ᶠ; motion = replicate 2048 0ᶠ }
-
-zeros_sizes : Sizes zeros
-zeros_sizes = record { w = refl; u_free = refl; lo = refl; hi = refl; scale = refl; nu = refl; motion = refl }
-
-pub taken_in : (f : List ℕ) (b : read.Lent) (x : Shape) → read.Reads f (Ok x) zeros b → Asked f x.rows x.coords x.tolerance b
-taken_in f b x h = accepted-file f zeros b zeros_sizes x h
-
-pub room_of : (f : List ℕ) (n c : ℕ) (t : Float) (b : read.Lent) → Asked f n c t b → def.Room n c b
-room_of f n c t b h =
-    let s = h.small in
-    let z = h.sizes in
-    record {
-      small = s;
-      cells = omega (arith, s.square, z.w);
-      free = omega (arith, s.few, z.u_free);
-      low = omega (arith, s.few, z.lo);
-      high = omega (arith, s.few, z.hi);
-      scales = omega (arith, s.few, z.scale);
-      starts = omega (arith, s.few, z.nu);
-      moving = omega (arith, s.moving, z.motion);
-    }
 
 -- ---- the call
 

@@ -1,6 +1,5 @@
 -- What bendsolve writes for a file. Definitions only: the reader's, the solver's and the printer's, one after another.
-use Rattle.std.specs.Prelude.{ℕ, ◌*◌, ◌≤◌, ◌≡◌, cond, List, [], ◌++◌, ltb, Float, length, take, drop, replicate, Result, Ok, Err}
-use Rattle.bend_file.specs.Trailer.{Small}
+use Rattle.std.specs.Prelude.{ℕ, ◌≤◌, ◌≡◌, cond, List, [], ◌++◌, ltb, Float, length, take, drop, replicate, Result, Ok, Err}
 use Rattle.bend_file.specs.Read as read
 use Rattle.box_rows.specs.Rows as box
 use Rattle.boxed.specs.Solve as solve
@@ -35,26 +34,6 @@ classified (Ok p) = printed (asked p)
 -- the bytes that bendsolve writes for a file
 unfoldable pub output : List ℕ → List ℕ
 output f = classified (read.answer f)
-
--- ---- the reader's buffers
-
--- n rows and c coordinates have room in them
-pub record Room (n c : ℕ) (b : read.Lent) : Type 0 where
-  pub small : Small n c
-  pub cells : n * n ≤ length b.w
-  pub free : n ≤ length b.u_free
-  pub low : n ≤ length b.lo
-  pub high : n ≤ length b.hi
-  pub scales : n ≤ length b.scale
-  pub starts : n ≤ length b.nu
-  pub moving : c * n ≤ length b.motion
-
--- the solve of the problem at their fronts
-abbrev pub fronts : ℕ → ℕ → Float → read.Lent → solve.Result
-fronts n c t b =
-    solved (box.problem (take (n * n) b.w) (take n b.u_free) (take n b.lo) (take n b.hi) (take n b.scale))
-    (solve.watch (take (c * n) b.motion) t)
-    (take n b.nu)
 
 -- ---- what the call gives back
 

@@ -2,10 +2,10 @@
 // an equation with the definition in specs/, which is the reader's, the solver's and the printer's one after another.
 #![tactic(auto)]
 
-ghost use Rattle.std.specs.Prelude.{◌≡◌, ◌≤◌, length};
-ghost use Rattle.box_rows.specs.Rows as box;
-ghost use Rattle.boxed.specs.Solve as solve;
+ghost use Rattle.std.specs.Prelude.{◌≤◌, length};
+ghost use Rattle.bend_file.specs.Trailer.{Small};
 ghost use Rattle.answer.specs.Output as def;
+ghost use Rattle.answer.specs.Private as private;
 
 use bend_file::Shape;
 use boxed::{BoxOutcome, BoxSolver};
@@ -38,94 +38,46 @@ fn print(
     }
 }
 
-// The problem solved and its answer printed. The states, the row list and the workspace are the solve's own.
-fn solve(
-    w: &[f64],
-    u_free: &[f64],
-    lo: &[f64],
-    hi: &[f64],
-    scale: &[f64],
-    motion: &[f64],
-    tolerance: f64,
-    nu: &mut [f64],
-    out: &mut [u8],
-) -> usize
-    requires { length nu.old ≤ 32 }
-    ensures { def.Laid out.old out.new result
-        (def.printed
-        (def.solved
-        (box.problem w.now u_free.now lo.now hi.now scale.now)
-        (solve.watch motion.now tolerance) nu.old)) }
-{
-    let mut states = [0u8; 32];
-    let mut rows = [0usize; 32];
-    let mut workspace = [0.0f64; 2304];
-    let answer = BoxSolver::solve(
-        w,
-        u_free,
-        lo,
-        hi,
-        scale,
-        motion,
-        tolerance,
-        nu,
-        &mut states,
-        &mut rows,
-        &mut workspace,
-    );
-    print(answer, &states, nu, &rows, out)
+// What a file's problem is read into: its values are at the fronts.
+#[derive(Clone, Copy)]
+struct Values {
+    w: [f64; 1024],
+    u_free: [f64; 32],
+    lo: [f64; 32],
+    hi: [f64; 32],
+    scale: [f64; 32],
+    nu: [f64; 32],
+    motion: [f64; 2048],
 }
 
-// The same of the fronts of the reader's buffers.
-fn solve_fronts(
-    n: usize,
-    coords: usize,
-    w: &[f64],
-    u_free: &[f64],
-    lo: &[f64],
-    hi: &[f64],
-    scale: &[f64],
-    motion: &[f64],
-    tolerance: f64,
-    nu: &mut [f64],
-    out: &mut [u8],
-) -> usize
-    requires { def.Room n coords
-        (record {
-          w = w.now;
-          u_free = u_free.now;
-          lo = lo.now;
-          hi = hi.now;
-          scale = scale.now;
-          nu = nu.old;
-          motion = motion.now;
-        }) }
-    ensures { def.Laid out.old out.new result
-        (def.printed
-        (def.fronts n coords tolerance
-        (record {
-          w = w.now;
-          u_free = u_free.now;
-          lo = lo.now;
-          hi = hi.now;
-          scale = scale.now;
-          nu = nu.old;
-          motion = motion.now;
-        }))) }
-{
-    let cells = n * n;
-    let moving = coords * n;
-    solve(
-        &w[..cells],
-        &u_free[..n],
-        &lo[..n],
-        &hi[..n],
-        &scale[..n],
-        &motion[..moving],
-        tolerance,
-        &mut nu[..n],
-        out,
-    )
+impl Values {
+    // The problem of this shape solved, and its answer printed. The states, the row list and the workspace are the
+    // solve's own.
+    fn solve(&self, shape: Shape, out: &mut [u8]) -> usize
+        requires { Small shape.rows shape.coords }
+        ensures { def.Laid out.old out.new result (def.printed (private.fronts shape self.now)) }
+    {
+        let n = shape.rows;
+        let mut start = self.nu;
+        let nu = &mut start[..n];
+        let mut states = [0u8; 32];
+        let mut rows = [0usize; 32];
+        let mut workspace = [0.0f64; 2304];
+        let answer = BoxSolver::solve(
+            &self.w[..n * n],
+            &self.u_free[..n],
+            &self.lo[..n],
+            &self.hi[..n],
+            &self.scale[..n],
+            &self.motion[..shape.coords * n],
+            shape.tolerance,
+            nu,
+            &mut states,
+            &mut rows,
+            &mut workspace,
+        );
+        print(answer, &states, nu, &rows, out)
+    }
 }
 
 // What bendsolve writes for a file, at the front of a lent buffer; how long it is. A buffer of less than 2,048 bytes
@@ -136,30 +88,27 @@ pub fn of_file(file: &[u8], out: &mut [u8]) -> usize
     if out.len() < ROOM {
         return 0;
     }
-    let mut w = [0.0f64; 1024];
-    let mut u_free = [0.0f64; 32];
-    let mut lo = [0.0f64; 32];
-    let mut hi = [0.0f64; 32];
-    let mut scale = [0.0f64; 32];
-    let mut nu = [0.0f64; 32];
-    let mut motion = [0.0f64; 2048];
-    match bend_file::read(
+    let mut values = Values {
+        w: [0.0; 1024],
+        u_free: [0.0; 32],
+        lo: [0.0; 32],
+        hi: [0.0; 32],
+        scale: [0.0; 32],
+        nu: [0.0; 32],
+        motion: [0.0; 2048],
+    };
+    let shape = bend_file::read(
         file,
-        &mut w,
-        &mut u_free,
-        &mut lo,
-        &mut hi,
-        &mut scale,
-        &mut nu,
-        &mut motion,
-    ) {
+        &mut values.w,
+        &mut values.u_free,
+        &mut values.lo,
+        &mut values.hi,
+        &mut values.scale,
+        &mut values.nu,
+        &mut values.motion,
+    );
+    match shape {
         Err(refusal) => printer::refused(u32::from(refusal), out),
-        Ok(Shape {
-            rows,
-            coords,
-            tolerance,
-        }) => solve_fronts(
-            rows, coords, &w, &u_free, &lo, &hi, &scale, &motion, tolerance, &mut nu, out,
-        ),
+        Ok(shape) => values.solve(shape, out),
     }
 }

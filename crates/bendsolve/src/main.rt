@@ -5,7 +5,8 @@
 
 mod input;
 
-use input::Input;
+use input::Untaken;
+use refusals::Refusal;
 use std::fmt::InlineText;
 use std::io;
 
@@ -31,23 +32,22 @@ fn write(rt: &(impl Print + Eprint), answer: &[u8]) {
 }
 
 fn solve(rt: &(impl Print + Eprint), file: &[u8]) {
-    let mut out = [0u8; 2048];
+    let mut out = [0u8; answer::ROOM];
     let count = answer::of_file(file, &mut out);
     write(rt, &out[..count]);
 }
 
-fn refuse(rt: &(impl Print + Eprint), number: u32) {
-    let mut out = [0u8; 2048];
-    let count = printer::refused(number, &mut out);
+fn refuse(rt: &(impl Print + Eprint), refusal: Refusal) {
+    let mut out = [0u8; answer::ROOM];
+    let count = printer::refused(u32::from(refusal), &mut out);
     write(rt, &out[..count]);
 }
 
 fn main(rt: HostRuntime) {
     let mut buffer = [0u8; 65536];
-    let read = input::read(&mut rt.stdin(), &mut buffer);
-    match read {
-        Input::Whole(count) => solve(&rt, &buffer[..count]),
-        Input::TooLong => refuse(&rt, 1),
-        Input::Failed(error) => fail(&rt, "bendsolve: standard input", error),
+    match input::read(&mut rt.stdin(), &mut buffer) {
+        Ok(count) => solve(&rt, &buffer[..count]),
+        Err(Untaken::TooLong) => refuse(&rt, Refusal::FileSize),
+        Err(Untaken::Failed(error)) => fail(&rt, "bendsolve: standard input", error),
     }
 }

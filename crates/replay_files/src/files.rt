@@ -1,5 +1,5 @@
 // The files 000.bend, 001.bend and so on, each beside what must be printed for it: 000.txt, 001.txt.
-ghost use Rattle.std.specs.Prelude.{◌≤◌, ◌<◌, length};
+ghost use Rattle.std.specs.Prelude.{◌≤◌, length};
 
 use std::fmt::InlineText;
 use std::io::Read;
@@ -34,45 +34,23 @@ fn take<R: Read + Drop>(mut file: R, buffer: &mut [u8]) -> usize
 fn take_answer(rt: &impl Files, i: usize, buffer: &mut [u8]) -> usize
     ensures { result ≤ length buffer.new }
 {
-    let name = name_of_answer(i);
-    match fs::open(rt, name.as_str()) {
-        Ok(file) => take(file, buffer),
-        Err(_) => 0,
-    }
-}
-
-fn same(a: &[u8], b: &[u8]) -> bool {
-    if a.len() != b.len() {
-        return false;
-    }
-    let mut i = 0;
-    while i < a.len() {
-        if a[i] != b[i] {
-            return false;
-        }
-        i += 1;
-    }
-    true
-}
-
-// Whether something else is printed for the file than is stored: 1, or 0.
-fn differs(file: &[u8], stored: &[u8]) -> u64
-    ensures { result ≤ 1 }
-{
-    let mut out = [0u8; 2048];
-    let count = answer::of_file(file, &mut out);
-    if same(&out[..count], stored) {
+    let Ok(file) = fs::open(rt, name_of_answer(i).as_str()) else {
         return 0;
-    }
-    1
+    };
+    take(file, buffer)
+}
+
+// Whether something else is printed for the file than is stored.
+fn differs(file: &[u8], stored: &[u8]) -> bool {
+    let mut out = [0u8; answer::ROOM];
+    let count = answer::of_file(file, &mut out);
+    &out[..count] != stored
 }
 
 // The same of file i, which is open.
-fn replayed<R: Read + Drop>(rt: &impl Files, file: R, i: usize, buffer: &mut [u8]) -> u64
-    ensures { result ≤ 1 }
-{
+fn replayed<R: Read + Drop>(rt: &impl Files, file: R, i: usize, buffer: &mut [u8]) -> bool {
     let got = take(file, buffer);
-    let mut stored = [0u8; 2049];
+    let mut stored = [0u8; answer::ROOM + 1];
     let wanted = take_answer(rt, i, &mut stored);
     differs(&buffer[..got], &stored[..wanted])
 }
@@ -84,15 +62,14 @@ fn report(rt: &impl Print, count: u64, differing: u64) -> io::Result<()> {
 // As many as there are, at most a thousand. The longest file is one byte longer than a bend file may be.
 pub fn replay(rt: &(impl Files + Print)) -> io::Result<()> {
     let mut buffer = [0u8; 65537];
+    let mut count: u64 = 0;
     let mut differing: u64 = 0;
-    let mut i = 0;
-    while i < 1000 {
-        let name = name_of_file(i);
-        match fs::open(rt, name.as_str()) {
-            Ok(file) => differing += replayed(rt, file, i, &mut buffer),
-            Err(_) => break,
-        }
-        i += 1;
+    for i in 0..1000 {
+        let Ok(file) = fs::open(rt, name_of_file(i).as_str()) else {
+            break;
+        };
+        count += 1;
+        differing += u64::from(replayed(rt, file, i, &mut buffer));
     }
-    report(rt, i as u64, differing)
+    report(rt, count, differing)
 }

@@ -1,6 +1,6 @@
 use Rattle.answer.specs.Output as def
 use Rattle.answer.proofs.Laws.{left_laid}
-use Rattle.answer.proofs.solve.Goals as goal
+use Rattle.answer.proofs.Values.solve.Goals as goal
 
 pub returns : goal.returns
 unfolding def.solved
