@@ -1,6 +1,6 @@
 -- What a call that is not refused was lent.
-use Prim.Native.Nat.{ℕ, suc, ◌*◌, ◌%◌, ◌≤◌}
-use mathlib.Core.Path.{◌≡◌, refl, sym, ◌∙◌}
+use Prim.Native.Nat.{ℕ, ◌*◌, ◌%◌, ◌≤◌}
+use mathlib.Core.Path.{◌≡◌, refl}
 use mathlib.Core.Bool.{Bool, true, false, not, ◌&&◌, ◌||◌, true≢false}
 use mathlib.Core.List.{List, [], ◌∷◌}
 use native.Mathlib.Omega.{arith}
@@ -17,7 +17,7 @@ use Rattle.refusals.specs.declared.Refusal.{Refusal}
 use Rattle.refusals.specs.declared.Refusal.TheVariants.{TooLarge, NotSquare, Unequal, Scale, Motion, Short}
 use Rattle.std.specs.Prelude.{None}
 use Rattle.boxed.specs.Solve.{MAX_MOTION, WORKSPACE, first, refusal}
-use Rattle.boxed.specs.Private.{good_scale, good_scale_at, Matrix, Lent}
+use Rattle.boxed.specs.Private.{good_scale, good_scale_at, Lent}
 
 first_false : (c : Bool) (k : Refusal) (l : List (Bool × Refusal)) → first ((c, k) ∷ l) ≡ None → (c ≡ false) × (first l ≡ None)
 first_false true k l h = cc
@@ -77,7 +77,8 @@ pub lent : (p : Problem) (motion nu : List Float) (st l : List ℕ) (work : List
     → Lent p (take (size p) st) nu l work
 lent p motion nu st l work h =
     let a = accepted p motion nu st l (length work) h in
-    let s = a.sized in
-    let matrix : Matrix (size p) p.w p.lo p.hi (take (size p) st) nu =
-    record { few = s.0; square = s.1; lower = s.2; upper = s.3; states = length-take-le (size p) st a.states; multipliers = a.values } in
-    record { lists = record { matrix = matrix; scales = s.4 }; listed = a.listed; workspace = omega (arith, a.work) }
+    record {
+      lists = record { states = length-take-le (size p) st a.states; multipliers = a.values };
+      listed = a.listed;
+      workspace = omega (arith, a.work);
+    }

@@ -1,86 +1,56 @@
 -- The checkpoints, and the exact pass tried at one, from what the calls promise.
-use Prim.Native.Nat.{ℕ, suc, ◌+◌, ◌-◌, ◌≤◌, ◌<◌}
+use Prim.Native.Nat.{ℕ, ◌+◌, ◌-◌, ◌≤◌}
 use mathlib.Core.Path.{◌≡◌, refl, sym, ap, ◌∙◌}
 use mathlib.Core.Bool.{Bool, true, false, ◌||◌}
 use mathlib.Core.List.{List, [], ◌∷◌, ◌++◌}
 use native.Mathlib.Omega.{arith}
 use native.Mathlib.Numerals.{add-one}
 use lib.Dec.{eqb}
-use lib.ListN.{length, get_or, take, drop, drop_of_length-le, length-take, length-drop}
-use lib.Seq.{drop-cons, drop_at, take_at, length-take-le}
+use lib.ListN.{length, take, drop, length-take, length-drop}
+use lib.Seq.{drop_at, take_at, length-take-le}
 use lib.Ieee.{Float}
-use borrow.Author.Tests.{eq-eqb, ne_eqb, le-leb}
+use borrow.Author.Tests.{le-leb, eq-eqb, ne_eqb, eqb-true, eqb-false}
 use borrow.Rule.Slice.PartMut.{put_mid, post_of, same_len_mid, drop_put}
+use Rattle.std.specs.Prelude.{Option, Some, None}
+use Rattle.std.specs.List.{list_any}
 use Rattle.box_rows.specs.Rows as box
+use Rattle.box_rows.specs.Private.{Sized}
 use Rattle.box_rows.proofs.Matrix.{later}
-use Rattle.exact_pass.specs.Pass.{Trial, trial, moved, found, failed, infeasible, exact_pass}
+use Rattle.exact_pass.specs.Pass.{Trial, Pass, moved, found, failed, infeasible, exact_pass}
 use Rattle.exact_pass.specs.Promise.{WORKSPACE, fits, reply, Passed, Left}
 use Rattle.exact_pass.specs.declared.Exact.{Exact}
 use Rattle.exact_pass.specs.declared.Exact.TheVariants as exact
 use Rattle.boxed.specs.declared.Cause.TheVariants as cause
 use Rattle.boxed.specs.declared.Counts.{Counts}
-use Rattle.boxed.specs.declared.Sweeping.{Sweeping}
-use Rattle.boxed.specs.declared.Sweeping.TheVariants as sweeping
+use Rattle.boxed.specs.declared.Ended.{Ended}
+use Rattle.boxed.specs.declared.Ended.TheVariants as ended
 use Rattle.boxed.specs.Solve as solve
-use Rattle.boxed.specs.Private.{BEFORE, SOLVE_END, Lent, Worked, Counted, Settled}
+use Rattle.boxed.specs.Private.{BEFORE, Lent, Ran, Worked, Counted}
 use Rattle.boxed.proofs.Testing.{all_fit}
 
--- ---- the table of checkpoints as a loop goes through it: l is the table, r what is behind it
+-- ---- the checkpoints, and the last sweep
 
-or_with_false : (b : Bool) → b || false ≡ b
-or_with_false true = refl
-or_with_false false = refl
+eqb_swap : (a b : ℕ) → eqb a b ≡ eqb b a
+eqb_swap a b = go (eqb b a) refl
+  where
+    go : (c : Bool) → eqb b a ≡ c → eqb a b ≡ c
+    go true h = eq-eqb a b (sym (eqb-true b a h))
+    go false h = ne_eqb a b (λ g. eqb-false b a h (sym g))
 
-module _ (k : ℕ) (l r : List ℕ) (b : Bool) where
-  pub member_skip : (i : ℕ) → i < length l → (k ≡ get_or l i 0 → ⊥) → solve.member k (drop i l ++ r) ≡ b → solve.member k (drop (i + 1) l ++ r) ≡ b
-  unfolding solve.member
-  member_skip i h n e = rw (add-one i) (rw (drop-cons l i 0 h, ne_eqb k (get_or l i 0) n) at e)
-
-  pub member_hit : (i : ℕ) → i < length l → k ≡ get_or l i 0 → solve.member k (drop i l ++ r) ≡ b → true ≡ b
-  unfolding solve.member
-  member_hit i h n e = rw (drop-cons l i 0 h, eq-eqb k (get_or l i 0) n) at e
-
-pub member-end : (k c : ℕ) (l : List ℕ) (b : Bool) (i : ℕ) → length l ≤ i → solve.member k (drop i l ++ (c ∷ [])) ≡ b → eqb k c ≡ b
+pub member_any : (k c : ℕ) (l : List ℕ) → (list_any (λ y. eqb y k) l || eqb k c) ≡ solve.member k (l ++ (c ∷ []))
 unfolding solve.member
-member-end k c l b i h e = sym (or_with_false (eqb k c)) ∙ rw (drop_of_length-le l {i = i} h) at e
+member_any k c [] = go (eqb k c)
+  where
+    go : (b : Bool) → b ≡ b || false
+    go true = refl
+    go false = refl
+member_any k c (a ∷ l) = rw (eqb_swap a k, ← member_any k c l) (go (eqb k a) (list_any (λ y. eqb y k) l))
+  where
+    go : (b d : Bool) → (b || d || eqb k c) ≡ (b || (d || eqb k c))
+    go true d = refl
+    go false d = refl
 
--- ---- how the solve goes on after a pass
-
-abbrev pub goes_on : Exact → Sweeping
-goes_on exact.Moved = sweeping.Going
-goes_on exact.Found = sweeping.Exact
-goes_on exact.Failed = sweeping.Going
-goes_on (exact.Infeasible k) = sweeping.Infeasible cause.Pass k
-
-abbrev pub multipliers : Exact → List Float → List Float → List Float
-multipliers exact.Moved v nu = nu
-multipliers exact.Found v nu = v
-multipliers exact.Failed v nu = nu
-multipliers (exact.Infeasible k) v nu = nu
-
-states_are : {nu : List Float} {st : List ℕ} {t : Trial} → trial nu st ≡ t → st ≡ t.states
-states_are e = ap (λ (t : Trial). t.states) e
-
-nu_is : {nu : List Float} {st : List ℕ} {t : Trial} → trial nu st ≡ t → nu ≡ t.nu
-nu_is e = ap (λ (t : Trial). t.nu) e
-
--- e is the pass's ending x
-pub settled : (e x : Exact) (v nu : List Float) (g : Sweeping) (nu' : List Float) → e ≡ x → g ≡ goes_on x → nu' ≡ multipliers x v nu → Settled e v nu g nu'
-unfolding solve.passed
-settled e x v nu g nu' i a n st₀ c (moved t) l₀ st l h =
-    let y = sym i ∙ h.answer in
-    record { answer = rw (a, y); reached = rw (n, y, states_are h.tried); listed = h.listed }
-settled e x v nu g nu' i a n st₀ c (found t) l₀ st l h =
-    let y = sym i ∙ h.answer in
-    record { answer = rw (a, y); reached = rw (n, y, states_are h.tried, nu_is h.tried); listed = h.listed }
-settled e x v nu g nu' i a n st₀ c (failed t) l₀ st l h =
-    let y = sym i ∙ h.answer in
-    record { answer = rw (a, y); reached = rw (n, y, states_are h.tried); listed = h.listed }
-settled e x v nu g nu' i a n st₀ c (infeasible r t) l₀ st l h =
-    let y = sym i ∙ h.answer in
-    record { answer = rw (a, y); reached = rw (n, y, states_are h.tried); listed = h.listed }
-
--- ---- a pass whose lists fit
+-- ---- a workspace that keeps multipliers
 
 -- a workspace w with multipliers t kept at its n places from a on
 abbrev pub keeping : ℕ → ℕ → List Float → List Float → List Float
@@ -104,48 +74,112 @@ keeps a n w t w' few enough long kept =
           ∙ later (a + n) (a + box.MAX_ROWS) (keeping a n w t) w (omega arith) (drop_put a (a + n) w t (omega arith) (omega arith) (omega (arith, long)));
     }
 
-module _ (p : box.Problem) (st : List ℕ) (nu : List Float) (rows : List ℕ) (work : List Float) (z : Lent p st nu rows work)
-    (e : Exact) (st' : List ℕ) (v : List Float) (rows' : List ℕ) (work' : List Float) where
-  accepted : (w : List Float) → WORKSPACE ≤ length w → Left p st nu rows w e st' v rows' work'
-      → Passed (exact_pass p st nu) rows e v st' rows' × (drop WORKSPACE work' ≡ drop WORKSPACE w)
+-- ---- how a pass x ends the solve: it began at nu and st, tells e, and leaves v, st' and rows'
+
+module _ (x : Pass) (nu : List Float) (st rows : List ℕ) (e : Exact) (v : List Float) (st' rows' : List ℕ) (h : Passed x rows e v st' rows') (c : Counts) where
+  abbrev PassRan : Option Ended → List Float → Type 0
+  PassRan g nu' = Ran (solve.passed (solve.iterate nu st c) x) rows g nu' st' c rows'
+
+found-ran : (x : Pass) (nu : List Float) (st rows : List ℕ) (e : Exact) (v : List Float) (st' rows' : List ℕ) (h : Passed x rows e v st' rows') (c : Counts)
+    → e ≡ exact.Found → PassRan x nu st rows e v st' rows' h c (Some ended.Exact) v
+unfolding solve.passed
+found-ran (moved t) nu st rows e v st' rows' h c i = absurd (cc)
+found-ran (found t) nu st rows e v st' rows' h c i = record { answer = refl; reached = ap (λ (q : Trial). solve.iterate q.nu q.states c) h.tried; listed = h.listed }
+found-ran (failed t) nu st rows e v st' rows' h c i = absurd (cc)
+found-ran (infeasible l t) nu st rows e v st' rows' h c i = absurd (cc)
+
+failed-ran : (x : Pass) (nu : List Float) (st rows : List ℕ) (e : Exact) (v : List Float) (st' rows' : List ℕ) (h : Passed x rows e v st' rows') (c : Counts)
+    → e ≡ exact.Failed → PassRan x nu st rows e v st' rows' h c None nu
+unfolding solve.passed
+failed-ran (moved t) nu st rows e v st' rows' h c i = absurd (cc)
+failed-ran (found t) nu st rows e v st' rows' h c i = absurd (cc)
+failed-ran (failed t) nu st rows e v st' rows' h c i = record { answer = refl; reached = ap (λ (q : Trial). solve.iterate nu q.states c) h.tried; listed = h.listed }
+failed-ran (infeasible l t) nu st rows e v st' rows' h c i = absurd (cc)
+
+moved-ran : (x : Pass) (nu : List Float) (st rows : List ℕ) (e : Exact) (v : List Float) (st' rows' : List ℕ) (h : Passed x rows e v st' rows') (c : Counts)
+    → e ≡ exact.Moved → PassRan x nu st rows e v st' rows' h c None nu
+unfolding solve.passed
+moved-ran (moved t) nu st rows e v st' rows' h c i = record { answer = refl; reached = ap (λ (q : Trial). solve.iterate nu q.states c) h.tried; listed = h.listed }
+moved-ran (found t) nu st rows e v st' rows' h c i = absurd (cc)
+moved-ran (failed t) nu st rows e v st' rows' h c i = absurd (cc)
+moved-ran (infeasible l t) nu st rows e v st' rows' h c i = absurd (cc)
+
+infeasible-ran : (x : Pass) (nu : List Float) (st rows : List ℕ) (e : Exact) (v : List Float) (st' rows' : List ℕ) (h : Passed x rows e v st' rows') (c : Counts)
+    → (k : ℕ) → e ≡ exact.Infeasible k → PassRan x nu st rows e v st' rows' h c (Some (ended.Infeasible cause.Pass k)) nu
+unfolding solve.passed
+infeasible-ran (moved t) nu st rows e v st' rows' h c k i = absurd (cc)
+infeasible-ran (found t) nu st rows e v st' rows' h c k i = absurd (cc)
+infeasible-ran (failed t) nu st rows e v st' rows' h c k i = absurd (cc)
+infeasible-ran (infeasible l t) nu st rows e v st' rows' h c k i =
+    record {
+      answer = let q : k ≡ length l = cc in ap (λ j. Some (ended.Infeasible cause.Pass j)) q;
+      reached = ap (λ (q : Trial). solve.iterate nu q.states c) h.tried;
+      listed = h.listed;
+    }
+
+-- ---- a pass whose lists fit, in a workspace that keeps t, a copy of the multipliers
+
+module _ (p : box.Problem) (sized : Sized (box.size p) p.w p.lo p.hi p.scale) (st : List ℕ) (nu : List Float) (rows : List ℕ) (work : List Float) (z : Lent p st nu rows work)
+    (t : List Float) (copied : t ≡ nu) (e : Exact) (st' : List ℕ) (v : List Float) (rows' : List ℕ) (work' : List Float)
+    (h : Left p st nu rows (keeping WORKSPACE (length nu) work t) e st' v rows' work') where
+  fit : fits p (length st) (length nu) (length rows) ≡ true
+  fit = all_fit p sized st nu rows z.lists.states z.lists.multipliers z.listed
+
+  few : length nu ≤ box.MAX_ROWS
+  few = omega (arith, sized.0, z.lists.multipliers)
+
+  long : length t ≡ length nu
+  long = ap length copied
+
+  enough : WORKSPACE ≤ length (keeping WORKSPACE (length nu) work t)
+  enough = omega (arith, few, z.workspace, put-length WORKSPACE (length nu) work t (omega (arith, few, z.workspace)) long)
+
+  ran : Passed (exact_pass p st nu) rows e v st' rows'
   unfolding reply
-  accepted w q h =
-      let f : fits p (length st) (length nu) (length rows) ≡ true = all_fit z.lists nu rows z.lists.matrix.multipliers z.listed in
-      (rw (le-leb _ _ q, f) at h.passed, rw (le-leb _ _ q, f) at h.workspace)
+  ran = rw (le-leb _ _ enough, fit) at h.passed
 
-  -- t is the copy of the multipliers that is kept
-  pub attempted : (t : List Float) (g : Sweeping) (nu' : List Float) → t ≡ nu → Left p st nu rows (keeping WORKSPACE (box.size p) work t) e st' v rows' work'
-      → Settled e v (take (WORKSPACE + box.size p - WORKSPACE) (drop WORKSPACE work')) g nu'
-      → (c : Counts) → Worked BEFORE (solve.passed (solve.iterate nu st c) (exact_pass p st nu)) rows work g nu' st' c rows' work'
-  attempted t g nu' s h k c =
-      let few = z.lists.matrix.few in
-      let long : SOLVE_END ≤ length work = z.workspace in
-      let l : length t ≡ box.size p = ap length s ∙ z.lists.matrix.multipliers in
-      let x = accepted (keeping WORKSPACE (box.size p) work t) (omega (arith, few, put-length WORKSPACE (box.size p) work t (omega arith) l)) h in
-      let y = keeps WORKSPACE (box.size p) work t work' few (omega arith) l x.1 in
-      record { ran = (rw (y.part, s) at k) st c (exact_pass p st nu) rows st' rows' x.0; workspace = y.beyond }
+  kept : Keeps WORKSPACE (length nu) work t work'
+  kept = keeps WORKSPACE (length nu) work t work' few (omega (arith, z.workspace)) long (rw (le-leb _ _ enough, fit) at h.workspace)
 
--- ---- a check
+  abbrev AttemptWorked : Option Ended → List Float → Counts → Type 0
+  AttemptWorked g nu' c = Worked BEFORE (solve.passed (solve.iterate nu st c) (exact_pass p st nu)) rows work g nu' st' c rows' work'
 
--- b tells whether a pass is due
+  pub attempt-found : e ≡ exact.Found → (c : Counts) → AttemptWorked (Some ended.Exact) v c
+  attempt-found i c = record { ran = found-ran (exact_pass p st nu) nu st rows e v st' rows' ran c i; workspace = kept.beyond }
+
+  -- the copy is copied back
+  module _ (nu' : List Float) (back : nu' ≡ take (WORKSPACE + length nu - WORKSPACE) (drop WORKSPACE work')) (c : Counts) where
+    restored : nu' ≡ nu
+    restored = back ∙ kept.part ∙ copied
+
+    pub attempt-failed : e ≡ exact.Failed → AttemptWorked None nu' c
+    attempt-failed i = rw restored (record { ran = failed-ran (exact_pass p st nu) nu st rows e v st' rows' ran c i; workspace = kept.beyond })
+
+    pub attempt-moved : e ≡ exact.Moved → AttemptWorked None nu' c
+    attempt-moved i = rw restored (record { ran = moved-ran (exact_pass p st nu) nu st rows e v st' rows' ran c i; workspace = kept.beyond })
+
+    pub attempt-infeasible : (k : ℕ) → e ≡ exact.Infeasible k → AttemptWorked (Some (ended.Infeasible cause.Pass k)) nu' c
+    attempt-infeasible k i = rw restored (record { ran = infeasible-ran (exact_pass p st nu) nu st rows e v st' rows' ran c k i; workspace = kept.beyond })
+
+-- ---- a check; b tells whether a pass is due
+
 module _ (cap : ℕ) (p : box.Problem) (nu : List Float) (st : List ℕ) (n : Counts) (rows : List ℕ) (work : List Float) (b : Bool) (due : b ≡ solve.checkpoint cap n.sweeps) where
-  abbrev Checked : Sweeping → Counts → List Float → List ℕ → List ℕ → List Float → Type 0
-  Checked g c nu' st' rows' work' =
-      Counted BEFORE (solve.checked cap p (solve.going (solve.iterate nu st n))) rows work n.sweeps (n.passes + 1) (record { sweeping = g; counts = c }) nu' st' rows' work'
+  abbrev Checked : Option Ended → List Float → List ℕ → Counts → List ℕ → List Float → Type 0
+  Checked g nu' st' c rows' work' =
+      Counted BEFORE (solve.checked cap p (solve.going (solve.iterate nu st n))) rows work n.sweeps (n.passes + 1) g nu' st' c rows' work'
 
-  pub check-tried : (g : Sweeping) (nu' : List Float) (st' rows' : List ℕ) (work' : List Float) → b ≡ true
+  pub check-tried : b ≡ true → (g : Option Ended) (nu' : List Float) (st' rows' : List ℕ) (work' : List Float)
       → ((c : Counts) → Worked BEFORE (solve.passed (solve.iterate nu st c) (exact_pass p st nu)) rows work g nu' st' c rows' work')
-      → Checked g (solve.counts n.sweeps (n.passes + 1) n.stopped) nu' st' rows' work'
+      → Checked g nu' st' (solve.counts n.sweeps (n.passes + 1) n.stopped) rows' work'
   unfolding solve.checked
-  check-tried g nu' st' rows' work' t h =
-      let w = h (solve.counts n.sweeps (suc n.passes) n.stopped) in
-      record { worked = record { ran = rw (sym due ∙ t, add-one) w.ran; workspace = w.workspace }; sweeps = refl; passes = omega arith }
+  check-tried t g nu' st' rows' work' h =
+      record { worked = rw (sym due ∙ t, ← add-one n.passes) (h (solve.counts n.sweeps (n.passes + 1) n.stopped)); sweeps = refl; passes = omega arith }
 
-  pub check-not : b ≡ false → Checked sweeping.Going n nu st rows work
+  pub check-not : b ≡ false → Checked None nu st n rows work
   unfolding solve.checked
   check-not t =
       record {
-        worked = record { ran = rw (sym due ∙ t) (record { answer = refl; reached = refl; listed = refl }); workspace = refl };
+        worked = rw (sym due ∙ t) (record { ran = record { answer = refl; reached = refl; listed = refl }; workspace = refl });
         sweeps = refl;
         passes = omega arith;
       }

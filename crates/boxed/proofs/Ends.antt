@@ -1,7 +1,7 @@
 -- The end of a solve: what the code answers and leaves is what the result of its run says.
 use Prim.Native.Nat.{ℕ}
 use mathlib.Core.Path.{◌≡◌, ap, ◌∙◌}
-use Rattle.std.specs.Prelude.{Ok}
+use Rattle.std.specs.Prelude.{Ok, Option, Some, None}
 use mathlib.Core.Bool.{Bool, true, false}
 use mathlib.Core.List.{List}
 use lib.Ieee.{Float}
@@ -11,28 +11,28 @@ use Rattle.boxed.specs.Solve as solve
 use Rattle.boxed.specs.Solve.{going, ended, exact, converged, conflict, Iterate, iterate}
 use Rattle.boxed.specs.Private.{Answered}
 use Rattle.boxed.specs.declared.Counts.{Counts}
-use Rattle.boxed.specs.declared.Sweeping.{Sweeping}
-use Rattle.boxed.specs.declared.Sweeping.TheVariants as sweeping
+use Rattle.boxed.specs.declared.Ended.{Ended}
+use Rattle.boxed.specs.declared.Ended.TheVariants as by
 use Rattle.boxed.specs.declared.Cause.{Cause}
 use Rattle.boxed.specs.declared.BoxReport.{BoxReport}
 use Rattle.boxed.specs.declared.BoxOutcome.{BoxOutcome}
 use Rattle.boxed.specs.declared.BoxOutcome.TheVariants.{Solved, Infeasible}
 
 -- the answer of a solve that had come to s when it ended so, and the states that are left
-abbrev answered : box.Problem → ℕ → Sweeping → Iterate → BoxOutcome
-answered p idle sweeping.Going s = Solved (solve.report_of p idle false false s)
-answered p idle sweeping.Exact s = Solved (solve.report_of p idle true true s)
-answered p idle sweeping.Converged s = Solved (solve.report_of p idle true false s)
-answered p idle (sweeping.Infeasible c k) s = Infeasible c k (solve.report_of p idle false false s)
+abbrev answered : box.Problem → ℕ → Option Ended → Iterate → BoxOutcome
+answered p idle None s = Solved (solve.report_of p idle false false s)
+answered p idle (Some by.Exact) s = Solved (solve.report_of p idle true true s)
+answered p idle (Some by.Converged) s = Solved (solve.report_of p idle true false s)
+answered p idle (Some (by.Infeasible c k)) s = Infeasible c k (solve.report_of p idle false false s)
 
 abbrev classified : box.Problem → Iterate → List ℕ
 classified p s = sweep.classified p.lo p.hi p.scale s.nu s.states (box.size p)
 
-abbrev states_left : box.Problem → Sweeping → Iterate → List ℕ
-states_left p sweeping.Going s = classified p s
-states_left p sweeping.Exact s = s.states
-states_left p sweeping.Converged s = classified p s
-states_left p (sweeping.Infeasible c k) s = s.states
+abbrev states_left : box.Problem → Option Ended → Iterate → List ℕ
+states_left p None s = classified p s
+states_left p (Some by.Exact) s = s.states
+states_left p (Some by.Converged) s = classified p s
+states_left p (Some (by.Infeasible c k)) s = s.states
 
 nu_is : {nu : List Float} {st : List ℕ} {c : Counts} {s : Iterate} → iterate nu st c ≡ s → nu ≡ s.nu
 nu_is e = ap (λ (x : Iterate). x.nu) e
@@ -40,7 +40,7 @@ nu_is e = ap (λ (x : Iterate). x.nu) e
 states_are : {nu : List Float} {st : List ℕ} {c : Counts} {s : Iterate} → iterate nu st c ≡ s → st ≡ s.states
 states_are e = ap (λ (x : Iterate). x.states) e
 
-module _ (p : box.Problem) (idle : ℕ) (g : Sweeping) (nu : List Float) (st : List ℕ) (c : Counts) where
+module _ (p : box.Problem) (idle : ℕ) (g : Option Ended) (nu : List Float) (st : List ℕ) (c : Counts) where
   finished : (a : BoxOutcome) (st' : List ℕ) → a ≡ answered p idle g (iterate nu st c) → st' ≡ states_left p g (iterate nu st c)
       → Answered p idle g nu st c a st'
   unfolding solve.result solve.unfound
@@ -60,19 +60,19 @@ module _ (p : box.Problem) (idle : ℕ) (g : Sweeping) (nu : List Float) (st : L
     abbrev reported : Bool → Bool → BoxReport
     reported a b = record { sweeps = c.sweeps; exact_passes = c.passes; converged = a; exact = b; residual = x; idle = idle; stopped = c.stopped }
 
-    pub end-exact : g ≡ sweeping.Exact → q ≡ reported true true → Answered p idle g nu st c (Solved q) st
+    pub end-exact : (b : Ended) → g ≡ Some b → b ≡ by.Exact → q ≡ reported true true → Answered p idle g nu st c (Solved q) st
     unfolding solve.report_of
-    end-exact h f = finished (Solved q) st (rw (h, f, e)) (rw h)
+    end-exact b h i f = finished (Solved q) st (rw (h, i, f, e)) (rw (h, i))
 
-    pub end-infeasible : (b : Cause) (k : ℕ) → g ≡ sweeping.Infeasible b k → q ≡ reported false false → Answered p idle g nu st c (Infeasible b k q) st
+    pub end-infeasible : (a : Cause) (k : ℕ) (b : Ended) → g ≡ Some b → b ≡ by.Infeasible a k → q ≡ reported false false → Answered p idle g nu st c (Infeasible a k q) st
     unfolding solve.report_of
-    end-infeasible b k h f = finished (Infeasible b k q) st (rw (h, f, e)) (rw h)
+    end-infeasible a k b h i f = finished (Infeasible a k q) st (rw (h, i, f, e)) (rw (h, i))
 
-    module _ (n : ℕ) (st' : List ℕ) (s : st' ≡ sweep.classified p.lo p.hi p.scale nu st n) (m : n ≡ box.size p) where
-      pub end-going : g ≡ sweeping.Going → q ≡ reported false false → Answered p idle g nu st c (Solved q) st'
+    module _ (st' : List ℕ) (s : st' ≡ sweep.classified p.lo p.hi p.scale nu st (box.size p)) where
+      pub end-going : g ≡ None → q ≡ reported false false → Answered p idle g nu st c (Solved q) st'
       unfolding solve.report_of
-      end-going h f = finished (Solved q) st' (rw (h, f, e)) (rw (h, s, m))
+      end-going h f = finished (Solved q) st' (rw (h, f, e)) (rw (h, s))
 
-      pub end-converged : g ≡ sweeping.Converged → q ≡ reported true false → Answered p idle g nu st c (Solved q) st'
+      pub end-converged : (b : Ended) → g ≡ Some b → b ≡ by.Converged → q ≡ reported true false → Answered p idle g nu st c (Solved q) st'
       unfolding solve.report_of
-      end-converged h f = finished (Solved q) st' (rw (h, f, e)) (rw (h, s, m))
+      end-converged b h i f = finished (Solved q) st' (rw (h, i, f, e)) (rw (h, i, s))

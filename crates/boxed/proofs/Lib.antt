@@ -1,5 +1,4 @@
 pub mod Rows
-pub mod Later
 pub mod Stopping
 pub mod Testing
 pub mod Ends

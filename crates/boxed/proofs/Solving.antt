@@ -1,9 +1,9 @@
 -- A solve from what its calls promise, and the public call.
 use Prim.Native.Nat.{ℕ}
-use mathlib.Core.Path.{◌≡◌, refl, sym, ap}
+use mathlib.Core.Path.{◌≡◌, refl, ap}
 use mathlib.Core.List.{List, ◌++◌}
 use native.Mathlib.Omega.{arith}
-use lib.ListN.{length, take, drop}
+use lib.ListN.{take, drop}
 use lib.Ieee.{Float}
 use borrow.Author.Tests.{eq-eqb, ne_eqb}
 use Rattle.box_rows.specs.Rows as box
@@ -16,7 +16,7 @@ use Rattle.boxed.specs.Private.{SOLVE_END, Worked, Answered}
 use Rattle.boxed.proofs.Finishing.{solve_uses}
 use Rattle.boxed.specs.declared.BoxReport.{BoxReport}
 use Rattle.boxed.specs.declared.Counts.{Counts}
-use Rattle.boxed.specs.declared.Sweeping.{Sweeping}
+use Rattle.boxed.specs.declared.Ended.{Ended}
 use Rattle.boxed.specs.declared.BoxOutcome.{BoxOutcome}
 use Rattle.boxed.specs.declared.BoxOutcome.TheVariants.{Solved}
 use Rattle.refusals.specs.declared.Refusal.{Refusal}
@@ -24,21 +24,18 @@ use Rattle.std.specs.Prelude.{Option, None, Some, Ok, Err}
 
 -- ---- from the start of a solve: every row Idle, or not
 
-module _ (cap : ℕ) (p : box.Problem) (m : Watch) (nu : List Float) (st l : List ℕ) (long : length p.lo ≡ box.size p) (idle : ℕ) (nu₁ : List Float) (st₁ : List ℕ)
-    (starts : private.started nu₁ st₁ idle ≡ sweep.start p.w (length p.lo) p.lo p.hi nu st (length p.lo)) where
-  begun : sweep.start p.w (box.size p) p.lo p.hi nu st (box.size p) ≡ private.started nu₁ st₁ idle
-  begun = rw (← long) (sym starts)
-
+module _ (cap : ℕ) (p : box.Problem) (m : Watch) (nu : List Float) (st l : List ℕ) (idle : ℕ) (nu₁ : List Float) (st₁ : List ℕ)
+    (starts : private.started nu₁ st₁ idle ≡ sweep.start p.w (box.size p) p.lo p.hi nu st (box.size p)) where
   solve-is : (idle ≡ box.size p → ⊥) → solve.solve cap p m nu st l ≡ solve.result p idle l (solve.run cap p m (iterate nu₁ st₁ (solve.counts 0 0 0)) cap)
   unfolding solve.solve
-  solve-is h = rw (begun, ne_eqb idle (box.size p) h)
+  solve-is h = rw (← starts, ne_eqb idle (box.size p) h)
 
   pub all-idle : idle ≡ box.size p → (r : BoxReport) → r ≡ private.nothing idle → (w : List Float) → Left (solve.solve cap p m nu st l) (Ok (Solved r)) nu₁ st₁ l w w
   unfolding solve.solve
-  all-idle h r e w = rw (begun, eq-eqb idle (box.size p) h) (record { answer = rw e refl; multipliers = refl; states = refl; listed = refl; workspace = refl })
+  all-idle h r e w = rw (← starts, eq-eqb idle (box.size p) h) (record { answer = rw e refl; multipliers = refl; states = refl; listed = refl; workspace = refl })
 
   -- g is how the run has ended
-  pub some_act : (idle ≡ box.size p → ⊥) → (g : Sweeping) (nu₂ : List Float) (st₂ : List ℕ) (c : Counts) (r : BoxOutcome) (st' l' : List ℕ) (w w' : List Float)
+  pub some_act : (idle ≡ box.size p → ⊥) → (g : Option Ended) (nu₂ : List Float) (st₂ : List ℕ) (c : Counts) (r : BoxOutcome) (st' l' : List ℕ) (w w' : List Float)
       → Worked SOLVE_END (solve.run cap p m (iterate nu₁ st₁ (solve.counts 0 0 0)) cap) l w g nu₂ st₂ c l' w'
       → Answered p idle g nu₂ st₂ c r st'
       → Left (solve.solve cap p m nu st l) (Ok r) nu₂ st' l' w w'

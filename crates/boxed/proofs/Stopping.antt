@@ -1,59 +1,58 @@
--- The rows that a sweep stops, as its loop counts them.
-use Prim.Native.Nat.{ℕ, ◌+◌, ◌≤◌}
-use mathlib.Core.Path.{◌≡◌}
-use mathlib.Core.Bool.{Bool, true, false, ◌||◌}
-use mathlib.Core.List.{List}
-use native.Mathlib.Omega.{arith}
-use native.Mathlib.Numerals.{add-one}
-use lib.ListN.{length, set}
-use lib.Ieee.{Float, lt}
-use Rattle.floats.specs.Ops.{◌⊖◌, ◌⊘◌, at}
-use Rattle.floats.proofs.Box.{stops-past}
-use Rattle.box_rows.specs.Rows as box
-use Rattle.floats.specs.declared.Side.{Side}
-use Rattle.std.specs.Prelude.{Option}
+-- A sweep as its loop makes it: the multipliers, and how many rows are stopped.
+use Rattle.std.proofs.Common.{ap}
 use Rattle.std.specs.Option.{is_some}
-use Rattle.boxed.specs.Private.{SweptRow}
-use Rattle.boxed.proofs.Rows.{row-idle, row-acts}
-use Rattle.loops.specs.Loops.{turns, counted}
+use Rattle.loops.proofs.Common.{ℕ, suc, ◌+◌, ◌≡◌, refl, sym, ◌∙◌, true, false, List, set, add-one}
+use mathlib.Core.Bool.{◌||◌}
+use lib.Ieee.{Float, lt}
+use Rattle.floats.specs.Ops.{◌⊖◌, ◌⊘◌}
+use Rattle.floats.specs.declared.Clamped.{Clamped}
+use Rattle.floats.proofs.Box.{stops-past}
+use Rattle.loops.specs.Loops.{turns}
+use Rattle.box_rows.specs.Rows as box
+use Rattle.box_rows.specs.declared.Row.{Row}
+use Rattle.box_rows.specs.Private.{Updated, row_at}
 use Rattle.boxed.specs.Sweep as sweep
-use Rattle.boxed.specs.Private as private
-
--- a count of rows is at most the number of rows
-counted-within : (b : Bool) (k i q : ℕ) → q ≡ counted b k → k ≤ i → q ≤ i + 1
-unfolding counted
-counted-within true k i q e h = omega (arith, e)
-counted-within false k i q e h = omega (arith, e)
+use Rattle.boxed.proofs.Rows.{row-idle, row-acts}
 
 -- an update is stopped where what it clamps is past a bound
 is-past : (v u d l h : Float) → is_some (box.update_side v u d l h) ≡ (lt (v ⊖ u ⊘ d) l || lt h (v ⊖ u ⊘ d))
 unfolding box.update_side
 is-past v u d l h = stops-past (v ⊖ u ⊘ d) l h
 
-module _ (w u_free lo hi : List Float) (st : List ℕ) (i : ℕ) (nu : List Float) (k q : ℕ) (e : q ≡ box.state st i) (few : k ≤ i) where
-  abbrev RowSwept : List Float → ℕ → Type 0
-  RowSwept nu' k' = SweptRow (private.sweep_row w u_free lo hi st i nu) (counted (private.stops w u_free lo hi st i nu) k) (i + 1) nu' k'
+module _ (p : box.Problem) (st : List ℕ) (nu : List Float) where
+  abbrev multipliers_at : ℕ → List Float
+  multipliers_at i = sweep.sweep p.w p.u_free p.lo p.hi st nu i
 
-  pub row_stays : q ≡ box.idle → RowSwept nu k
-  unfolding private.sweep_row private.stops counted
-  row_stays h = let a = row-idle st i q e h in record { multipliers = rw a; stopped = rw a; within = omega arith }
+  abbrev stopped_at : ℕ → ℕ
+  stopped_at i = sweep.stopped p.w p.u_free p.lo p.hi st nu i
 
-  -- r is the row and u its sum; its update puts the multiplier v, which d divides and l and h bound, at x, stopped at the side s
-  pub row_moves : (nu' r : List Float) (k' : ℕ) (s : Option Side) (x v u d l h f : Float) → (q ≡ box.idle → ⊥) → nu' ≡ set nu i x → k' ≡ counted (is_some s) k
-      → x ≡ box.update v u d l h → s ≡ box.update_side v u d l h → u ≡ box.row_sum r f nu → f ≡ at u_free i → v ≡ at nu i → d ≡ at r i → l ≡ at lo i → h ≡ at hi i
-      → r ≡ box.row w (length u_free) i → RowSwept nu' k'
-  unfolding private.sweep_row private.stops
-  row_moves nu' r k' s x v u d l h f n c₁ c₂ c₃ c₄ c₅ c₆ c₇ c₈ c₉ c₁₀ c₁₁ =
-      let a = row-acts st i q e n in
-      record {
-        multipliers = rw (a, c₁, c₃, c₅, c₆, c₇, c₈, c₉, c₁₀, c₁₁);
-        stopped = rw (a, c₂, c₄, is-past v u d l h, c₅, c₆, c₇, c₈, c₉, c₁₀, c₁₁);
-        within = counted-within _ k i k' c₂ few;
-      }
+  -- when the sweep from the multipliers nu comes to row i, it has made the multipliers v, and stopped k rows
+  pub record Sweeping (i k : ℕ) (v : List Float) : Type 0 where
+    pub multipliers : v ≡ multipliers_at i
+    pub stopped : k ≡ stopped_at i
 
-module _ (w u_free lo hi : List Float) (st : List ℕ) (nu : List Float) where
-  -- v are the multipliers when the sweep comes to row i
-  pub stopped_again : (i k k' : ℕ) (v : List Float) → k ≡ sweep.stopped w u_free lo hi st nu i → v ≡ sweep.sweep w u_free lo hi st nu i → k' ≡ counted (private.stops w u_free lo hi st i v) k
-      → k' ≡ sweep.stopped w u_free lo hi st nu (i + 1)
-  unfolding sweep.stopped private.stops counted turns
-  stopped_again i k k' v e f g = rw (add-one i, g, f, e)
+  pub sweep_start : Sweeping 0 0 nu
+  unfolding sweep.sweep sweep.stopped turns
+  sweep_start = record { multipliers = refl; stopped = refl }
+
+  module _ (i k : ℕ) (v : List Float) (so_far : Sweeping i k v) where
+    pub row_stays : box.state st i ≡ box.idle → Sweeping (i + 1) k v
+    unfolding sweep.sweep sweep.stopped turns
+    row_stays h = let a = row-idle st i h in record { multipliers = rw (add-one, a) so_far.multipliers; stopped = rw (add-one, a) so_far.stopped }
+
+    -- q are the row's numbers, and x its update
+    module _ (acts : box.state st i ≡ box.idle → ⊥) (q : Row) (is : q ≡ row_at p v i) (x : Clamped) (e : Updated q x) where
+      past : is_some x.side ≡ (lt (q.nu ⊖ q.u ⊘ q.diagonal) q.lo || lt q.hi (q.nu ⊖ q.u ⊘ q.diagonal))
+      past = rw e.side (is-past q.nu q.u q.diagonal q.lo q.hi)
+
+      updated : set v i x.value ≡ multipliers_at (i + 1)
+      unfolding sweep.sweep turns
+      updated = rw (add-one, row-acts st i acts, e.value, is, ← so_far.multipliers)
+
+      pub row_moves : is_some x.side ≡ false → Sweeping (i + 1) k (set v i x.value)
+      unfolding sweep.stopped turns
+      row_moves h = record { multipliers = updated; stopped = rw (add-one, row-acts st i acts, ← so_far.multipliers, sym (rw is at past) ∙ h) so_far.stopped }
+
+      pub row_stops : is_some x.side ≡ true → Sweeping (i + 1) (k + 1) (set v i x.value)
+      unfolding sweep.stopped turns
+      row_stops h = record { multipliers = updated; stopped = rw (add-one i, add-one k, row-acts st i acts, ← so_far.multipliers, sym (rw is at past) ∙ h) (ap suc so_far.stopped) }

@@ -1,11 +1,11 @@
 // What a solve reports and leaves.
 ghost use Rattle.std.specs.Prelude.{◌≡◌, length};
-ghost use Rattle.box_rows.specs.Rows as box;
-ghost use Rattle.box_rows.specs.Private.{AtRow};
+ghost use Rattle.box_rows.specs.Lent as lent;
 ghost use Rattle.boxed.specs.Sweep as sweep;
 ghost use Rattle.boxed.specs.Private as private;
 
-use crate::{BoxOutcome, BoxReport, Counts, Progress, Sweeping, read, tests};
+use crate::{BoxOutcome, BoxReport, Counts, Ended, tests};
+use box_rows::problem::BoxProblem;
 
 // The report where all rows are Idle, so that there is nothing to solve.
 pub fn nothing(idle: u32) -> BoxReport
@@ -22,39 +22,18 @@ pub fn nothing(idle: u32) -> BoxReport
     }
 }
 
-// The state of row i is the one that its multiplier shows, unless it is Idle.
-fn classify_row(lo: &[f64], hi: &[f64], scale: &[f64], nu: &[f64], states: &mut [u8], i: usize)
-    requires { AtRow
-        (private.Scaled (length nu.now) lo.now hi.now scale.now states.old nu.now)
-        (length nu.now) i }
-    ensures { states.new
-        ≡ private.classify_row lo.now hi.now scale.now nu.now i
-        states.old }
-{
-    if read::state(states, i) == box_rows::IDLE {
-        return;
-    }
-    let s = box_rows::state_of(
-        read::at(lo, i),
-        read::at(hi, i),
-        read::at(scale, i),
-        read::at(nu, i),
-    );
-    read::put_state(states, i, u8::from(s));
-}
-
 // Sets the state of every row that acts to the one that its multiplier shows.
-fn classify(lo: &[f64], hi: &[f64], scale: &[f64], nu: &[f64], states: &mut [u8])
-    requires { private.Scaled (length nu.now) lo.now hi.now scale.now states.old nu.now }
+#[tactic(auto, unfolding(loops::specs::Loops::turns, crate::specs::Sweep::classified))]
+fn classify(p: &BoxProblem, nu: &[f64], states: &mut [u8])
+    requires { private.Lists (lent.of p.now) states.old nu.now }
     ensures { states.new
-        ≡ sweep.classified lo.now hi.now scale.now nu.now
-        states.old (length nu.now) }
+        ≡ sweep.classified p.now.lo.now p.now.hi.now p.now.scale.now nu.now
+        states.old (length p.now.u_free.now) }
 {
-    let n = nu.len();
-    let mut i = 0;
-    while i < n {
-        classify_row(lo, hi, scale, nu, states, i);
-        i += 1;
+    for i in 0..p.n() {
+        if states[i] != box_rows::IDLE {
+            states[i] = u8::from(box_rows::state_of(p.lo[i], p.hi[i], p.scale[i], nu[i]));
+        }
     }
 }
 
@@ -81,42 +60,35 @@ fn report(counts: Counts, converged: bool, exact: bool, residual: f64, idle: u32
     }
 }
 
-// The answer of a solve that ended as `progress` tells, of whose rows `idle` are Idle. Where no exact pass found the
-// solution and no rows fight, the states are set to those that the multipliers show.
+// The answer of a solve that ended so, or ran all its sweeps, of whose rows `idle` are Idle. Where no exact pass found
+// the solution and no rows fight, the states are set to those that the multipliers show.
 pub fn answer(
-    w: &[f64],
-    u_free: &[f64],
-    lo: &[f64],
-    hi: &[f64],
-    scale: &[f64],
+    p: &BoxProblem,
     states: &mut [u8],
     nu: &[f64],
-    progress: Progress,
+    ended: Option<Ended>,
+    counts: Counts,
     idle: u32,
 ) -> BoxOutcome
-    requires { private.Lists (box.problem w.now u_free.now lo.now hi.now scale.now) states.old nu.now }
-    ensures { private.Answered
-        (box.problem w.now u_free.now lo.now hi.now scale.now)
-        idle progress.sweeping nu.now states.old progress.counts
+    requires { private.Lists (lent.of p.now) states.old nu.now }
+    ensures { private.Answered (lent.of p.now) idle ended nu.now states.old counts
         result states.new }
 {
-    let residual = tests::residual(w, u_free, lo, hi, scale, states, nu);
-    let s = progress.sweeping;
-    let c = progress.counts;
-    match s {
-        Sweeping::Exact => BoxOutcome::Solved(report(c, true, true, residual, idle)),
-        Sweeping::Going => {
-            classify(lo, hi, scale, nu, states);
-            BoxOutcome::Solved(report(c, false, false, residual, idle))
+    let residual = tests::residual(p, states, nu);
+    match ended {
+        Some(Ended::Exact) => BoxOutcome::Solved(report(counts, true, true, residual, idle)),
+        Some(Ended::Converged) => {
+            classify(p, nu, states);
+            BoxOutcome::Solved(report(counts, true, false, residual, idle))
         }
-        Sweeping::Converged => {
-            classify(lo, hi, scale, nu, states);
-            BoxOutcome::Solved(report(c, true, false, residual, idle))
-        }
-        Sweeping::Infeasible(cause, k) => BoxOutcome::Infeasible(
+        Some(Ended::Infeasible(cause, k)) => BoxOutcome::Infeasible(
             cause,
             k,
-            report(c, false, false, residual, idle),
+            report(counts, false, false, residual, idle),
         ),
+        None => {
+            classify(p, nu, states);
+            BoxOutcome::Solved(report(counts, false, false, residual, idle))
+        }
     }
 }

@@ -4,15 +4,17 @@
 
 ghost use Rattle.std.specs.Prelude.{◌≡◌, length, take};
 ghost use Rattle.box_rows.specs.Rows as box;
+ghost use Rattle.box_rows.specs.Lent as lent;
 ghost use Rattle.boxed.specs.Solve as solve;
 ghost use Rattle.boxed.specs.Private as private;
 
 // The steps of a solve are, in their order: refusal; start; run, which has for each turn sweep, growth, checkpoints and
-// tests; ending. `read` has the reads and stores that they share.
+// tests; ending.
+use box_rows::problem::BoxProblem;
+
 mod checkpoints;
 mod ending;
 mod growth;
-mod read;
 mod refusal;
 mod run;
 mod start;
@@ -36,11 +38,8 @@ const BEFORE: usize = exact_pass::WORKSPACE + box_rows::MAX_ROWS;
 // The most sweeps one solve runs.
 pub const SWEEP_CAP: u32 = 200;
 
-// How many checkpoints there are.
-const CHECKPOINT_COUNT: usize = 8;
-
 // The sweeps after which an exact pass is tried, beside the last that there may be.
-pub const CHECKPOINTS: [u32; CHECKPOINT_COUNT] = [1, 2, 4, 8, 16, 32, 64, 128];
+pub const CHECKPOINTS: [u32; 8] = [1, 2, 4, 8, 16, 32, 64, 128];
 
 // How a solve found that no motion meets every row: by growth, in an exact pass, or after a sweep.
 #[derive(Clone, Copy, PartialEq, Eq)]
@@ -77,11 +76,10 @@ pub enum BoxOutcome {
     Infeasible(Cause, usize, BoxReport),
 }
 
-// How a solve goes on after a sweep: with the next one; or it ended, by a pass that found the solution, by its own
-// tests, or as no motion meets every row.
+// How a solve ended before the last sweep that there may be: by a pass that found the solution, by its own tests, or as
+// no motion meets every row, and how many fight.
 #[derive(Clone, Copy)]
-pub enum Sweeping {
-    Going,
+pub enum Ended {
     Exact,
     Converged,
     Infeasible(Cause, usize),
@@ -95,57 +93,36 @@ pub struct Counts {
     pub stopped: u32,
 }
 
-// What one sweep with its tests, or all of them, came to: how the solve goes on, and what it has counted.
+// The motion that is watched: a row of values for each coordinate, and the most that one may move in a sweep after
+// which the solve tests whether it is done.
 #[derive(Clone, Copy)]
-pub struct Progress {
-    pub sweeping: Sweeping,
-    pub counts: Counts,
-}
-
-// The most sweeps that a solve may run, and the motion at which it tests whether it is done.
-#[derive(Clone, Copy)]
-pub struct Limits {
-    pub cap: u32,
+pub struct Watch<'a> {
+    pub motion: &'a [f64],
     pub tolerance: f64,
 }
 
-// The solve of a call that is not refused. For n rows, W has n * n values; bounds, scales, multipliers and states have
-// n each; the row list has at least n, and the motion n for each coordinate. The workspace is not too short.
+// The solve of a call that is not refused: multipliers and states are one for each row, the row list has a place for
+// each, and the workspace is not too short.
 fn solve_rows(
-    w: &[f64],
-    u_free: &[f64],
-    lo: &[f64],
-    hi: &[f64],
-    scale: &[f64],
-    motion: &[f64],
-    tolerance: f64,
+    p: &BoxProblem,
+    watch: &Watch,
     nu: &mut [f64],
     states: &mut [u8],
     rows: &mut [usize],
     work: &mut [f64],
 ) -> BoxOutcome
-    requires { private.Lent (box.problem w.now u_free.now lo.now hi.now scale.now) states.old nu.old
-        rows.old work.old }
+    requires { private.Lent (lent.of p.now) states.old nu.old rows.old work.old }
     ensures { solve.Left
-        (solve.solve solve.SWEEP_CAP
-        (box.problem w.now u_free.now lo.now hi.now scale.now)
-        (solve.watch motion.now tolerance)
+        (solve.solve solve.SWEEP_CAP (lent.of p.now) (private.watched watch.now)
         nu.old states.old rows.old)
         (Ok result) nu.new states.new rows.new work.old work.new }
 {
-    let n = u_free.len();
-    let idle = start::start(w, lo, hi, states, nu);
-    if idle == n {
+    let idle = start::start(p, states, nu);
+    if idle == p.n() {
         return BoxOutcome::Solved(ending::nothing(idle as u32));
     }
-    let limits = Limits {
-        cap: SWEEP_CAP,
-        tolerance,
-    };
-    let p = run::run(
-        limits, w, u_free, lo, hi, scale, motion, states, nu, rows, work,
-    );
-    ending::answer(w, u_free, lo, hi, scale, states, nu, p, idle as u32)
+    let (ended, counts) = run::run(p, watch, states, nu, rows, work);
+    ending::answer(p, states, nu, ended, counts, idle as u32)
 }
 
 // The solver of boxed.rs. There it keeps its workspace between solves; here it holds nothing, since the caller lends
@@ -182,10 +159,15 @@ impl BoxSolver {
         let n = u_free.len();
         let room = workspace.len();
         BoxSolver::refusal(w, u_free, lo, hi, scale, motion, nu, states, rows, room)?;
-        let active = &mut states[..n];
-        Ok(solve_rows(
-            w, u_free, lo, hi, scale, motion, tolerance, nu, active, rows, workspace,
-        ))
+        let p = BoxProblem {
+            w,
+            u_free,
+            lo,
+            hi,
+            scale,
+        };
+        let watch = Watch { motion, tolerance };
+        Ok(solve_rows(&p, &watch, nu, &mut states[..n], rows, workspace))
     }
 }
 

@@ -1,188 +1,123 @@
 // The tests after a sweep: whether the motion has stopped, whether a residual is left, and whether the multipliers
 // still move in the direction of a ray.
-ghost use Rattle.std.specs.Prelude.{◌≡◌, ◌/◌, length};
-ghost use Rattle.box_rows.specs.Rows as box;
+ghost use Rattle.std.specs.Prelude.{◌≡◌, ◌/◌, ◌<◌, length};
+ghost use Rattle.box_rows.specs.Lent as lent;
 ghost use Rattle.exact_pass.specs.Ray.{ray};
-ghost use Rattle.box_rows.specs.Private.{AtRow};
 ghost use Rattle.boxed.specs.Sweep as sweep;
 ghost use Rattle.boxed.specs.Solve as solve;
 ghost use Rattle.boxed.specs.Private as private;
 ghost use Rattle.boxed.specs.declared.Counts.{Counts};
 ghost use Rattle.boxed.specs.declared.Cause.TheVariants as cause;
 
-use crate::{Cause, Sweeping, read};
-
-// The larger of `worst`, the largest natural residual of the rows before row i, and that of row i where it acts.
-fn residual_row(
-    w: &[f64],
-    u_free: &[f64],
-    lo: &[f64],
-    hi: &[f64],
-    scale: &[f64],
-    states: &[u8],
-    nu: &[f64],
-    i: usize,
-    worst: f64,
-) -> f64
-    requires { AtRow
-        (private.Lists (box.problem w.now u_free.now lo.now hi.now scale.now) states.now nu.now)
-        (length u_free.now) i }
-    ensures { result ≡ private.residual_row
-        (box.problem w.now u_free.now lo.now hi.now scale.now)
-        states.now nu.now i worst }
-{
-    if read::state(states, i) == box_rows::IDLE {
-        return worst;
-    }
-    let row = read::row(w, u_free.len(), i);
-    let u = box_rows::row_sum(row, read::at(u_free, i), nu);
-    let numbers = box_rows::Row {
-        nu: read::at(nu, i),
-        u,
-        diagonal: read::at(row, i),
-        lo: read::at(lo, i),
-        hi: read::at(hi, i),
-    };
-    let r = box_rows::natural_residual(numbers, read::at(scale, i));
-    floats::larger(worst, r)
-}
+use crate::{Cause, Ended, Watch};
+use box_rows::problem::BoxProblem;
 
 // The largest natural residual over the rows that act.
-pub fn residual(
-    w: &[f64],
-    u_free: &[f64],
-    lo: &[f64],
-    hi: &[f64],
-    scale: &[f64],
-    states: &[u8],
-    nu: &[f64],
-) -> f64
-    requires { private.Lists (box.problem w.now u_free.now lo.now hi.now scale.now) states.now nu.now }
-    ensures { result ≡ sweep.residual
-        (box.problem w.now u_free.now lo.now hi.now scale.now)
-        states.now nu.now (length u_free.now) }
+#[tactic(auto, unfolding(loops::specs::Loops::turns, crate::specs::Sweep::residual))]
+pub fn residual(p: &BoxProblem, states: &[u8], nu: &[f64]) -> f64
+    requires { private.Lists (lent.of p.now) states.now nu.now }
+    ensures { result ≡ sweep.residual (lent.of p.now) states.now nu.now (length p.now.u_free.now) }
 {
-    let n = u_free.len();
     let mut worst = 0.0;
-    let mut i = 0;
-    while i < n {
-        worst = residual_row(w, u_free, lo, hi, scale, states, nu, i, worst);
-        i += 1;
+    for i in 0..p.n() {
+        if states[i] != box_rows::IDLE {
+            worst = floats::larger(worst, p.residual_at(i, nu));
+        }
     }
     worst
 }
 
 // How far a coordinate moved, of which `row` has the motion for a unit multiplier of each row.
+#[tactic(auto, unfolding(loops::specs::Loops::turns, crate::specs::Private::coordinate))]
 fn coordinate(row: &[f64], nu: &[f64], before: &[f64]) -> f64
-    requires { private.Pair (length nu.now) row.now before.now }
+    requires row { length row.now ≡ length nu.now }
+    requires before { length before.now ≡ length nu.now }
     ensures { result ≡ private.coordinate row.now nu.now before.now (length nu.now) }
 {
-    let n = nu.len();
     let mut s = 0.0;
-    let mut i = 0;
-    while i < n {
-        s = s + read::at(row, i) * (read::at(nu, i) - read::at(before, i));
-        i += 1;
+    for i in 0..nu.len() {
+        s = s + row[i] * (nu[i] - before[i]);
     }
     s
 }
 
 // The most that a coordinate moved.
+#[tactic(auto, unfolding(loops::specs::Loops::turns, crate::specs::Sweep::moved, crate::specs::Private::coordinate))]
 fn moved(motion: &[f64], nu: &[f64], before: &[f64]) -> f64
-    requires { private.Measured (length nu.now) before.now }
+    requires some { 0 < length nu.now }
+    requires before { length before.now ≡ length nu.now }
     ensures { result ≡ sweep.moved motion.now nu.now before.now
         (length motion.now / length nu.now) }
 {
     let n = nu.len();
-    let coords = motion.len() / n;
     let mut worst = 0.0;
-    let mut c = 0;
-    while c < coords {
-        let s = coordinate(read::row(motion, n, c), nu, before);
+    for c in 0..motion.len() / n {
+        let s = coordinate(&motion[c * n..(c + 1) * n], nu, before);
         worst = floats::larger(worst, floats::abs(s));
-        c += 1;
     }
     worst
 }
 
 // Writes into y the direction in which the multipliers moved.
 fn change(nu: &[f64], before: &[f64], y: &mut [f64])
-    requires { private.Pair (length nu.now) before.now y.old }
+    requires before { length before.now ≡ length nu.now }
+    requires direction { length y.old ≡ length nu.now }
     ensures { y.new ≡ private.change nu.now before.now
         (length nu.now) }
 {
-    let n = nu.len();
-    let mut i = 0;
-    while i < n {
-        read::put(y, i, read::at(nu, i) - read::at(before, i));
-        i += 1;
+    for i in 0..y.len() {
+        y[i] = nu[i] - before[i];
     }
 }
 
 // Whether the direction in which the sweep moved the multipliers is a ray, which shows that no motion meets every row.
-// If so, the rows that fight are put at the front of the row list, and the solve ends as infeasible. If not, it goes
-// on.
+// If so, the rows that fight are put at the front of the row list, and the solve ends as infeasible.
 fn ray_test(
-    w: &[f64],
-    u_free: &[f64],
-    lo: &[f64],
-    hi: &[f64],
-    scale: &[f64],
+    p: &BoxProblem,
     states: &[u8],
     nu: &[f64],
     before: &[f64],
     rows: &mut [usize],
-) -> Sweeping
-    requires { private.TestLists (box.problem w.now u_free.now lo.now hi.now scale.now) states.now
-        nu.now before.now rows.old }
+) -> Option<Ended>
+    requires { private.TestLists (lent.of p.now) states.now nu.now before.now rows.old }
     ensures { (c : Counts) → private.Ran
         (solve.unless cause.Sweep (solve.iterate nu.now states.now c)
-        (ray
-        (box.problem w.now u_free.now lo.now hi.now scale.now)
-        states.now
-        (private.change nu.now before.now (length u_free.now))))
+        (ray (lent.of p.now) states.now
+        (private.change nu.now before.now (length p.now.u_free.now))))
         rows.old result nu.now states.now c rows.new }
 {
-    let n = u_free.len();
+    let n = nu.len();
     let mut y = [0.0f64; box_rows::MAX_ROWS];
     change(nu, before, &mut y[..n]);
-    let c = exact_pass::ray(w, u_free, lo, hi, scale, states, &y[..n], rows);
-    if c == 0 {
-        return Sweeping::Going;
+    let k = exact_pass::ray(p.w, p.u_free, p.lo, p.hi, p.scale, states, &y[..n], rows);
+    if k == 0 {
+        return None;
     }
-    Sweeping::Infeasible(Cause::Sweep, c)
+    Some(Ended::Infeasible(Cause::Sweep, k))
 }
 
-// How the solve goes on after a sweep, before which the multipliers were `before`. Where the motion of the sweep is not
-// within the tolerance, with the next sweep. Where it is, the solve has converged if the residual is small enough, and
-// otherwise the ray is tried, since multipliers that change while nothing moves may do so without end.
+// How the tests end the solve after a sweep, before which the multipliers were `before`, if they do. Where the motion
+// of the sweep is not within the tolerance, they do not. Where it is, the solve has converged if the residual is small
+// enough, and otherwise the ray is tried, since multipliers that change while nothing moves may do so without end.
 pub fn tests(
-    w: &[f64],
-    u_free: &[f64],
-    lo: &[f64],
-    hi: &[f64],
-    scale: &[f64],
-    motion: &[f64],
-    tolerance: f64,
+    p: &BoxProblem,
+    watch: &Watch,
     states: &[u8],
     nu: &[f64],
     before: &[f64],
     rows: &mut [usize],
-) -> Sweeping
-    requires { private.TestLists (box.problem w.now u_free.now lo.now hi.now scale.now) states.now
-        nu.now before.now rows.old }
+) -> Option<Ended>
+    requires { private.TestLists (lent.of p.now) states.now nu.now before.now rows.old }
     ensures { (c : Counts) → private.Ran
-        (solve.tested
-        (box.problem w.now u_free.now lo.now hi.now scale.now)
-        (solve.watch motion.now tolerance) before.now
+        (solve.tested (lent.of p.now) (private.watched watch.now) before.now
         (solve.going (solve.iterate nu.now states.now c)))
         rows.old result nu.now states.now c rows.new }
 {
-    if moved(motion, nu, before) <= tolerance {
-        if residual(w, u_free, lo, hi, scale, states, nu) <= exact_pass::EXACT_RESIDUAL {
-            return Sweeping::Converged;
+    if moved(watch.motion, nu, before) <= watch.tolerance {
+        if residual(p, states, nu) <= exact_pass::EXACT_RESIDUAL {
+            return Some(Ended::Converged);
         }
-        return ray_test(w, u_free, lo, hi, scale, states, nu, before, rows);
+        return ray_test(p, states, nu, before, rows);
     }
-    Sweeping::Going
+    None
 }

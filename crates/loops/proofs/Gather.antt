@@ -132,3 +132,12 @@ module _ (test : ℕ → Bool) (l₀ : List ℕ) where
   -- a count is never above the turns made
   pub gather-le : (i k : ℕ) (l : List ℕ) → Gathering test l₀ i k l → k ≤ i
   gather-le i k l g = omega (arith, those-le test i, g.count)
+
+  -- the same, by what the test says of i
+  pub gather_take : (i k : ℕ) (l : List ℕ) → Gathering test l₀ i k l → test i ≡ true → Gathering test l₀ (i + 1) (k + 1) (set l k i)
+  unfolding counted noted
+  gather_take i k l g t = gather_again i k l (k + 1) (set l k i) g (rw t (add-one k)) (rw t)
+
+  pub gather_skip : (i k : ℕ) (l : List ℕ) → Gathering test l₀ i k l → test i ≡ false → Gathering test l₀ (i + 1) k l
+  unfolding counted noted
+  gather_skip i k l g t = gather_again i k l k l g (rw t) (rw t)
