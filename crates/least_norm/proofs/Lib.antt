@@ -1,3 +1,4 @@
+pub mod Laws
 pub mod Steps
 pub mod Blocks
 pub mod Rows

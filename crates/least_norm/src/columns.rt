@@ -14,6 +14,7 @@ use crate::size::Size;
 use crate::{Householder, lanes, reflect, vector};
 
 // Column j from row j down, copied to v.
+#[tactic(auto, using(crate::proofs::Laws::updates))]
 fn copy_column(a: &[f64], size: Size, j: usize, v: &mut [f64])
     requires { Matrix a.now size × (j < size.n) × (j ≤ size.m) × (size.m ≤ length v.old) }
     ensures { v.new
@@ -124,6 +125,7 @@ fn reflect_columns<const K: usize>(
     next
 }
 
+#[tactic(auto, using(crate::proofs::Laws::zeros), unfolding(crate::specs::Private::zero_below))]
 fn zero_below(a: &mut [f64], size: Size, j: usize)
     requires { Matrix a.old size × (j < size.m) × (j < size.n) }
     ensures { a.new ≡ private.zero_below size.n j a.old size.m }

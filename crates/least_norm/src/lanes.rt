@@ -1,4 +1,6 @@
 // K adjacent entries together, which the compiler keeps in registers. Each is computed as by itself.
+#![tactic(auto, using(crate::proofs::Laws::updates))]
+
 ghost use Rattle.std.specs.Prelude.{◌≡◌, ℕ, ◌+◌, ◌≤◌, length, replicate, Float};
 ghost use Rattle.std.specs.Float.{nan};
 ghost use Rattle.loops.specs.Updates.{updated};

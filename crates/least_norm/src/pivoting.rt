@@ -37,6 +37,7 @@ fn picked(c: usize, norm: f64, best: Pivot) -> Pivot
 }
 
 // The same for K columns from column c on, whose norms s has.
+#[tactic(auto, using(crate::proofs::Laws::turns))]
 fn pick_lanes<const K: usize>(c: usize, s: [f64; K], best: Pivot) -> Pivot
     requires { (c + K ≤ 32) × (best.col < c) }
     ensures { (result ≡ between 0 K best (λ (t : ℕ) (p : Pivot). private.picked (c + t) (at s.entry t) p))
@@ -91,6 +92,7 @@ fn swap_columns(a: &mut [f64], size: Size, j: usize, c: usize)
 }
 
 // Brings column c to place j.
+#[tactic(auto, unfolding(crate::specs::LeastNorm::brought, crate::specs::Private::swap_columns, loops::specs::Loops::swap))]
 pub fn bring(a: &mut [f64], size: Size, j: usize, c: usize, perm: &mut [u8])
     requires { Matrix a.old size × (j < size.n) × (c < size.n) × (length perm.old ≡ size.n) }
     ensures { (b : List Float)

@@ -6,6 +6,7 @@ ghost use Rattle.least_norm.specs.Private.{Matrix};
 
 use crate::size::Size;
 
+#[tactic(auto, unfolding(crate::specs::Private::leads))]
 fn leads(a: &[f64], size: Size, i: usize) -> bool
     requires { Matrix a.now size × (i < size.m) × (i < size.n) }
     ensures { result ≡ private.leads size.n a.now i }

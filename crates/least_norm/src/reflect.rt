@@ -32,6 +32,7 @@ pub fn beta(alpha: f64, sigma: f64, near: f64) -> f64
 }
 
 // x[t] -= f * y[t], for t from lo on.
+#[tactic(auto, using(crate::proofs::Laws::updates), unfolding(crate::specs::Private::less))]
 fn less_scaled(x: &mut [f64], f: f64, y: &[f64], lo: usize)
     requires { (lo ≤ length x.old) × (length x.old ≤ length y.now) }
     ensures { x.new ≡ less (λ (t : ℕ). t) f (λ (t : ℕ). at y.now t) lo (length x.old) x.old }

@@ -18,6 +18,7 @@ fn known(a: &[f64], top: Size, b: &[f64], y: &[f64], i: usize) -> f64
 }
 
 // What stands in y past the rank stays.
+#[tactic(auto, using(crate::proofs::Laws::substitutions))]
 pub fn substitute(a: &[f64], top: Size, b: &[f64], y: &mut [f64])
     requires { Substituting a.now top b.now y.old }
     ensures { y.new ≡ starts.substituted y.old top.n top.m a.now b.now 0 }
@@ -50,6 +51,7 @@ fn turn_each(right: &[f64], top: Size, y: &mut [f64])
 }
 
 // Every reflector applied to y; at full rank there is none.
+#[tactic(auto, unfolding(crate::specs::LeastNorm::turned, crate::specs::Private::first_turned, loops::specs::Loops::turns))]
 pub fn turn_back(right: &[f64], top: Size, y: &mut [f64])
     requires { Turning right.now top y.old }
     ensures { y.new

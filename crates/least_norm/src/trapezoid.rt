@@ -44,6 +44,7 @@ pub fn row_norm2(a: &[f64], top: Size, i: usize, s: f64) -> f64
 }
 
 // Keeps in `right` row i past the rank.
+#[tactic(auto, using(crate::proofs::Laws::updates), unfolding(crate::specs::Private::kept_row))]
 fn keep_row(a: &[f64], top: Size, i: usize, right: &mut [f64])
     requires { Trapezoidal a.now top right.old × (i < top.m) }
     ensures { right.new ≡ private.kept_row top.n top.m i a.now right.old }
@@ -54,6 +55,7 @@ fn keep_row(a: &[f64], top: Size, i: usize, right: &mut [f64])
 }
 
 // Clears row i past the rank.
+#[tactic(auto, unfolding(crate::specs::Private::clear))]
 fn clear_row(a: &mut [f64], top: Size, i: usize, right: &mut [f64])
     requires { Trapezoidal a.old top right.old × (i < top.m) }
     ensures { least.trapezoid a.new right.new
@@ -81,6 +83,7 @@ fn clear_rows(a: &mut [f64], top: Size, right: &mut [f64])
 }
 
 // The whole trapezoid; at full rank there is nothing to clear.
+#[tactic(auto, unfolding(crate::specs::LeastNorm::cleared, crate::specs::Private::last_cleared, loops::specs::Loops::downward, loops::specs::Loops::turns))]
 pub fn clear(a: &mut [f64], top: Size, right: &mut [f64])
     requires { Trapezoidal a.old top right.old }
     ensures { least.trapezoid a.new right.new

@@ -1,4 +1,6 @@
 // Sums over the entries t of two lists, for t from lo up to hi. Each runs upward in index.
+#![tactic(auto, using(crate::proofs::Laws::sums))]
+
 ghost use Rattle.std.specs.Prelude.{◌≡◌, ℕ, ◌≤◌, length};
 ghost use Rattle.floats.specs.Ops.{at, ◌⊗◌};
 ghost use Rattle.floats.specs.Sums.{sum, difference};
