@@ -10,6 +10,8 @@ mod little;
 mod step;
 mod trailer;
 
+pub use trailer::{MAX_MOTION, MAX_ROWS};
+
 use lent::Lent;
 use refusals::Refusal;
 

@@ -1,16 +1,15 @@
 -- Bytes laid into a list: one run after another, and how long each is.
-use Prim.Native.Nat.{ℕ, suc, ◌+◌, ◌*◌, ◌/◌, ◌%◌, ◌≤◌, ◌<◌}
+use Prim.Native.Nat.{ℕ, suc, ◌+◌, ◌-◌, ◌*◌, ◌/◌, ◌%◌, ◌≤◌, ◌<◌}
 use mathlib.Core.Path.{◌≡◌, refl, sym, ◌∙◌}
 use mathlib.Core.Bool.{true}
 use mathlib.Core.List.{List, [], ◌∷◌, ◌++◌, append-nil, append_assoc}
 use native.Mathlib.Omega.{arith}
 use native.Mathlib.Nat.{add-zero}
 use native.Mathlib.Numerals.{add-one}
-use lib.Ieee.{Float, nan, ne, to_bits}
+use lib.Ieee.{Float, nan}
 use lib.ListN.{length, get_or, set, take, drop, length-append, length-drop}
-use lib.Seq.{sets, take-suc, get_or-drop, length-take-le}
-use Rattle.floats.specs.Helpers.{nan_test}
-use Rattle.floats.proofs.Meaning.{nan_test_is_nan, only_nan}
+use lib.Seq.{sets, sets-eq, drop-drop, take-suc, take_all, length-take-le}
+use Rattle.std.specs.Int.{w64, to_le_bytes}
 use Rattle.bend_writer.specs.Bytes.{bytes16, bytes32, bytes64, pattern, patterns}
 use Rattle.bend_writer.specs.Private.{Laid}
 use Rattle.bend_writer.specs.Steps.{Step, trailer, step_bytes}
@@ -59,11 +58,34 @@ length-step base s =
     length-append (bytes32 base ++ patterns s.values) (trailer s.rows s.coords (length s.values))
     ∙ omega (arith, length-append (bytes32 base) (patterns s.values), length32 base, length-patterns s.values, length-trailer s.rows s.coords (length s.values))
 
--- ---- numbers
+-- ---- numbers, as the library makes their bytes
 
-pub laid16 : (o : List ℕ) (at x : ℕ) → Laid o at (set (set o at (x % 256)) (at + 1) (x / 256 % 256)) (bytes16 x)
+pub low16 : (x : ℕ) → take 2 (to_le_bytes w64 x) ≡ bytes16 x
 unfolding bytes16
-laid16 o at x = record { laid = rw add-one }
+low16 x = refl
+
+pub low32 : (x : ℕ) → take 4 (to_le_bytes w64 x) ≡ bytes32 x
+unfolding bytes32 bytes16
+low32 x =
+    let e : x / 16777216 % 256 ≡ x / 65536 / 256 % 256 = omega arith in
+    λ i. x % 256 ∷ x / 256 % 256 ∷ x / 65536 % 256 ∷ e i ∷ []
+
+pub low64 : (x : ℕ) → take 8 (to_le_bytes w64 x) ≡ bytes64 x
+unfolding bytes64 bytes32 bytes16
+low64 x =
+    let e3 : x / 16777216 % 256 ≡ x / 65536 / 256 % 256 = omega arith in
+    let e5 : x / 1099511627776 % 256 ≡ x / 4294967296 / 256 % 256 = omega arith in
+    let e6 : x / 281474976710656 % 256 ≡ x / 4294967296 / 65536 % 256 = omega arith in
+    let e7 : x / 72057594037927936 % 256 ≡ x / 4294967296 / 65536 / 256 % 256 = omega arith in
+    λ i. x % 256 ∷ x / 256 % 256 ∷ x / 65536 % 256 ∷ e3 i ∷ x / 4294967296 % 256 ∷ e5 i ∷ e6 i ∷ e7 i ∷ []
+
+-- the n lowest of them copied over a part of a list
+pub copied : (o m b : List ℕ) (at n x : ℕ) → m ≡ take n b → b ≡ to_le_bytes w64 x → n ≤ 8 → at + n ≤ length o → Laid o at (take at o ++ (m ++ drop (at + n - at) (drop at o))) (take n (to_le_bytes w64 x))
+copied o m b at n x e is few h =
+    let k : at + n - at ≡ n = omega arith in
+    let s = take n (to_le_bytes w64 x) in
+    let l : length s ≡ n = length-take-le n (to_le_bytes w64 x) few in
+    record { laid = rw (e, is, k, drop-drop n at o, ← append_assoc, sets-eq s o at (omega (arith, l)), l) }
 
 -- the mark as one number
 pub mark-bytes : bytes32 0x444E4542 ≡ 0x42 ∷ 0x45 ∷ 0x4E ∷ 0x44 ∷ []
@@ -72,39 +94,29 @@ mark-bytes = refl
 
 -- ---- values
 
-pub nan_pattern : (v : Float) → ne v v ≡ true → bytes64 0x7FF8000000000000 ≡ pattern v
-unfolding pattern to_bits nan_test
-nan_pattern v h = rw (only_nan v (sym (nan_test_is_nan v) ∙ h))
-
 pub patterns_snoc : (l : List Float) (v : Float) → patterns (l ++ (v ∷ [])) ≡ patterns l ++ pattern v
 unfolding patterns
 patterns_snoc [] v = append-nil (pattern v)
 patterns_snoc (u ∷ l) v = rw (patterns_snoc l v) (sym (append_assoc (pattern u) (patterns l) (pattern v)))
 
-module _ (values : List Float) (from : ℕ) where
-  pub values-start : (o : List ℕ) (at : ℕ) → Laid o at o (patterns (take 0 (drop from values)))
+module _ (values : List Float) where
+  pub values-start : (o : List ℕ) (at : ℕ) → Laid o at o (patterns (take 0 values))
   unfolding patterns
   values-start o at = record { laid = refl }
 
-  pub values_again : (o a b : List ℕ) (at i : ℕ) → Laid o at a (patterns (take i (drop from values))) → Laid a (at + 8 * i) b (pattern (get_or values (from + i) nan)) → from + i < length values
-      → Laid o at b (patterns (take (i + 1) (drop from values)))
-  values_again o a b at i p q h =
-      let k : i < length (drop from values) = omega (arith, length-drop from values) in
-      let e : length (take i (drop from values)) ≡ i = length-take-le i (drop from values) (omega arith) in
-      let g : length (patterns (take i (drop from values))) ≡ 8 * i = length-patterns (take i (drop from values)) ∙ rw e in
-      rw (add-one, take-suc (drop from values) i nan k, patterns_snoc (take i (drop from values)) (get_or (drop from values) i nan), get_or-drop from values i nan) (then p q (rw g))
+  pub values_again : (o a b : List ℕ) (at i end : ℕ) (v : Float) → Laid o at a (patterns (take i values)) → end ≡ at + 8 * i → Laid a end b (pattern v) → i < length values → v ≡ get_or values i nan
+      → Laid o at b (patterns (take (i + 1) values))
+  values_again o a b at i end v p e q h g =
+      let l : length (patterns (take i values)) ≡ 8 * i = length-patterns (take i values) ∙ rw (length-take-le i values (omega arith)) in
+      rw (add-one, take-suc values i nan h, patterns_snoc (take i values) (get_or values i nan), ← g) (then p q (rw l e))
 
-  pub values_done : (o a : List ℕ) (at i count : ℕ) → Laid o at a (patterns (take i (drop from values))) → i ≤ count → count ≤ i → Laid o at a (patterns (take count (drop from values)))
-  values_done o a at i count p h k = let e : i ≡ count = omega arith in rw e at p
+-- a step: its link, its values, its trailer
+pub step-laid : (o a b d : List ℕ) (at i end : ℕ) (s : Step) → Laid o at a (bytes32 at) → Laid a (at + 4) b (patterns (take i s.values)) → length s.values ≤ i
+    → Laid b end d (trailer s.rows s.coords (length s.values)) → end ≡ at + 4 + 8 * length s.values → Laid o at d (step_bytes at s)
+unfolding step_bytes
+step-laid o a b d at i end s p q h r e =
+    let whole : Laid a (at + 4) b (patterns s.values) = rw (take_all i s.values h) at q in
+    then (then p whole (rw length32)) r (rw (length-append (bytes32 at) (patterns s.values), length32, length-patterns) (omega (arith, e)))
 
-  pub whole_length : (count : ℕ) → from + count ≤ length values → length (take count (drop from values)) ≡ count
-  whole_length count h = length-take-le count (drop from values) (omega (arith, length-drop from values))
-
-  -- a step: its link, its values, its trailer
-  pub step-laid : (o a b d : List ℕ) (at n c count : ℕ) → from + count ≤ length values → Laid o at a (bytes32 at) → Laid a (at + 4) b (patterns (take count (drop from values)))
-      → Laid b (at + 4 + 8 * count) d (trailer n c count) → Laid o at d (step_bytes at (record { rows = n; coords = c; values = take count (drop from values) }))
-  unfolding step_bytes
-  step-laid o a b d at n c count h p q r =
-      let e = whole_length count h in
-      let g : length (patterns (take count (drop from values))) ≡ 8 * count = length-patterns (take count (drop from values)) ∙ rw e in
-      rw e (then (then p q (rw length32)) r (rw (length-append (bytes32 at) (patterns (take count (drop from values))), length32, g) (omega arith)))
+pub whole_length : (values : List Float) (from count : ℕ) → from + count ≤ length values → length (take count (drop from values)) ≡ count
+whole_length values from count h = length-take-le count (drop from values) (omega (arith, length-drop from values))

@@ -18,10 +18,10 @@ use Rattle.loops.proofs.Every.{both_true}
 use Rattle.bend_file.specs.Read.{Problem}
 use Rattle.bend_file.specs.Chain as chain
 use Rattle.bend_writer.specs.RoundTrip.{problem_of, nothing, Held, ReadsBack, WrittenReadsBack, LentReadsBack}
-use Rattle.bend_writer.specs.Steps.{Step, step_bytes, chained, file, step_number, steps_number, several}
+use Rattle.bend_writer.specs.Steps.{Step, step_bytes, chained, file, step_refusal, steps_refusal, several}
 use Rattle.bend_writer.specs.Write.{part, before, step_at, lent}
 use Rattle.bend_writer.proofs.Chained.{tab-suc, file_snoc, length-suc, front_length, step_kept}
-use Rattle.bend_writer.proofs.Rules.{Kept, rules-kept, square-fits, accepted, written_is, taken, bytes_are, left-written}
+use Rattle.bend_writer.proofs.Rules.{Kept, rules-kept, square-fits, accepted, written_is, answered, left-written}
 use Rattle.bend_writer.proofs.StepBack.{refusal-is, link-is, problem-is}
 use Rattle.bend_writer.proofs.Within.{tab-take}
 
@@ -45,7 +45,7 @@ module _ (f : List ℕ) where
 
 -- ---- the steps f 0, .., f (n - 1), oldest first
 
-module _ (f : ℕ → Step) (n : ℕ) (kept : steps_number (tab f n) ≡ 0) (few : n ≤ 40) (held : (k i : ℕ) → Fits (get_or (f k).values i nan)) where
+module _ (f : ℕ → Step) (n : ℕ) (kept : steps_refusal (tab f n) ≡ None) (few : n ≤ 40) (held : (k i : ℕ) → Fits (get_or (f k).values i nan)) where
   abbrev whole : List ℕ
   whole = file (tab f n)
 
@@ -53,7 +53,7 @@ module _ (f : ℕ → Step) (n : ℕ) (kept : steps_number (tab f n) ≡ 0) (few
   end m = length (file (tab f m))
 
   kept_at : (m : ℕ) → m < n → Kept (f m).rows (f m).coords (length (f m).values)
-  unfolding step_number
+  unfolding step_refusal
   kept_at m h = rules-kept (f m).rows (f m).coords (length (f m).values) (step_kept f m n h kept)
 
   start-end : end 0 ≡ 0
@@ -142,8 +142,7 @@ module _ (f : ℕ → Step) (n : ℕ) (kept : steps_number (tab f n) ≡ 0) (few
 
 -- ---- the claims
 
-reads-file : (l : List Step) → several (length l) ≡ true → steps_number l ≡ 0 → Held l → chain.pull (file l) ≡ Ok (reverse (map problem_of l))
-unfolding several
+reads-file : (l : List Step) → several (length l) ≡ true → steps_refusal l ≡ None → Held l → chain.pull (file l) ≡ Ok (reverse (map problem_of l))
 reads-file l some kept held =
     let s = both_true (leb 1 (length l)) (leb (length l) 40) some in
     let h = leb-true 1 (length l) s.0 in
@@ -159,8 +158,8 @@ reads-back l room f held h =
 
 pub written-reads-back : WrittenReadsBack
 written-reads-back l bytes out after held w =
-    let k = accepted l (length out) (taken l (length out) bytes w.result) in
-    let b = bytes_are l (length out) bytes w.result in
+    let k = accepted l (length out) (answered l (length out) bytes w.result).0 in
+    let b = (answered l (length out) bytes w.result).1 in
     let e : take bytes after ≡ file l = rw (w.output, left-written l (length out) bytes w.result out, b) (take_at (file l) (drop (length (file l)) out) (length (file l)) refl) in
     rw e (reads-file l k.0 k.1.kept held)
 

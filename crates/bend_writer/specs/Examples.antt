@@ -1,13 +1,14 @@
 -- Worked pulls, as one table that the checker computes: each rule kept and broken at its limit, the order of the rules, and the bytes of a file, written out.
-use Rattle.std.specs.Prelude.{◌≡◌, refl, Bool, true, false, ◌&&◌, List, [], ◌∷◌, ◌++◌, map, ℕ, zero, suc, ◌-◌, ◌*◌, ◌/◌, ◌%◌, eqb, length, replicate}
+use Rattle.std.specs.Prelude.{◌≡◌, refl, Bool, true, false, ◌&&◌, List, [], ◌∷◌, ◌++◌, map, ℕ, zero, suc, ◌-◌, ◌*◌, ◌/◌, ◌%◌, eqb, length, replicate, Result, Ok, Err}
 use Rattle.std.specs.Float.{binary64}
 use Rattle.std.specs.Float.Ieee.{of_bits, to_bits}
 use Rattle.loops.specs.Loops.{tab, turns}
 use Rattle.loops.specs.Lists.{same}
-use Rattle.bend_file.specs.Trailer.{small}
+use Rattle.refusals.specs.Numbers.{number}
+use Rattle.refusals.specs.declared.Refusal.{Refusal}
 use Rattle.bend_writer.specs.Bytes.{bytes16, bytes32, bytes64, pattern, patterns}
-use Rattle.bend_writer.specs.Steps.{trailer, step_bytes, chained, file, fair, ruled, step_number, first, steps_number, several, number}
-use Rattle.bend_writer.specs.Write.{part, before, step_at, lent, Answer, refused, written, answer, left}
+use Rattle.bend_writer.specs.Steps.{trailer, step_bytes, chained, file, fair, ruled, step_refusal, steps_refusal, several, refusal}
+use Rattle.bend_writer.specs.Write.{part, before, step_at, lent, answer, left}
 
 -- ---- what is lent, and what must come out
 
@@ -34,16 +35,16 @@ hex (suc k) x = hex k (x / 256) ++ (x % 256 ∷ [])
 untouched : ℕ → List ℕ
 untouched room = replicate room 0xEE
 
-file_is : Answer → List ℕ → Bool
-file_is (refused k) f = false
-file_is (written g) f = same g f
+file_is : Result (List ℕ) Refusal → List ℕ → Bool
+file_is (Err r) f = false
+file_is (Ok g) f = same g f
 
-number_is : Answer → ℕ → Bool
-number_is (refused j) k = eqb j k
-number_is (written g) k = false
+number_is : Result (List ℕ) Refusal → ℕ → Bool
+number_is (Err r) k = eqb (number r) k
+number_is (Ok g) k = false
 
-asked : Lent → ℕ → Answer
-unfolding answer number several steps_number first step_number ruled fair file chained step_bytes trailer patterns pattern bytes64 bytes32 bytes16 lent step_at part before tab turns of_bits to_bits
+asked : Lent → ℕ → Result (List ℕ) Refusal
+unfolding answer refusal steps_refusal step_refusal ruled fair file chained step_bytes trailer patterns pattern bytes64 bytes32 bytes16 lent step_at part before tab turns of_bits to_bits
 asked p room = answer (lent p.steps p.rows p.coords p.counts (map (of_bits binary64) p.values)) room
 
 passes : Case → Bool

@@ -1,9 +1,10 @@
 -- Words of the private functions' contracts. A reader of the promises does not need them.
-use Rattle.std.specs.Prelude.{ℕ, ◌≤◌, ◌≡◌, cond, List, leb, eqb, length}
+use Rattle.std.specs.Prelude.{ℕ, ◌≤◌, ◌≡◌, cond, List, leb, length, get_or, None, Result}
 use Rattle.std.proofs.lemmas.List.Edits.{sets}
-use Rattle.bend_writer.specs.Steps.{Step, file, steps_number}
-use Rattle.bend_writer.specs.declared.Written.{Written}
-use Rattle.bend_writer.specs.declared.Written.TheVariants as told
+use Rattle.refusals.specs.declared.Refusal.{Refusal}
+use Rattle.refusals.specs.Calls.{unless}
+use Rattle.bend_writer.specs.Steps.{Step, file, steps_refusal}
+use Rattle.bend_writer.specs.declared.StepSize.{StepSize}
 
 -- `bytes` laid into a list from `at` on
 pub record Laid (out : List ℕ) (at : ℕ) (after bytes : List ℕ) : Type 0 where
@@ -13,11 +14,15 @@ pub record Laid (out : List ℕ) (at : ℕ) (after bytes : List ℕ) : Type 0 wh
 unfoldable pub had : ℕ → ℕ → ℕ
 had count left = cond (leb count left) count 0
 
--- what the steps' own rules answer
-unfoldable pub checked : List Step → Written
-checked l = cond (eqb (steps_number l) 0) (told.Bytes (length (file l))) (told.Refused (steps_number l))
+-- what the steps' own rules answer: how many bytes their file has
+unfoldable pub checked : List Step → Result ℕ Refusal
+checked l = unless (steps_refusal l) (length (file l))
 
 -- the steps keep their rules, and their file has room
 pub record Room (l : List Step) (room : ℕ) : Type 0 where
-  pub kept : steps_number l ≡ 0
+  pub kept : steps_refusal l ≡ None
   pub fits : length (file l) ≤ room
+
+-- the size of step i, of those lists
+abbrev pub size : List ℕ → List ℕ → List ℕ → ℕ → StepSize
+size rows coords counts i = record { rows = get_or rows i 0; coords = get_or coords i 0; count = get_or counts i 0 }

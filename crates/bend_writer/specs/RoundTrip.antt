@@ -5,8 +5,7 @@ use Rattle.floats.specs.Ops.{Fits}
 use Rattle.bend_file.specs.Read.{Problem}
 use Rattle.bend_file.specs.Chain.{pull}
 use Rattle.bend_writer.specs.Steps.{Step}
-use Rattle.bend_writer.specs.Write.{lent, written, answer, Writes}
-use Rattle.bend_writer.specs.declared.Written.TheVariants.{Bytes}
+use Rattle.bend_writer.specs.Write.{lent, answer, Writes}
 
 -- `count` values of a step from number `first` on
 unfoldable pub run : Step → ℕ → ℕ → List Float
@@ -39,14 +38,14 @@ Held l = (k i : ℕ) → Fits (get_or (get_or l k nothing).values i nan)
 
 -- the file of an accepted pull reads back as the same steps, which the reader has newest first
 abbrev pub ReadsBack : Type 0
-ReadsBack = (l : List Step) (room : ℕ) (f : List ℕ) → Held l → answer l room ≡ written f → pull f ≡ Ok (reverse (map problem_of l))
+ReadsBack = (l : List Step) (room : ℕ) (f : List ℕ) → Held l → answer l room ≡ Ok f → pull f ≡ Ok (reverse (map problem_of l))
 
 -- the same of the code, of which nothing is known but the contract of the writer: the bytes that it says it wrote
 abbrev pub WrittenReadsBack : Type 0
-WrittenReadsBack = (l : List Step) (bytes : ℕ) (out after : List ℕ) → Held l → Writes l (Bytes bytes) out after → pull (take bytes after) ≡ Ok (reverse (map problem_of l))
+WrittenReadsBack = (l : List Step) (bytes : ℕ) (out after : List ℕ) → Held l → Writes l (Ok bytes) out after → pull (take bytes after) ≡ Ok (reverse (map problem_of l))
 
 -- the same of what `write_chain` and `write_steps` are lent
 abbrev pub LentReadsBack : Type 0
 LentReadsBack =
-    (steps : ℕ) (rows coords counts : List ℕ) (values : List Float) (bytes : ℕ) (out after : List ℕ) → ((i : ℕ) → Fits (get_or values i nan)) → Writes (lent steps rows coords counts values) (Bytes bytes) out after
+    (steps : ℕ) (rows coords counts : List ℕ) (values : List Float) (bytes : ℕ) (out after : List ℕ) → ((i : ℕ) → Fits (get_or values i nan)) → Writes (lent steps rows coords counts values) (Ok bytes) out after
     → pull (take bytes after) ≡ Ok (reverse (map problem_of (lent steps rows coords counts values)))

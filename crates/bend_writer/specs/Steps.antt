@@ -1,5 +1,8 @@
 -- The steps of a pull as document 02's W1 has them written: the bytes of a step, those of a whole pull, and which rule a step breaks. Definitions only.
-use Rattle.std.specs.Prelude.{ℕ, zero, suc, Bool, not, cond, ◌&&◌, List, [], ◌∷◌, ◌++◌, leb, eqb, Float, length}
+use Rattle.std.specs.Prelude.{ℕ, Bool, not, cond, ◌&&◌, List, [], ◌∷◌, ◌++◌, leb, eqb, Float, length, Option, Some, None}
+use Rattle.std.specs.Option.{option_or}
+use Rattle.refusals.specs.declared.Refusal.{Refusal}
+use Rattle.refusals.specs.declared.Refusal.TheVariants.{FileLimits, FileCount, Short, Steps}
 use Rattle.bend_file.specs.Trailer.{small, wanted}
 use Rattle.bend_writer.specs.Bytes.{bytes16, bytes32, patterns}
 
@@ -33,27 +36,22 @@ file l = chained [] l
 unfoldable pub fair : ℕ → ℕ → Bool
 fair n c = small n c && leb c 65535
 
--- the number of the first rule that a step of n rows, c coordinates and so many values breaks; 0 where it keeps them all
-unfoldable pub ruled : ℕ → ℕ → ℕ → ℕ
-ruled n c count = cond (not (fair n c)) 3 (cond (not (eqb count (wanted n c))) 4 0)
+-- the first rule that a step of n rows, c coordinates and so many values breaks; none where it keeps them all
+unfoldable pub ruled : ℕ → ℕ → ℕ → Option Refusal
+ruled n c count = cond (not (fair n c)) (Some FileLimits) (cond (not (eqb count (wanted n c))) (Some FileCount) None)
 
-unfoldable pub step_number : Step → ℕ
-step_number s = ruled s.rows s.coords (length s.values)
+unfoldable pub step_refusal : Step → Option Refusal
+step_refusal s = ruled s.rows s.coords (length s.values)
 
--- the first of two numbers that is not 0
-unfoldable pub first : ℕ → ℕ → ℕ
-first zero k = k
-first (suc j) k = suc j
-
--- the number of the oldest step that breaks a rule
-unfoldable pub steps_number : List Step → ℕ
-steps_number [] = 0
-steps_number (s ∷ l) = first (step_number s) (steps_number l)
+-- that of the oldest step that breaks a rule
+unfoldable pub steps_refusal : List Step → Option Refusal
+steps_refusal [] = None
+steps_refusal (s ∷ l) = option_or (step_refusal s) (steps_refusal l)
 
 -- 15: 1 to 40 steps
-unfoldable pub several : ℕ → Bool
+abbrev pub several : ℕ → Bool
 several steps = leb 1 steps && leb steps 40
 
--- 15 before all steps, each step's 3 and 4, then 10 where the output has no room for the file; 0 where none applies
-unfoldable pub number : List Step → ℕ → ℕ
-number l room = cond (not (several (length l))) 15 (first (steps_number l) (cond (leb (length (file l)) room) 0 10))
+-- 15 before all steps, each step's 3 and 4, then 10 where the output has no room for the file; none where none applies
+unfoldable pub refusal : List Step → ℕ → Option Refusal
+refusal l room = cond (not (several (length l))) (Some Steps) (option_or (steps_refusal l) (cond (leb (length (file l)) room) None (Some Short)))

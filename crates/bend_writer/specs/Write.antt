@@ -1,10 +1,11 @@
 -- What the writer is lent, and what it gives back. Definitions only.
-use Rattle.std.specs.Prelude.{ℕ, ◌+◌, ◌≡◌, cond, List, [], leb, eqb, Float, length, get_or, take, drop}
+use Rattle.std.specs.Prelude.{ℕ, ◌+◌, ◌≡◌, cond, List, [], map, leb, Float, length, get_or, take, drop, Result, Ok, Err}
 use Rattle.loops.specs.Loops.{tab, turns}
+use Rattle.refusals.specs.declared.Refusal.{Refusal}
+use Rattle.refusals.specs.Calls.{unless, result_map}
 use Rattle.bend_file.specs.Little.{over}
-use Rattle.bend_writer.specs.Steps.{Step, file, number}
-use Rattle.bend_writer.specs.declared.Written.{Written}
-use Rattle.bend_writer.specs.declared.Written.TheVariants as told
+use Rattle.bend_writer.specs.Steps.{Step, file, refusal}
+use Rattle.bend_writer.specs.declared.StepSize.{StepSize}
 
 -- ---- the steps that are lent, oldest first
 
@@ -23,26 +24,28 @@ step_at rows coords counts values k = record { rows = get_or rows k 0; coords = 
 unfoldable pub lent : ℕ → List ℕ → List ℕ → List ℕ → List Float → List Step
 lent steps rows coords counts values = tab (step_at rows coords counts values) steps
 
+-- the same of the steps' sizes
+abbrev pub pulled : List StepSize → List Float → List Step
+pulled l values =
+    lent (length l) (map (λ (s : StepSize). s.rows) l) (map (λ (s : StepSize). s.coords) l)
+    (map (λ (s : StepSize). s.count) l) values
+
 -- ---- the answer
 
--- a number and nothing else, or the file
-pub data Answer : Type 0 where
-  refused : ℕ → Answer
-  written : List ℕ → Answer
+-- the file, or a refusal and nothing else
+unfoldable pub answer : List Step → ℕ → Result (List ℕ) Refusal
+answer l room = unless (refusal l room) (file l)
 
-unfoldable pub answer : List Step → ℕ → Answer
-answer l room = cond (eqb (number l room) 0) (written (file l)) (refused (number l room))
-
-abbrev pub result : Answer → Written
-result (refused k) = told.Refused k
-result (written f) = told.Bytes (length f)
+-- how many bytes the file has
+abbrev pub result : Result (List ℕ) Refusal → Result ℕ Refusal
+result a = result_map length a
 
 -- the output afterwards: unchanged by a refusal, else with the file at its front
-abbrev pub left : Answer → List ℕ → List ℕ
-left (refused k) out = out
-left (written f) out = over f out
+abbrev pub left : Result (List ℕ) Refusal → List ℕ → List ℕ
+left (Err r) out = out
+left (Ok f) out = over f out
 
 -- what the writer ensures: its result and what it leaves in the output are those of the steps' answer
-pub record Writes (l : List Step) (r : Written) (out after : List ℕ) : Type 0 where
+pub record Writes (l : List Step) (r : Result ℕ Refusal) (out after : List ℕ) : Type 0 where
   pub result : r ≡ result (answer l (length out))
   pub output : after ≡ left (answer l (length out)) out

@@ -1,99 +1,69 @@
 // The rules that a pull keeps, in their order: 15, each step's 3 and 4, then 10. All of them are looked at before a
 // byte is written.
 ghost use Rattle.std.specs.Prelude.{◌≡◌, ◌≤◌, length};
+ghost use Rattle.refusals.specs.Calls.{unless};
 ghost use Rattle.bend_writer.specs.Steps as def;
 ghost use Rattle.bend_writer.specs.Private as private;
 ghost use Rattle.bend_writer.specs.Write as write;
 
-use crate::{Written, read};
+use crate::StepSize;
+use bend_file::chain::MAX_STEPS;
+use bend_file::{MAX_MOTION, MAX_ROWS};
+use refusals::Refusal;
 
-// The number of the first rule that a step of so many values breaks, or 0. The rows are looked at first: past that no
-// product is large.
-pub fn step_number(rows: usize, coords: usize, count: usize) -> u32
-    ensures { result ≡ def.ruled rows coords count }
-{
-    if rows > 32 {
-        return 3;
+// The most coordinates that the trailer's two bytes hold.
+const MAX_COORDS: usize = 65535;
+
+impl StepSize {
+    // The first rule that the step breaks, where so many values are left. The rows are looked at first: past that no
+    // product is large.
+    fn check(self, left: usize) -> Result<(), Refusal>
+        ensures { result ≡ unless (def.ruled self.rows self.coords (private.had self.count left)) tt }
+    {
+        if self.rows > MAX_ROWS
+            || self.coords > MAX_COORDS
+            || self.coords * self.rows > MAX_MOTION
+        {
+            return Err(Refusal::FileLimits);
+        }
+        if self.count > left
+            || self.count != self.rows * self.rows + 5 * self.rows + self.coords * self.rows + 1
+        {
+            return Err(Refusal::FileCount);
+        }
+        Ok(())
     }
-    if coords > 65535 {
-        return 3;
-    }
-    let moving = coords * rows;
-    if moving > 2048 {
-        return 3;
-    }
-    if count != rows * rows + 5 * rows + moving + 1 {
-        return 4;
-    }
-    0
 }
 
-// How many values a step has of which the list says `count`, where `left` are left: none where there are not so many.
-pub fn had(count: usize, left: usize) -> usize
-    ensures { result ≡ private.had count left }
-{
-    if count <= left {
-        return count;
-    }
-    0
-}
-
-// The steps' own rules: the number of the oldest step that breaks one, or the file's length.
-pub fn steps_checked(
-    steps: usize,
-    rows: &[usize],
-    coords: &[usize],
-    counts: &[usize],
-    values: &[f64],
-) -> Written
-    requires { steps ≤ 40 }
-    ensures { result ≡ private.checked
-        (write.lent steps rows.now coords.now counts.now values.now) }
+// The steps' own rules: the first that the oldest step breaks, or the file's length.
+fn steps_checked(steps: &[StepSize], values: &[f64]) -> Result<usize, Refusal>
+    requires { length steps.now ≤ 40 }
+    ensures { result ≡ private.checked (write.pulled steps.now values.now) }
 {
     let mut from = 0;
-    let mut i = 0;
-    while i < steps {
-        let count = read::number(counts, i);
-        let number = step_number(
-            read::number(rows, i),
-            read::number(coords, i),
-            had(count, values.len() - from),
-        );
-        if number > 0 {
-            return Written::Refused(number);
-        }
-        from += count;
-        i += 1;
+    for step in steps {
+        step.check(values.len() - from)?;
+        from += step.count;
     }
-    Written::Bytes(20 * steps + 8 * from)
+    Ok(20 * steps.len() + 8 * from)
 }
 
-// The number of the first rule that the pull breaks, or the file's length.
-pub fn checked(
-    steps: usize,
-    rows: &[usize],
-    coords: &[usize],
-    counts: &[usize],
-    values: &[f64],
-    room: usize,
-) -> Written
-    ensures { result ≡ write.result (write.answer
-        (write.lent steps rows.now coords.now counts.now values.now)
-        room) }
+// The first rule that the pull breaks, or the file's length.
+pub fn checked(steps: &[StepSize], values: &[f64], room: usize) -> Result<usize, Refusal>
+    ensures { result ≡ write.result (write.answer (write.pulled steps.now values.now) room) }
 {
-    if steps < 1 {
-        return Written::Refused(15);
+    if !several(steps.len()) {
+        return Err(Refusal::Steps);
     }
-    if steps > 40 {
-        return Written::Refused(15);
+    let bytes = steps_checked(steps, values)?;
+    if room < bytes {
+        return Err(Refusal::Short);
     }
-    match steps_checked(steps, rows, coords, counts, values) {
-        Written::Refused(number) => Written::Refused(number),
-        Written::Bytes(bytes) => {
-            if room < bytes {
-                return Written::Refused(10);
-            }
-            Written::Bytes(bytes)
-        }
-    }
+    Ok(bytes)
+}
+
+fn several(steps: usize) -> bool
+    ensures { result ≡ def.several steps }
+{
+    (1..=MAX_STEPS).contains(&steps)
 }

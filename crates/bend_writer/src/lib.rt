@@ -5,41 +5,32 @@
 ghost use Rattle.bend_writer.specs.Write as write;
 
 mod checks;
-mod put;
-mod read;
+mod lists;
 mod steps;
 
-// The steps of a pull, oldest first: the first `steps` places of each list. Step k has counts[k] values, the next ones
-// of those lent beside it.
+use bend_file::chain::MAX_STEPS;
+use refusals::Refusal;
+
+// A step as it is written: its rows and coordinates, and how many values it has.
 #[derive(Clone, Copy)]
-pub struct Pull {
-    pub steps: usize,
-    pub rows: [usize; 40],
-    pub coords: [usize; 40],
-    pub counts: [usize; 40],
+pub struct StepSize {
+    pub rows: usize,
+    pub coords: usize,
+    pub count: usize,
 }
 
-// What the writer answers: its number, or how many bytes the file has.
-#[derive(Clone, Copy)]
-pub enum Written {
-    Refused(u32),
-    Bytes(usize),
-}
-
-// Writes the pull's steps to the front of `out`. What lies past the file stays, and so does everything where the pull
-// is refused.
-pub fn write_chain(pull: Pull, values: &[f64], out: &mut [u8]) -> Written
-    ensures { write.Writes
-        (write.lent pull.steps pull.rows pull.coords pull.counts values.now)
-        result out.old out.new }
+// Writes a pull's steps, oldest first, to the front of `out`, and gives how many bytes the file has. The values of a
+// step are the next ones of those lent beside the steps. What lies past the file stays, and so does everything where
+// the pull is refused.
+pub fn write_chain(steps: &[StepSize], values: &[f64], out: &mut [u8]) -> Result<usize, Refusal>
+    ensures { write.Writes (write.pulled steps.now values.now) result out.old out.new }
 {
-    let rows = pull.rows;
-    let coords = pull.coords;
-    let counts = pull.counts;
-    write_steps(pull.steps, &rows, &coords, &counts, values, out)
+    let bytes = checks::checked(steps, values, out.len())?;
+    steps::put_steps(out, steps, values);
+    Ok(bytes)
 }
 
-// The same with the lists lent. A place past a list's end counts as 0.
+// The same of separate lists, as C lends them: the first `steps` places of each. A place past a list's end counts as 0.
 pub fn write_steps(
     steps: usize,
     rows: &[usize],
@@ -47,16 +38,20 @@ pub fn write_steps(
     counts: &[usize],
     values: &[f64],
     out: &mut [u8],
-) -> Written
+) -> Result<usize, Refusal>
     ensures { write.Writes
         (write.lent steps rows.now coords.now counts.now values.now)
         result out.old out.new }
 {
-    match checks::checked(steps, rows, coords, counts, values, out.len()) {
-        Written::Refused(number) => Written::Refused(number),
-        Written::Bytes(bytes) => {
-            steps::put_steps(out, steps, rows, coords, counts, values);
-            Written::Bytes(bytes)
-        }
+    if steps > MAX_STEPS {
+        return Err(Refusal::Steps);
     }
+    let mut sizes = [StepSize {
+        rows: 0,
+        coords: 0,
+        count: 0,
+    }; MAX_STEPS];
+    let sizes = &mut sizes[..steps];
+    lists::fill(sizes, rows, coords, counts);
+    write_chain(sizes, values, out)
 }

@@ -1,91 +1,60 @@
-// The steps of a pull, one after another.
-ghost use Rattle.std.specs.Prelude.{◌≡◌, ◌+◌, ◌*◌, ◌≤◌, length, take, drop};
+// The bytes of a pull's steps, one after another.
+ghost use Rattle.std.specs.Prelude.{◌≡◌, ◌+◌, ◌*◌, ◌≤◌, length, take};
+ghost use Rattle.std.specs.Int.{w64, to_le_bytes};
 ghost use Rattle.bend_file.specs.Little.{over};
-ghost use Rattle.bend_writer.specs.Bytes as bytes;
 ghost use Rattle.bend_writer.specs.Steps as def;
 ghost use Rattle.bend_writer.specs.Private as private;
 ghost use Rattle.bend_writer.specs.Write as write;
 
-use crate::{put, read};
+use crate::StepSize;
+use std::num::f64_to_bits_with_nan;
 
-// `count` values, from the place `from` on, one after another.
-pub fn put_values(out: &mut [u8], at: usize, values: &[f64], from: usize, count: usize)
-    requires { (at + 8 * count ≤ length out.old) × (from + count ≤ length values.now) }
-    ensures { private.Laid out.old at out.new
-        (bytes.patterns (take count (drop from values.now))) }
+// The N lowest bytes of x, the lowest first, from the place `at` on; and the place behind them.
+fn put<const N: usize>(out: &mut [u8], at: usize, x: u64) -> usize
+    requires { (N ≤ 8) × (at + N ≤ length out.old) }
+    ensures { (result ≡ at + N) × private.Laid out.old at out.new (take N (to_le_bytes w64 x)) }
 {
-    let mut i = 0;
-    while i < count {
-        put::put_f64(out, at + 8 * i, values[from + i]);
-        i += 1;
-    }
+    let end = at + N;
+    out[at..end].copy_from_slice(&x.to_le_bytes()[..N]);
+    end
 }
 
 // The mark 42 45 4E 44 is the number 444E4542.
-pub fn put_trailer(out: &mut [u8], at: usize, rows: usize, coords: usize, count: usize)
+fn put_trailer(out: &mut [u8], at: usize, step: StepSize) -> usize
     requires { at + 16 ≤ length out.old }
-    ensures { private.Laid out.old at out.new (def.trailer rows coords count) }
+    ensures { (result ≡ at + 16) × private.Laid out.old at out.new (def.trailer step.rows step.coords step.count) }
 {
-    put::put_u32(out, at, 4);
-    put::put_u16(out, at + 4, rows as u64);
-    put::put_u16(out, at + 6, coords as u64);
-    put::put_u32(out, at + 8, count as u64);
-    put::put_u32(out, at + 12, 0x444e_4542);
+    let at = put::<4>(out, at, 4);
+    let at = put::<2>(out, at, step.rows as u64);
+    let at = put::<2>(out, at, step.coords as u64);
+    let at = put::<4>(out, at, step.count as u64);
+    put::<4>(out, at, 0x444e_4542)
 }
 
-// A step that begins at `at`, where the previous step's trailer ends.
-pub fn put_step(
-    out: &mut [u8],
-    at: usize,
-    rows: usize,
-    coords: usize,
-    values: &[f64],
-    from: usize,
-    count: usize,
-)
-    requires { (at + (20 + 8 * count) ≤ length out.old) × (from + count ≤ length values.now) }
-    ensures { private.Laid out.old at out.new
+// A step that begins at `at`, where the previous step's trailer ends; and the place behind it.
+fn put_step(out: &mut [u8], at: usize, step: StepSize, values: &[f64]) -> usize
+    requires { (step.count ≡ length values.now) × (at + (20 + 8 * step.count) ≤ length out.old) }
+    ensures { (result ≡ at + (20 + 8 * step.count)) × private.Laid out.old at out.new
         (def.step_bytes at
-        (record { rows = rows; coords = coords; values = take count (drop from values.now) })) }
+        (record { rows = step.rows; coords = step.coords; values = values.now })) }
 {
-    put::put_u32(out, at, at as u64);
-    put_values(out, at + 4, values, from, count);
-    put_trailer(out, at + 4 + 8 * count, rows, coords, count);
+    let mut end = put::<4>(out, at, at as u64);
+    for value in values {
+        end = put::<8>(out, end, f64_to_bits_with_nan(*value));
+    }
+    put_trailer(out, end, step)
 }
 
 // All steps, oldest first, from the front of `out` on.
-pub fn put_steps(
-    out: &mut [u8],
-    steps: usize,
-    rows: &[usize],
-    coords: &[usize],
-    counts: &[usize],
-    values: &[f64],
-)
-    requires { private.Room
-        (write.lent steps rows.now coords.now counts.now values.now)
-        (length out.old) }
-    ensures { out.new ≡ over
-        (def.file
-        (write.lent steps rows.now coords.now counts.now values.now))
-        out.old }
+pub fn put_steps(out: &mut [u8], steps: &[StepSize], values: &[f64])
+    requires { private.Room (write.pulled steps.now values.now) (length out.old) }
+    ensures { out.new ≡ over (def.file (write.pulled steps.now values.now)) out.old }
 {
     let mut at = 0;
-    let mut from = 0;
-    let mut i = 0;
-    while i < steps {
-        let count = read::number(counts, i);
-        put_step(
-            out,
-            at,
-            read::number(rows, i),
-            read::number(coords, i),
-            values,
-            from,
-            count,
-        );
-        at += 20 + 8 * count;
-        from += count;
-        i += 1;
+    let mut left = values;
+    for step in steps {
+        let (own, behind) = left.split_at(step.count);
+        at = put_step(out, at, *step, own);
+        left = behind;
     }
 }

@@ -1,12 +1,10 @@
-use mathlib.Core.Path.{sym, ◌∙◌}
-use Rattle.bend_writer.proofs.Rules.{has_room, refusal-written, file-written}
+use lib.Seq.{length-take-le}
+use Rattle.bend_writer.proofs.Gathered.{pulled-same, too-many}
 use Rattle.bend_writer.proofs.write_steps.Goals as goal
 
-pub put_steps-requires : goal.put_steps-requires
-put_steps-requires c = has_room _ _ _ (sym c.in-Bytes.is ∙ c.checked.ensures)
+pub returns-then-steps-gt-MAX_STEPS : goal.returns-then-steps-gt-MAX_STEPS
+returns-then-steps-gt-MAX_STEPS c = too-many _ _ _ _ _ _ c.if-steps-gt-MAX_STEPS.true
 
-pub returns-in-Refused : goal.returns-in-Refused
-returns-in-Refused c = refusal-written _ _ _ (sym c.in-Refused.is ∙ c.checked.ensures)
-
-pub returns-in-Bytes : goal.returns-in-Bytes
-returns-in-Bytes c = file-written _ _ _ _ (sym c.in-Bytes.is ∙ c.checked.ensures) c.put_steps.ensures
+pub returns : goal.returns
+returns c =
+    rw (pulled-same _ _ _ _ _ _ c.fill.ensures _ (length-take-le _ _ c.if-steps-gt-MAX_STEPS.false)) at c.write_chain.ensures

@@ -1,36 +1,21 @@
-use native.Mathlib.Omega.{arith}
-use borrow.Author.Rules.{rules}
-use Rattle.bend_writer.proofs.Passes.{placed-start, placed-inside, placed-fits, placed-room, placed_again, placed_done}
+use Rattle.bend_writer.proofs.Passes.{sizes_start, size-own, size-fits, sizes_again, sizes_done}
 use Rattle.bend_writer.proofs.steps.put_steps.Goals as goal
 
-pub loop-i-init : goal.loop-i-init
-loop-i-init c = (search rules, search rules, placed-start _ _ _ _ _)
+pub loop-step-init : goal.loop-step-init
+loop-step-init c = sizes_start _ _ _
 
-pub put_step-requires : goal.put_step-requires
-put_step-requires c = placed-fits _ _ _ _ _ _ _ _ _ _ _ c.requires c.loop-i-test.true c.loop-i.invariant.2 c.number-count.ensures c.loop-i.invariant.1
+pub split_at-requires : goal.split_at-requires
+split_at-requires c = size-own _ _ _ _ _ _ _ c.requires c.loop-step-test.true c.loop-step.invariant
 
-pub overflow_mul-at : goal.overflow_mul-at
-overflow_mul-at c = let room = c.requires in
-    omega (arith, placed-room _ _ _ _ _ _ _ _ _ _ _ room c.loop-i-test.true c.loop-i.invariant.2 c.number-count.ensures)
+pub put_step-at-requires : goal.put_step-at-requires
+put_step-at-requires c =
+    rw c.split_at.ensures.front
+    (size-fits _ _ _ _ _ _ _ c.requires c.loop-step-test.true c.loop-step.invariant c.loop-step.auto.out)
 
-pub overflow_add-at : goal.overflow_add-at
-overflow_add-at c = let room = c.requires in
-    omega (arith, placed-room _ _ _ _ _ _ _ _ _ _ _ room c.loop-i-test.true c.loop-i.invariant.2 c.number-count.ensures)
-
-pub overflow_add-at-in-loop-i : goal.overflow_add-at-in-loop-i
-overflow_add-at-in-loop-i c = let room = c.requires in
-    omega (arith, placed-room _ _ _ _ _ _ _ _ _ _ _ room c.loop-i-test.true c.loop-i.invariant.2 c.number-count.ensures)
-
-pub overflow_add-from : goal.overflow_add-from
-overflow_add-from c = let room = c.requires in
-    omega (arith, placed-inside _ _ _ _ _ _ _ _ _ _ _ room c.loop-i-test.true c.loop-i.invariant.2 c.number-count.ensures)
-
-pub loop-i-preserved : goal.loop-i-preserved
-loop-i-preserved c = let room = c.requires in
-    let inv = c.loop-i.invariant.2 in
-    let count = c.number-count.ensures in
-    let step = c.put_step.ensures in
-    (search rules, search rules, placed_again _ _ _ _ _ _ _ _ _ _ _ room c.loop-i-test.true inv count _ _ _ c.number.ensures c.number-in-loop-i.ensures step)
+pub loop-step-preserved : goal.loop-step-preserved
+loop-step-preserved c =
+    rw (c.put_step-at.ensures.0, c.split_at.ensures.back)
+    (sizes_again _ _ _ _ _ _ _ c.requires c.loop-step-test.true c.loop-step.invariant _ (rw c.split_at.ensures.front at c.put_step-at.ensures.1))
 
 pub returns : goal.returns
-returns c = placed_done _ _ _ _ _ _ _ _ _ _ c.requires c.loop-i.invariant.2 c.loop-i.invariant.0 c.loop-i-test.false
+returns c = sizes_done _ _ _ _ _ _ _ c.requires c.loop-step.invariant c.loop-step.auto.step-index-end c.loop-step-test.false

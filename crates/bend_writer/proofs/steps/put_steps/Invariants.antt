@@ -1,12 +1,5 @@
-use Prim.Native.Nat.{◌≤◌, ◌-◌}
-use mathlib.Core.Path.{◌≡◌}
-use lib.ListN.{length}
-use Rattle.bend_writer.proofs.Passes.{Placed}
+use Rattle.bend_writer.proofs.Passes.{PlacedSizes}
 use Rattle.bend_writer.proofs.steps.put_steps.Given as goal
 
--- `bend_writer::steps::put_steps` meets its contract. Assumes nothing.
-abbrev pub invariant-loop-i : goal.invariant-loop-i
-invariant-loop-i l = (l.i ≤ l.steps) × (length l.out ≡ length l.initial.out) × Placed l.rows l.coords l.counts l.values l.initial.out l.i l.at l.from l.out
-
-abbrev pub decreases-loop-i : goal.decreases-loop-i
-decreases-loop-i l = l.steps - l.i
+abbrev pub invariant-loop-step : goal.invariant-loop-step
+invariant-loop-step l = PlacedSizes l.steps l.values l.initial.out l.step-index l.at l.left l.out
