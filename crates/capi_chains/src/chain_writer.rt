@@ -1,9 +1,9 @@
 // The writer of chained bend files, for C and Rust.
-ghost use Rattle.std.specs.Prelude.{◌≡◌, ◌≤◌, length};
+ghost use Rattle.std.specs.Prelude.{◌≡◌, length};
 ghost use Rattle.bend_writer.specs.Write as write;
 ghost use Rattle.capi_chains.specs.ChainWriter as def;
 
-use bend_writer::Written;
+use refusals::Refusal;
 
 // Whether coords and counts have a place for each of rows, and written has one.
 fn taken(rows: &[usize], coords: &[usize], counts: &[usize], written: &[usize]) -> bool
@@ -11,22 +11,7 @@ fn taken(rows: &[usize], coords: &[usize], counts: &[usize], written: &[usize]) 
         rows.now coords.now counts.now written.now }
 {
     let steps = rows.len();
-    (steps <= coords.len()) & (steps <= counts.len()) & (1 <= written.len())
-}
-
-// An answer left in the lent slice: 0, or the number of a refusal and nothing written.
-fn leave(answer: Written, written: &mut [usize]) -> u32
-    requires { 1 ≤ length written.old }
-    ensures { (result ≡ def.number answer)
-        × (written.new ≡ def.written_left answer written.old) }
-{
-    match answer {
-        Written::Refused(number) => number,
-        Written::Bytes(bytes) => {
-            written[0] = bytes;
-            0
-        }
-    }
+    steps <= coords.len() && steps <= counts.len() && 1 <= written.len()
 }
 
 // The steps of a pull as one file at the front of out: 0, and written[0] is its length; or the number of a refusal, and
@@ -48,9 +33,14 @@ pub extern "C" fn piskorlu_chain_write(
         (length out.old))
         result out.old out.new written.old written.new }
 {
-    if taken(rows, coords, counts, written) {
-        let answer = bend_writer::write_steps(rows.len(), rows, coords, counts, values, out);
-        return leave(answer, written);
+    if !taken(rows, coords, counts, written) {
+        return u32::from(Refusal::Short);
     }
-    10
+    match bend_writer::write_steps(rows.len(), rows, coords, counts, values, out) {
+        Err(refusal) => u32::from(refusal),
+        Ok(bytes) => {
+            written[0] = bytes;
+            0
+        }
+    }
 }

@@ -1,11 +1,13 @@
+use mathlib.Core.Path.{sym, ◌∙◌}
 use Rattle.capi_chains.proofs.ChainWriter.{has-place, not_taken, answered}
 use Rattle.capi_chains.proofs.chain_writer.piskorlu_chain_write.Goals as goal
 
-pub leave-requires : goal.leave-requires
-leave-requires c = has-place _ _ _ _ _ c.taken.ensures c.if-taken.true
+pub returns-then-not-taken : goal.returns-then-not-taken
+returns-then-not-taken c = rw c.from.ensures (not_taken _ _ _ _ (sym c.taken.ensures ∙ c.if-not-taken.true))
 
-pub returns-then-taken : goal.returns-then-taken
-returns-then-taken c = answered _ _ c.taken.ensures _ _ _ c.if-taken.true _ _ c.write_steps-answer.ensures _ _ c.leave.ensures.0 c.leave.ensures.1
+pub returns-in-Err : goal.returns-in-Err
+returns-in-Err c =
+    rw c.from-in-Err.ensures (answered _ _ _ _ (sym c.taken.ensures ∙ c.if-not-taken.false) _ _ (rw c.in-Err.is at c.write_steps.ensures))
 
-pub returns : goal.returns
-returns c = not_taken _ _ c.taken.ensures _ _ _ c.if-taken.false
+pub returns-in-Ok : goal.returns-in-Ok
+returns-in-Ok c = answered _ _ _ _ (sym c.taken.ensures ∙ c.if-not-taken.false) _ _ (rw c.in-Ok.is at c.write_steps.ensures)
