@@ -14,10 +14,6 @@ fn name_of(i: usize) -> InlineText<9> {
     InlineText::of(format_args!("{i:03}.chain"))
 }
 
-fn word(rt: &impl Print, text: &str, number: u64) -> io::Result<()> {
-    print!(rt; "{text}{number}")
-}
-
 // Where a step ends, its rows and coordinates, and the check sum of its buffers, the parts that stay 0 among them.
 fn step(rt: &impl Print, file: &[u8], k: usize, end: usize) -> io::Result<()> {
     let mut w = [0.0f64; 1024];
@@ -50,41 +46,33 @@ fn told(
     sum: u64,
 ) -> io::Result<()> {
     match reading {
-        Err(refusal) => word(rt, "  refused ", u32::from(refusal) as u64)?,
-        Ok(None) => word(rt, "  no step ", 0)?,
-        Ok(Some(Shape {
-            rows,
-            coords,
-            tolerance,
-        })) => {
-            word(rt, "  end ", end as u64)?;
-            word(rt, " rows ", rows as u64)?;
-            word(rt, " coords ", coords as u64)?;
-            word(rt, " sum ", sum::with(sum, tolerance))?;
+        Err(refusal) => println!(rt; "  refused {}", u32::from(refusal)),
+        Ok(None) => println!(rt; "  no step 0"),
+        Ok(
+            Some(
+                Shape {
+                    rows,
+                    coords,
+                    tolerance,
+                },
+            ),
+        ) => {
+            let sum = sum::with(sum, tolerance);
+            println!(rt; "  end {end} rows {rows} coords {coords} sum {sum}")
         }
     }
-    println!(rt)
 }
 
-// The number of a file's refusal, or its steps and the answer for one step more.
+// The number of a file's refusal, or its steps and the answer for one step more, where a pull may have it.
 fn file(rt: &impl Print, bytes: &[u8]) -> io::Result<()> {
     let found = match chain::steps(bytes) {
         Ok(found) => found,
-        Err(refusal) => {
-            word(rt, " refused ", u32::from(refusal) as u64)?;
-            return println!(rt);
-        }
+        Err(refusal) => return println!(rt; " refused {}", u32::from(refusal)),
     };
-    let count = found.count;
-    let ends = found.ends;
-    word(rt, " steps ", count as u64)?;
-    println!(rt)?;
-    let mut k = 0;
-    while k < 40 {
-        if k <= count {
-            step(rt, bytes, k, ends[k])?;
-        }
-        k += 1;
+    println!(rt; " steps {}", found.count)?;
+    let asked = found.count.saturating_add(1);
+    for (k, end) in found.ends.iter().enumerate().take(asked) {
+        step(rt, bytes, k, *end)?;
     }
     Ok(())
 }
@@ -94,11 +82,9 @@ fn take<R: Read + Drop>(mut file: R, buffer: &mut [u8]) -> usize
     ensures { result ≤ length buffer.new }
 {
     let mut done = 0;
-    while done < buffer.len() {
-        let got = file.read(&mut buffer[done..]).unwrap_or(0);
-        if got == 0 {
-            break;
-        }
+    while let Ok(got) = file.read(&mut buffer[done..])
+        && got > 0
+    {
         done += got;
     }
     done
@@ -112,21 +98,18 @@ fn replayed<R: Read + Drop>(
     buffer: &mut [u8],
 ) -> io::Result<()> {
     let got = take(opened, buffer);
-    word(rt, "", i as u64)?;
+    print!(rt; "{i}")?;
     file(rt, &buffer[..got])
 }
 
 // As many as there are, at most a thousand. The longest file is one byte longer than a chained bend file may be.
 pub fn replay(rt: &(impl Files + Print)) -> io::Result<()> {
     let mut buffer = [0u8; 1048578];
-    let mut i = 1;
-    while i < 1000 {
-        let name = name_of(i);
-        match fs::open(rt, name.as_str()) {
+    for i in 1..1000 {
+        match fs::open(rt, name_of(i).as_str()) {
             Ok(opened) => replayed(rt, opened, i, &mut buffer)?,
             Err(_) => break,
         }
-        i += 1;
     }
     Ok(())
 }
