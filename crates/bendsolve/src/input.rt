@@ -1,6 +1,4 @@
 // An input read to its end.
-ghost use Rattle.std.specs.Prelude.{◌≤◌, length, IfOk};
-
 use std::io;
 use std::io::Read;
 
@@ -19,21 +17,19 @@ impl From<io::Error> for Untaken {
     }
 }
 
-// Reads an input to its end, to the buffer's front; how many bytes it has.
-pub fn read(reader: &mut impl Read, buffer: &mut [u8]) -> Result<usize, Untaken>
-    ensures { IfOk result (λ n. n ≤ length buffer.new) }
-{
+// Reads an input to its end, to the buffer's front, and gives what it is.
+// A lent buffer in place of the Vec of `read_to_end`: nothing here allocates, so no want of memory has to be told of.
+pub fn read<'a>(reader: &mut impl Read, buffer: &'a mut [u8]) -> Result<&'a [u8], Untaken> {
     let mut done = 0;
     while done < buffer.len() {
         let more = reader.read(&mut buffer[done..])?;
         if more == 0 {
-            return Ok(done);
+            return Ok(&buffer[..done]);
         }
         done += more;
     }
-    if reader.read(&mut [0u8; 1])? == 0 {
-        Ok(done)
-    } else {
-        Err(Untaken::TooLong)
+    if reader.read(&mut [0u8; 1])? > 0 {
+        return Err(Untaken::TooLong);
     }
+    Ok(buffer)
 }

@@ -46,7 +46,7 @@ fn refuse(rt: &(impl Print + Eprint), refusal: Refusal) {
 fn main(rt: HostRuntime) {
     let mut buffer = [0u8; 65536];
     match input::read(&mut rt.stdin(), &mut buffer) {
-        Ok(count) => solve(&rt, &buffer[..count]),
+        Ok(file) => solve(&rt, file),
         Err(Untaken::TooLong) => refuse(&rt, Refusal::FileSize),
         Err(Untaken::Failed(error)) => fail(&rt, "bendsolve: standard input", error),
     }

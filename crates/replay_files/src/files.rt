@@ -1,6 +1,4 @@
 // The files 000.bend, 001.bend and so on, each beside what must be printed for it: 000.txt, 001.txt.
-ghost use Rattle.std.specs.Prelude.{◌≤◌, length};
-
 use std::fmt::InlineText;
 use std::io::Read;
 use std::rt::Files;
@@ -16,28 +14,25 @@ fn name_of_answer(i: usize) -> InlineText<7> {
 }
 
 // Reads a file until the buffer is full, the file ends or a read fails, and closes it.
-fn take<R: Read + Drop>(mut file: R, buffer: &mut [u8]) -> usize
-    ensures { result ≤ length buffer.new }
-{
+// A lent buffer in place of the Vec of `read_to_end`: nothing here allocates, so no want of memory has to be told of.
+fn take<R: Read + Drop>(mut file: R, buffer: &mut [u8]) -> &[u8] {
     let mut done = 0;
     while done < buffer.len() {
-        let got = file.read(&mut buffer[done..]).unwrap_or(0);
-        if got == 0 {
+        let more = file.read(&mut buffer[done..]).unwrap_or(0);
+        if more == 0 {
             break;
         }
-        done += got;
+        done += more;
     }
-    done
+    &buffer[..done]
 }
 
 // Reads what must be printed for file i; where its file cannot be opened, that is nothing.
-fn take_answer(rt: &impl Files, i: usize, buffer: &mut [u8]) -> usize
-    ensures { result ≤ length buffer.new }
-{
-    let Ok(file) = fs::open(rt, name_of_answer(i).as_str()) else {
-        return 0;
-    };
-    take(file, buffer)
+fn take_answer<'a>(rt: &impl Files, i: usize, buffer: &'a mut [u8]) -> &'a [u8] {
+    match fs::open(rt, name_of_answer(i).as_str()) {
+        Ok(file) => take(file, buffer),
+        Err(_) => &[],
+    }
 }
 
 // Whether something else is printed for the file than is stored.
@@ -49,10 +44,8 @@ fn differs(file: &[u8], stored: &[u8]) -> bool {
 
 // The same of file i, which is open.
 fn replayed<R: Read + Drop>(rt: &impl Files, file: R, i: usize, buffer: &mut [u8]) -> bool {
-    let got = take(file, buffer);
     let mut stored = [0u8; answer::ROOM + 1];
-    let wanted = take_answer(rt, i, &mut stored);
-    differs(&buffer[..got], &stored[..wanted])
+    differs(take(file, buffer), take_answer(rt, i, &mut stored))
 }
 
 fn report(rt: &impl Print, count: u64, differing: u64) -> io::Result<()> {
