@@ -1,5 +1,5 @@
 -- What the reader accepts is a bend file of the problem that it gives, and every bend file is accepted so.
-use Rattle.std.proofs.Common.{◌≡◌, ℕ, ◌+◌, ◌-◌, ◌*◌, ◌≤◌, true, leb, eqb, Option, Some, None, Result, Ok, Err, List, [], ◌∷◌, length, take, drop, arith, refl, sym, ◌∙◌, ap}
+use Rattle.std.proofs.Common.{◌≡◌, ℕ, ◌+◌, ◌-◌, ◌*◌, ◌≤◌, true, leb, eqb, None, Ok, Err, List, [], ◌∷◌, length, take, drop, arith, refl, sym, ◌∙◌, ap}
 use native.Mathlib.Nat.{mul-le-mul}
 use borrow.Author.Tests.{le-leb, leb-true, eq-eqb, eqb-true}
 use Rattle.loops.proofs.Every.{both_true}

@@ -1,5 +1,5 @@
 -- The step that a caller asks for: where the reader finds it, and that it is the step of the file's pull.
-use Rattle.std.proofs.Common.{◌≡◌, ℕ, ◌+◌, ◌*◌, ◌≤◌, ◌<◌, Bool, true, false, cond, leb, Option, Some, None, option_map, Result, Ok, Err, List, length, get_or, drop, replicate, map, arith, refl, sym, ◌∙◌, ap}
+use Rattle.std.proofs.Common.{◌≡◌, ℕ, ◌≤◌, ◌<◌, Bool, true, false, leb, Option, Some, None, option_map, Result, Ok, Err, List, length, get_or, drop, replicate, map, arith, refl, ◌∙◌, ap}
 use Rattle.std.specs.List.{slice_get}
 use Rattle.std.proofs.lemmas.Option.{slice_get-map, slice_get_past, slice_get-get_or}
 use lib.ListN.{get_or-append}

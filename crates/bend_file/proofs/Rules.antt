@@ -1,10 +1,9 @@
 -- What the reader's tests, one after another, say of the file.
-use Rattle.std.proofs.Common.{◌≡◌, ℕ, ◌+◌, ◌*◌, ◌≤◌, Bool, true, false, not, cond, leb, Option, Some, None, List, arith, ◌∙◌, ap}
+use Rattle.std.proofs.Common.{◌≡◌, ℕ, ◌+◌, ◌*◌, true, leb, List, ◌∙◌, ap}
 use native.Mathlib.Nat.{mul-le-mul}
-use borrow.Author.Tests.{leb-true, eq-eqb, ne_eqb}
+use borrow.Author.Tests.{leb-true}
 use Rattle.loops.proofs.Every.{both_true}
-use Rattle.refusals.specs.declared.Refusal.{Refusal}
-use Rattle.bend_file.specs.Trailer.{start, count, small, Small}
+use Rattle.bend_file.specs.Trailer.{count, small, Small}
 use Rattle.bend_file.specs.Private.{values_from}
 use Rattle.bend_file.specs.declared.trailer.Values.{Values}
 

@@ -1,5 +1,5 @@
 -- What the tests of a step, one after another, say of it; and a step that keeps its rules, both ways.
-use Rattle.std.proofs.Common.{◌≡◌, ℕ, ◌+◌, ◌-◌, ◌*◌, ◌≤◌, ◌<◌, Bool, true, false, not, cond, leb, eqb, Option, Some, None, Result, Ok, Err, List, length, arith, ◌∙◌, ap, sym}
+use Rattle.std.proofs.Common.{◌≡◌, ℕ, ◌+◌, ◌-◌, ◌*◌, ◌≤◌, ◌<◌, true, not, cond, leb, Option, Some, None, Ok, Err, List, length, arith, ◌∙◌, ap, sym}
 use Rattle.std.specs.Option.{SomeIff, ok_or}
 use borrow.Author.Tests.{le-leb, lt-leb, leb-true, eq-eqb, ne_eqb, eqb-true}
 use Rattle.loops.proofs.Every.{both_true}
@@ -8,11 +8,10 @@ use Rattle.refusals.specs.declared.Refusal.TheVariants.{FileCount, Link}
 use Rattle.refusals.specs.Calls.{unless}
 use Rattle.refusals.proofs.Calls.{taken, rule-kept, both-kept}
 use Rattle.bend_file.specs.Little.{u32}
-use Rattle.bend_file.specs.Trailer.{start, rows, coords, count, trailer_refusal}
+use Rattle.bend_file.specs.Trailer.{start, count, trailer_refusal}
 use Rattle.bend_file.specs.Chain.{span, link_at, link, inside, preceded, backward, reaching_from, link_refusal, step_refusal}
 use Rattle.bend_file.specs.Private.{Kept, values, step}
 use Rattle.bend_file.specs.declared.trailer.Values.{Values}
-use Rattle.bend_file.specs.declared.step.Step.{Step}
 use Rattle.bend_file.proofs.Accepted.{trailer-kept, trailer-kept_back}
 
 -- what a subtraction that may fail tells

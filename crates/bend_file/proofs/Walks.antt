@@ -1,5 +1,5 @@
 -- The walk from step to step, as the loop that makes it goes: at the start, after one more step, and each way it ends.
-use Rattle.std.proofs.Common.{◌≡◌, ℕ, suc, ◌+◌, ◌*◌, ◌≤◌, ◌<◌, Option, Some, None, Result, Ok, Err, List, [], ◌∷◌, ◌++◌, length, take, drop, replicate, add-one, arith, refl, sym, ◌∙◌, ap}
+use Rattle.std.proofs.Common.{◌≡◌, ℕ, suc, ◌+◌, ◌≤◌, ◌<◌, Some, None, Result, Ok, Err, List, [], ◌∷◌, ◌++◌, length, take, drop, replicate, add-one, arith, refl, sym, ◌∙◌, ap}
 use lib.ListN.{set, length-take, length-set, length-replicate, take-append-drop}
 use lib.Seq.{take-suc-set, drop-set-lt, drop-drop}
 use borrow.Author.Tests.{eq-eqb, ne_eqb}
@@ -11,7 +11,6 @@ use Rattle.refusals.proofs.Calls.{taken, refused}
 use Rattle.bend_file.specs.Little.{over}
 use Rattle.bend_file.specs.Chain.{link_at, link, step_refusal, at, ended, follow, passed, step, turn, walked, settled, ends, told}
 use Rattle.bend_file.specs.Private as private
-use Rattle.bend_file.specs.declared.chain.Chain.{Chain}
 use Rattle.bend_file.specs.declared.step.Step.{Step}
 use Rattle.bend_file.proofs.StepRules.{kept}
 

@@ -1,12 +1,12 @@
 -- Document 02's chained bend file: the rules of one step, the walk from step to step, and the steps that a file holds.
 -- Definitions only. A step is the bytes from the linked offset to `end`, where its trailer ends; the fields and the
 -- rules 2, 3 and 4's count rule are those of Trailer.antt.
-use Rattle.std.specs.Prelude.{ℕ, zero, suc, ◌+◌, ◌-◌, ◌*◌, ◌≡◌, Bool, not, cond, ◌&&◌, List, [], ◌∷◌, ◌++◌, map, leb, eqb, length, replicate, slice_get, Option, Some, None, option_map, Result, Ok, Err}
+use Rattle.std.specs.Prelude.{ℕ, ◌+◌, ◌-◌, ◌*◌, ◌≡◌, Bool, not, cond, ◌&&◌, List, [], ◌∷◌, ◌++◌, map, leb, eqb, length, replicate, slice_get, Option, Some, None, option_map, Result, Ok, Err}
 use Rattle.std.specs.Option.{option_or}
 use Rattle.loops.specs.Loops.{turns}
 use Rattle.refusals.specs.declared.Refusal.{Refusal}
 use Rattle.refusals.specs.declared.Refusal.TheVariants.{FileSize, FileCount, Short, Link, Steps}
-use Rattle.refusals.specs.Calls.{unless, result_map}
+use Rattle.refusals.specs.Calls.{result_map}
 use Rattle.bend_file.specs.Little.{u32, over}
 use Rattle.bend_file.specs.Trailer.{start, rows, coords, count, trailer_refusal}
 use Rattle.bend_file.specs.Read.{Problem, problem, shape, Lent, with_problem}

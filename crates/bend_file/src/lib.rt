@@ -10,10 +10,9 @@ mod little;
 mod step;
 mod trailer;
 
-pub use trailer::{MAX_MOTION, MAX_ROWS};
-
 use lent::Lent;
 use refusals::Refusal;
+pub use trailer::{MAX_MOTION, MAX_ROWS};
 
 // A problem's rows, coordinates and motion tolerance. Its other values are in the lent buffers.
 #[derive(Clone, Copy)]

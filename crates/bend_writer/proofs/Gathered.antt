@@ -1,5 +1,5 @@
 -- The steps of separate lists, and of the sizes that are gathered from them.
-use Rattle.std.proofs.Common.{◌≡◌, ℕ, zero, suc, ◌+◌, ◌≤◌, ◌<◌, true, false, List, [], ◌∷◌, ◌++◌, length, get_or, map, add-one, arith, Err, refl, sym, ◌∙◌, ap}
+use Rattle.std.proofs.Common.{◌≡◌, ℕ, zero, suc, ◌<◌, false, List, length, get_or, map, arith, Err, refl, ◌∙◌, ap}
 use lib.Ieee.{Float}
 use lib.ListN.{get_or-map}
 use borrow.Author.Tests.{lt-leb}
@@ -8,10 +8,10 @@ use Rattle.loops.specs.Loops.{tab, turns}
 use Rattle.loops.proofs.Fill.{tab-length, tab-at}
 use Rattle.refusals.specs.declared.Refusal.TheVariants.{Steps}
 use Rattle.bend_writer.specs.Private.{size}
-use Rattle.bend_writer.specs.Steps.{Step, several}
-use Rattle.bend_writer.specs.Write.{part, before, step_at, lent, pulled, Writes}
+use Rattle.bend_writer.specs.Steps.{several}
+use Rattle.bend_writer.specs.Write.{before, step_at, lent, pulled, Writes}
 use Rattle.bend_writer.specs.declared.StepSize.{StepSize}
-use Rattle.bend_writer.proofs.Passes.{zero_size, before_again, lent_length}
+use Rattle.bend_writer.proofs.Passes.{zero_size, lent_length}
 use Rattle.bend_writer.proofs.Rules.{not-several, refusal-written}
 
 tab-same : {A : Type 0} (f g : ℕ → A) (n : ℕ) → ((i : ℕ) → i < n → f i ≡ g i) → tab f n ≡ tab g n

@@ -1,5 +1,5 @@
 -- The two walks over the steps of a pull: the one that looks at the rules and the one that writes. What each knows after i steps, and after one more.
-use Rattle.std.proofs.Common.{◌≡◌, ℕ, zero, suc, ◌+◌, ◌-◌, ◌*◌, ◌≤◌, ◌<◌, Bool, true, false, cond, leb, Option, Some, None, Result, Ok, Err, List, [], length, get_or, map, take, drop, length-drop, add-one, arith, refl, sym, ◌∙◌}
+use Rattle.std.proofs.Common.{◌≡◌, ℕ, suc, ◌+◌, ◌-◌, ◌*◌, ◌≤◌, ◌<◌, Bool, true, false, cond, leb, None, Result, Ok, Err, List, [], length, get_or, map, take, drop, length-drop, add-one, arith, refl, sym, ◌∙◌}
 use native.Mathlib.Nat.{zero-add}
 use lib.Ieee.{Float}
 use lib.Seq.{sets-eq, drop-drop, length-take-le}

@@ -1,16 +1,15 @@
 -- What the writer's tests, one after another, say of a step and of a pull.
-use Rattle.std.proofs.Common.{◌≡◌, ℕ, ◌*◌, ◌≤◌, ◌<◌, Bool, true, false, not, cond, ◌&&◌, leb, eqb, Option, Some, None, Result, Ok, Err, List, length, arith, refl, sym, ◌∙◌, ap}
+use Rattle.std.proofs.Common.{◌≡◌, ℕ, ◌*◌, ◌≤◌, ◌<◌, Bool, true, false, cond, ◌&&◌, leb, eqb, Option, Some, None, Result, Ok, Err, List, length, arith, refl, sym, ◌∙◌}
 use mathlib.Core.Bool.{and-false}
 use native.Mathlib.Nat.{mul-le-mul}
 use borrow.Author.Tests.{le-leb, lt-leb, leb-true, eq-eqb, ne_eqb, eqb-true}
-use Rattle.std.specs.Option.{option_or}
 use Rattle.loops.proofs.Every.{both_true}
 use Rattle.refusals.specs.declared.Refusal.{Refusal}
 use Rattle.refusals.specs.declared.Refusal.TheVariants.{FileLimits, FileCount, Short, Steps}
 use Rattle.refusals.specs.Calls.{unless}
 use Rattle.refusals.proofs.Calls.{taken, refused, rule-kept, both-kept}
 use Rattle.bend_file.specs.Little.{over}
-use Rattle.bend_file.specs.Trailer.{small, wanted}
+use Rattle.bend_file.specs.Trailer.{wanted}
 use Rattle.bend_writer.specs.Private.{had, checked, Room}
 use Rattle.bend_writer.specs.Steps.{Step, file, fair, ruled, steps_refusal, several, refusal}
 use Rattle.bend_writer.specs.Write.{answer, result, left, Writes}

@@ -7,7 +7,7 @@ use Rattle.loops.specs.Lists.{same}
 use Rattle.refusals.specs.Numbers.{number}
 use Rattle.refusals.specs.declared.Refusal.{Refusal}
 use Rattle.bend_writer.specs.Bytes.{bytes16, bytes32, bytes64, pattern, patterns}
-use Rattle.bend_writer.specs.Steps.{trailer, step_bytes, chained, file, fair, ruled, step_refusal, steps_refusal, several, refusal}
+use Rattle.bend_writer.specs.Steps.{trailer, step_bytes, chained, file, fair, ruled, step_refusal, steps_refusal, refusal}
 use Rattle.bend_writer.specs.Write.{part, before, step_at, lent, answer, left}
 
 -- ---- what is lent, and what must come out

@@ -1,5 +1,5 @@
 -- From what the writer promises to what the exported call answers and leaves.
-use Rattle.std.proofs.Common.{◌≡◌, ℕ, ◌≤◌, Bool, true, false, ◌&&◌, leb, Result, List, length, refl, sym, ◌∙◌, ap}
+use Rattle.std.proofs.Common.{◌≡◌, ℕ, ◌≤◌, Bool, true, false, ◌&&◌, leb, Result, List, length, refl, ap}
 use borrow.Author.Tests.{leb-true}
 use Rattle.loops.proofs.Every.{both_true}
 use Rattle.refusals.specs.declared.Refusal.{Refusal}

@@ -1,5 +1,5 @@
 -- The calls on chained bend files: from what the reader answers to what the caller's slices hold.
-use Rattle.std.proofs.Common.{◌≡◌, ℕ, ◌+◌, ◌-◌, ◌≤◌, ◌<◌, Bool, true, false, eqb, Option, Some, None, Result, Ok, Err, List, ◌++◌, length, drop, replicate, arith, length-append, length-drop, refl, sym, ◌∙◌, ap}
+use Rattle.std.proofs.Common.{◌≡◌, ℕ, ◌≤◌, ◌<◌, Option, Result, Ok, Err, List, ◌++◌, length, drop, replicate, arith, length-append, length-drop, refl, ◌∙◌, ap}
 use mathlib.Core.Bool.{and-false}
 use lib.Ieee.{Float}
 use lib.ListN.{set, length-replicate}

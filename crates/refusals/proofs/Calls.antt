@@ -1,5 +1,5 @@
 -- What the answer of a call that may be refused tells of its rules, and two rules one after another.
-use Rattle.std.proofs.Common.{◌≡◌, refl, Bool, true, false, not, cond, Option, Some, None, Result, Ok, Err}
+use Rattle.std.proofs.Common.{◌≡◌, refl, Bool, true, false, not, cond, Option, Some, None, Ok, Err}
 use Rattle.std.specs.Option.{option_or}
 use Rattle.refusals.specs.declared.Refusal.{Refusal}
 use Rattle.refusals.specs.Calls.{unless}

@@ -1,7 +1,6 @@
 use mathlib.Core.Path.{◌≡◌}
 use native.Mathlib.Omega.{arith}
 use Rattle.bend_file.specs.Trailer.{wanted}
-use Rattle.bend_writer.specs.Private as private
 use Rattle.bend_writer.proofs.Rules.{had-all, had-none, many-rows, wide, much-motion, miscounted, kept}
 use Rattle.bend_writer.proofs.StepSize.check.Goals.{then-self-gt-MAX_ROWS-via-then-self-gt-MAX_ROWS, then-self-gt-MAX_ROWS-via-else-self-gt-MAX_ROWS+then-self-gt-MAX_COORDS, then-self-gt-MAX_ROWS-via-else-self-gt-MAX_ROWS+else-self-gt-MAX_COORDS+then-self-gt-MAX_MOTION, then-self-left-via-then-self-left, then-self-left-via-else-self-left+then-self}
 use Rattle.bend_writer.proofs.StepSize.check.Goals as goal

@@ -1,4 +1,3 @@
-use Rattle.std.proofs.Common.{◌≡◌, Err}
 use native.Mathlib.Omega.{arith}
 use borrow.Author.Rules.{rules}
 use Rattle.bend_writer.proofs.Passes.{seen_start, size-refused, size-inside, size_again, seen_done}

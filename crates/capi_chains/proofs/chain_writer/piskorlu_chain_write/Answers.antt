@@ -1,5 +1,5 @@
 use mathlib.Core.Path.{sym, ◌∙◌}
-use Rattle.capi_chains.proofs.ChainWriter.{has-place, not_taken, answered}
+use Rattle.capi_chains.proofs.ChainWriter.{not_taken, answered}
 use Rattle.capi_chains.proofs.chain_writer.piskorlu_chain_write.Goals as goal
 
 pub returns-then-not-taken : goal.returns-then-not-taken
