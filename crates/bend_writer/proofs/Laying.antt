@@ -26,10 +26,6 @@ reading p e = rw e at p
 
 -- ---- lengths
 
-pub length16 : (x : ℕ) → length (bytes16 x) ≡ 2
-unfolding bytes16
-length16 x = refl
-
 pub length32 : (x : ℕ) → length (bytes32 x) ≡ 4
 unfolding bytes32 bytes16
 length32 x = refl

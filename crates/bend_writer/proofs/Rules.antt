@@ -19,9 +19,6 @@ use Rattle.bend_writer.specs.Write.{answer, result, left, Writes}
 pub square-fits : (n : ℕ) → n ≤ 32 → n * n ≤ 1024
 square-fits n h = mul-le-mul h h
 
-pub moving-fits : (n c : ℕ) → n ≤ 32 → c ≤ 65535 → c * n ≤ 65535 * 32
-moving-fits n c h k = mul-le-mul k h
-
 pub had-all : (count left : ℕ) → count ≤ left → had count left ≡ count
 unfolding had
 had-all count left h = rw (le-leb count left h)

@@ -7,9 +7,6 @@ use Rattle.bend_writer.specs.Steps.{Step}
 use Rattle.bend_writer.specs.Write as write
 use Rattle.capi_chains.specs.ChainWriter as def
 
-pub has-place : (rows coords counts written : List ℕ) → def.taken rows coords counts written ≡ true → 1 ≤ length written
-has-place rows coords counts written h = leb-true 1 (length written) (both_true (leb (length rows) (length coords) && leb (length rows) (length counts)) (leb 1 (length written)) h).1
-
 module _ (taken : Bool) (l : List Step) (out written : List ℕ) where
   pub not_taken : taken ≡ false → def.Answered (def.reply taken l (length out)) 10 out out written written
   unfolding def.reply
