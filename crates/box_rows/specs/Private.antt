@@ -1,6 +1,6 @@
 -- Words of private contracts, here and in the crates above: what they are lent. No promise of a public call stands
 -- on them. Definitions only.
-use Rattle.std.specs.Prelude.{ℕ, ◌+◌, ◌*◌, ◌≤◌, ◌<◌, ◌≡◌, Bool, not, cond, ◌&&◌, leb, List, eqb, length, Float}
+use Rattle.std.specs.Prelude.{ℕ, ◌+◌, ◌*◌, ◌≤◌, ◌<◌, ◌≡◌, Bool, cond, ◌&&◌, leb, Some, List, eqb, length, Float}
 use Rattle.std.specs.Float.Ieee.{lt}
 use Rattle.loops.specs.Loops.{counted, noted}
 use Rattle.floats.specs.Ops.{at, 0ᶠ}
@@ -8,6 +8,7 @@ use Rattle.floats.specs.Helpers.{larger}
 use Rattle.floats.specs.declared.Clamped.{Clamped}
 use Rattle.box_rows.specs.declared.Row.{Row}
 use Rattle.box_rows.specs.declared.Blocking.{Blocking}
+use Rattle.box_rows.specs.declared.RowState.{RowState}
 use Rattle.box_rows.specs.Rows.{Problem, MAX_ROWS, size, row, row_sum, update, update_side}
 
 -- where a row's update puts its multiplier, and the side at which it is stopped
@@ -16,8 +17,9 @@ pub record Updated (row : Row) (r : Clamped) : Type 0 where
   pub side : r.side ≡ update_side row.nu row.u row.diagonal row.lo row.hi
 
 -- the part of `ratio_row` for one bound
-unfoldable pub nearer : ℕ → ℕ → Float → Blocking → Blocking
-nearer a s ratio r = cond (lt ratio r.alpha) (record { alpha = larger ratio 0ᶠ; row = a; state = s }) r
+unfoldable pub nearer : ℕ → RowState → Float → Blocking → Blocking
+nearer a s ratio r =
+    cond (lt ratio r.alpha) (record { alpha = larger ratio 0ᶠ; block = Some (record { row = a; state = s }) }) r
 
 -- what A says of the lists, and that i is one of n rows
 pub record AtRow (A : Type 0) (n i : ℕ) : Type 0 where

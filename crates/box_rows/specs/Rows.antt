@@ -1,12 +1,14 @@
 -- The rows of a box problem, by document 01 and boxed.rs: the problem, a row's state, its update, its natural
 -- residual, its sum, and its part in an exact pass and in a ray. Definitions only.
-use Rattle.std.specs.Prelude.{ℕ, ◌+◌, ◌*◌, Bool, false, not, cond, ◌&&◌, ◌||◌, List, [], ◌∷◌, Option, eqb, get_or, length, Float}
+use Rattle.std.specs.Prelude.{ℕ, ◌+◌, ◌*◌, Bool, false, not, cond, Some, ◌&&◌, ◌||◌, List, [], ◌∷◌, Option, eqb, get_or, length, Float}
 use Rattle.std.specs.Float.Ieee.{lt, le, eq}
 use Rattle.loops.specs.Loops.{tab}
 use Rattle.floats.specs.Ops.{◌⊕◌, ◌⊖◌, ◌⊗◌, ◌⊘◌, at, 0ᶠ, 1e-9, ∞, −∞}
 use Rattle.floats.specs.Helpers.{clamp, side, abs, larger, nan_test, is_finite}
 use Rattle.floats.specs.declared.Side.{Side}
 use Rattle.box_rows.specs.declared.Blocking.{Blocking}
+use Rattle.box_rows.specs.declared.RowState.{RowState}
+use Rattle.box_rows.specs.declared.RowState.TheVariants.{AtLo, AtHi}
 
 -- ---- the problem, of at most 32 rows
 
@@ -101,9 +103,10 @@ residual_at p nu i =
 
 unfoldable pub ratio_row : ℕ → Float → Float → Float → Float → Blocking → Blocking
 ratio_row a v y lo hi r =
-    let nearer : ℕ → Float → Blocking =
-    λ (s : ℕ) (ratio : Float). cond (lt ratio r.alpha) (record { alpha = larger ratio 0ᶠ; row = a; state = s }) r in
-    cond (lt 0ᶠ y) (nearer at_hi ((hi ⊖ v) ⊘ y)) (cond (lt y 0ᶠ) (nearer at_lo ((lo ⊖ v) ⊘ y)) r)
+    let nearer : RowState → Float → Blocking =
+    λ (s : RowState) (ratio : Float).
+    cond (lt ratio r.alpha) (record { alpha = larger ratio 0ᶠ; block = Some (record { row = a; state = s }) }) r in
+    cond (lt 0ᶠ y) (nearer AtHi ((hi ⊖ v) ⊘ y)) (cond (lt y 0ᶠ) (nearer AtLo ((lo ⊖ v) ⊘ y)) r)
 
 -- ---- a row of a ray: how far it moves along its y, over its scale s, and whether it may grow without end along y
 

@@ -56,13 +56,18 @@ pub struct Row {
     pub hi: f64,
 }
 
-// How far the boxes let a step go, and the row that blocks it with its state there: INSIDE is no row. The state is a
-// whole word: a byte would have the compiler copy what fills up the struct, row by row.
+// The row that blocks a step, and its state there.
+#[derive(Clone, Copy)]
+pub struct Block {
+    pub row: usize,
+    pub state: RowState,
+}
+
+// How far the boxes let a step go, and what blocks it, if a row does.
 #[derive(Clone, Copy)]
 pub struct Blocking {
     pub alpha: f64,
-    pub row: usize,
-    pub state: usize,
+    pub block: Option<Block>,
 }
 
 // Where a row's update puts its multiplier, and the side at which it is stopped.
@@ -141,16 +146,15 @@ pub fn pushed(state: u8, u: f64) -> bool
     }
 }
 
-// Row a blocks the step in that state, if its ratio is the smaller.
+// The row blocks the step in that state, if its ratio is the smaller.
 #[tactic(auto, unfolding(crate::specs::Private::nearer))]
-fn nearer(a: usize, state: usize, ratio: f64, r: Blocking) -> Blocking
-    ensures { result ≡ private.nearer a state ratio r }
+fn nearer(row: usize, state: RowState, ratio: f64, r: Blocking) -> Blocking
+    ensures { result ≡ private.nearer row state ratio r }
 {
     if ratio < r.alpha {
         return Blocking {
             alpha: floats::larger(ratio, 0.0),
-            row: a,
-            state,
+            block: Some(Block { row, state }),
         };
     }
     r
@@ -162,10 +166,10 @@ pub fn ratio_row(a: usize, v: f64, y: f64, lo: f64, hi: f64, r: Blocking) -> Blo
     ensures { result ≡ box.ratio_row a v y lo hi r }
 {
     if y > 0.0 {
-        return nearer(a, AT_HI as usize, (hi - v) / y, r);
+        return nearer(a, RowState::AtHi, (hi - v) / y, r);
     }
     if y < 0.0 {
-        return nearer(a, AT_LO as usize, (lo - v) / y, r);
+        return nearer(a, RowState::AtLo, (lo - v) / y, r);
     }
     r
 }

@@ -71,7 +71,8 @@ impl<'a> BoxProblem<'a> {
         let row = self.row(i);
         Row {
             nu: nu[i],
-            u: row_sum(row, self.u_free[i], nu),
+            // as many multipliers as entries, so that the sum's loop has one end
+            u: row_sum(row, self.u_free[i], &nu[..row.len()]),
             diagonal: row[i],
             lo: self.lo[i],
             hi: self.hi[i],

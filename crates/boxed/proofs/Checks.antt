@@ -91,18 +91,10 @@ found-ran (infeasible l t) nu st rows e v st' rows' h c i = absurd (cc)
 failed-ran : (x : Pass) (nu : List Float) (st rows : List ℕ) (e : Exact) (v : List Float) (st' rows' : List ℕ) (h : Passed x rows e v st' rows') (c : Counts)
     → e ≡ exact.Failed → PassRan x nu st rows e v st' rows' h c None nu
 unfolding solve.passed
-failed-ran (moved t) nu st rows e v st' rows' h c i = absurd (cc)
+failed-ran (moved t) nu st rows e v st' rows' h c i = record { answer = refl; reached = ap (λ (q : Trial). solve.iterate nu q.states c) h.tried; listed = h.listed }
 failed-ran (found t) nu st rows e v st' rows' h c i = absurd (cc)
 failed-ran (failed t) nu st rows e v st' rows' h c i = record { answer = refl; reached = ap (λ (q : Trial). solve.iterate nu q.states c) h.tried; listed = h.listed }
 failed-ran (infeasible l t) nu st rows e v st' rows' h c i = absurd (cc)
-
-moved-ran : (x : Pass) (nu : List Float) (st rows : List ℕ) (e : Exact) (v : List Float) (st' rows' : List ℕ) (h : Passed x rows e v st' rows') (c : Counts)
-    → e ≡ exact.Moved → PassRan x nu st rows e v st' rows' h c None nu
-unfolding solve.passed
-moved-ran (moved t) nu st rows e v st' rows' h c i = record { answer = refl; reached = ap (λ (q : Trial). solve.iterate nu q.states c) h.tried; listed = h.listed }
-moved-ran (found t) nu st rows e v st' rows' h c i = absurd (cc)
-moved-ran (failed t) nu st rows e v st' rows' h c i = absurd (cc)
-moved-ran (infeasible l t) nu st rows e v st' rows' h c i = absurd (cc)
 
 infeasible-ran : (x : Pass) (nu : List Float) (st rows : List ℕ) (e : Exact) (v : List Float) (st' rows' : List ℕ) (h : Passed x rows e v st' rows') (c : Counts)
     → (k : ℕ) → e ≡ exact.Infeasible k → PassRan x nu st rows e v st' rows' h c (Some (ended.Infeasible cause.Pass k)) nu
@@ -154,9 +146,6 @@ module _ (p : box.Problem) (sized : Sized (box.size p) p.w p.lo p.hi p.scale) (s
 
     pub attempt-failed : e ≡ exact.Failed → AttemptWorked None nu' c
     attempt-failed i = rw restored (record { ran = failed-ran (exact_pass p st nu) nu st rows e v st' rows' ran c i; workspace = kept.beyond })
-
-    pub attempt-moved : e ≡ exact.Moved → AttemptWorked None nu' c
-    attempt-moved i = rw restored (record { ran = moved-ran (exact_pass p st nu) nu st rows e v st' rows' ran c i; workspace = kept.beyond })
 
     pub attempt-infeasible : (k : ℕ) → e ≡ exact.Infeasible k → AttemptWorked (Some (ended.Infeasible cause.Pass k)) nu' c
     attempt-infeasible k i = rw restored (record { ran = infeasible-ran (exact_pass p st nu) nu st rows e v st' rows' ran c k i; workspace = kept.beyond })

@@ -12,7 +12,7 @@ use Rattle.loops.proofs.Fill.{tab-length}
 use Rattle.floats.specs.Ops.{1e-9}
 use Rattle.box_rows.specs.Rows as box
 use Rattle.exact_pass.specs.Ray.{ray}
-use Rattle.exact_pass.specs.Promise.{fits, ray_reply, Front}
+use Rattle.exact_pass.specs.Promise.{fits, ray_reply, count_of, Front}
 use Rattle.std.specs.Prelude.{Option, Some, None}
 use Rattle.boxed.specs.Sweep as sweep
 use Rattle.boxed.specs.Private as private
@@ -28,16 +28,24 @@ use Rattle.boxed.specs.declared.Ended.TheVariants.{Converged, Infeasible}
 
 -- ---- rows that fight end a solve, and none do not: they are k at the front of what was rows
 
-module _ (a : Cause) (nu : List Float) (st rows : List ℕ) (k : ℕ) (rows' : List ℕ) where
-  pub none_fight : (l : List ℕ) → Front l rows k rows' → k ≡ 0 → (c : Counts) → Ran (solve.unless a (iterate nu st c) l) rows None nu st c rows'
-  unfolding solve.unless
-  none_fight [] f h c = record { answer = refl; reached = refl; listed = f.front }
-  none_fight (b ∷ l) f h c = absurd (omega (arith, f.count, h))
+pub none_counted : (l : List ℕ) → length l ≡ 0 → None ≡ count_of l
+none_counted [] e = refl
+none_counted (b ∷ l) e = absurd (omega arith)
 
-  pub some_fight : (l : List ℕ) → Front l rows k rows' → (k ≡ 0 → ⊥) → (c : Counts) → Ran (solve.unless a (iterate nu st c) l) rows (Some (Infeasible a k)) nu st c rows'
+pub some_counted : (l : List ℕ) (k : ℕ) → k ≡ length l → (k ≡ 0 → ⊥) → Some k ≡ count_of l
+some_counted [] k e h = absurd (h e)
+some_counted (b ∷ l) k e h = ap Some e
+
+module _ (a : Cause) (nu : List Float) (st rows rows' : List ℕ) where
+  pub none_fight : (l : List ℕ) → Front l rows None rows' → (c : Counts) → Ran (solve.unless a (iterate nu st c) l) rows None nu st c rows'
   unfolding solve.unless
-  some_fight [] f h c = absurd (h f.count)
-  some_fight (b ∷ l) f h c = record { answer = ap (λ j. Some (Infeasible a j)) f.count; reached = refl; listed = f.front }
+  none_fight [] f c = record { answer = refl; reached = refl; listed = f.front }
+  none_fight (b ∷ l) f c = cc (f.count)
+
+  pub some_fight : (l : List ℕ) (k : ℕ) → Front l rows (Some k) rows' → (c : Counts) → Ran (solve.unless a (iterate nu st c) l) rows (Some (Infeasible a k)) nu st c rows'
+  unfolding solve.unless
+  some_fight [] k f c = cc (f.count)
+  some_fight (b ∷ l) k f c = record { answer = let e : k ≡ length (b ∷ l) = cc (f.count) in ap (λ j. Some (Infeasible a j)) e; reached = refl; listed = f.front }
 
 -- ---- lists of the problem's lengths are none that the ray refuses
 
@@ -62,7 +70,7 @@ unfolding private.change
 change-length nu before n = tab-length (private.change_at nu before) n
 
 module _ {p : box.Problem} (sized : Sized (box.size p) p.w p.lo p.hi p.scale) {st : List ℕ} {nu before : List Float} {rows : List ℕ} (lent : TestLists p st nu before rows)
-    (y z : List Float) (e : y ≡ private.change nu before (length nu)) (k : ℕ) (rows' : List ℕ)
+    (y z : List Float) (e : y ≡ private.change nu before (length nu)) (k : Option ℕ) (rows' : List ℕ)
     (f : Front (ray_reply p st (take (length nu) (y ++ z)) rows) rows k rows') where
   abbrev fighting : List ℕ
   fighting = ray p st (private.change nu before (box.size p))
@@ -77,11 +85,11 @@ module _ {p : box.Problem} (sized : Sized (box.size p) p.w p.lo p.hi p.scale) {s
       let fit = all_fit p sized st c rows lent.sweep.lists.states (change-length nu before (box.size p)) lent.listed in
       rw (direction, fit) at f
 
-  pub no-ray : k ≡ 0 → (c : Counts) → Ran (solve.unless cause.Sweep (iterate nu st c) fighting) rows None nu st c rows'
-  no-ray h = none_fight cause.Sweep nu st rows k rows' fighting ray-front h
+  pub no-ray : k ≡ None → (c : Counts) → Ran (solve.unless cause.Sweep (iterate nu st c) fighting) rows None nu st c rows'
+  no-ray h = none_fight cause.Sweep nu st rows rows' fighting (rw h at ray-front)
 
-  pub some-ray : (k ≡ 0 → ⊥) → (c : Counts) → Ran (solve.unless cause.Sweep (iterate nu st c) fighting) rows (Some (Infeasible cause.Sweep k)) nu st c rows'
-  some-ray h = some_fight cause.Sweep nu st rows k rows' fighting ray-front h
+  pub some-ray : (j : ℕ) → k ≡ Some j → (c : Counts) → Ran (solve.unless cause.Sweep (iterate nu st c) fighting) rows (Some (Infeasible cause.Sweep j)) nu st c rows'
+  some-ray j h = some_fight cause.Sweep nu st rows rows' fighting j (rw h at ray-front)
 
 -- ---- the tests: v is the motion, and r the residual
 

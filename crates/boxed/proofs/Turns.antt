@@ -13,7 +13,7 @@ use Rattle.boxed.specs.Solve as solve
 use Rattle.boxed.specs.Solve.{Run, going, ended, exact, converged, conflict, Iterate, iterate, Watch}
 use Rattle.boxed.specs.Private.{BEFORE, SOLVE_END, TurnLent, Swept, Ran, Worked, Counted}
 use Rattle.boxed.proofs.Checks.{keeping, Keeps, keeps}
-use Rattle.boxed.proofs.Testing.{none_fight, some_fight}
+use Rattle.boxed.proofs.Testing.{none_counted, some_counted, none_fight, some_fight}
 use Rattle.boxed.specs.declared.Cause.TheVariants as cause
 use Rattle.boxed.specs.declared.Counts.{Counts}
 use Rattle.boxed.specs.declared.Ended.{Ended}
@@ -65,9 +65,13 @@ module _ (cap : ℕ) (m : Watch) (i : ℕ) {p : box.Problem} {nu : List Float} {
   unfolding solve.turn
   turn_is = rw (long ∙ lent.check.lent.lists.multipliers, add-one n.sweeps, swept.stopped, swept.multipliers)
 
-  front : Front fighting rows k rows₁
+  none_front : k ≡ 0 → Front fighting rows None rows₁
   unfolding private.is_grown
-  front = record { count = grew.count; front = grew.front }
+  none_front h = record { count = none_counted fighting (sym grew.count ∙ h); front = grew.front }
+
+  some_front : (k ≡ 0 → ⊥) → Front fighting rows (Some k) rows₁
+  unfolding private.is_grown
+  some_front h = record { count = some_counted fighting k grew.count h; front = grew.front }
 
   -- the workspace after the sweep: the multipliers before it are past what a pass uses
   abbrev work₁ : List Float
@@ -78,7 +82,7 @@ module _ (cap : ℕ) (m : Watch) (i : ℕ) {p : box.Problem} {nu : List Float} {
 
   pub turn-grown : (k ≡ 0 → ⊥) → TurnCounted (Some (Infeasible cause.Growth k)) nu₁ st c rows₁ work₁
   turn-grown h =
-      let r : Ran after rows (Some (Infeasible cause.Growth k)) nu₁ st c rows₁ = some_fight cause.Growth nu₁ st rows k rows₁ fighting front h c in
+      let r : Ran after rows (Some (Infeasible cause.Growth k)) nu₁ st c rows₁ = some_fight cause.Growth nu₁ st rows rows₁ fighting k (some_front h) c in
       record {
         worked = record {
           ran = rw (turn_is, checked-ended rows nu₁ st c rows₁ (Infeasible cause.Growth k) cap p after r, tested-ended rows nu₁ st c rows₁ (Infeasible cause.Growth k) p m nu after r) r;
@@ -89,7 +93,7 @@ module _ (cap : ℕ) (m : Watch) (i : ℕ) {p : box.Problem} {nu : List Float} {
       }
 
   none-grown : k ≡ 0 → (after ≡ going (iterate nu₁ st c)) × (rows₁ ≡ rows)
-  none-grown h = goes_on rows nu₁ st c rows₁ after (none_fight cause.Growth nu₁ st rows k rows₁ fighting front h c)
+  none-grown h = goes_on rows nu₁ st c rows₁ after (none_fight cause.Growth nu₁ st rows rows₁ fighting (none_front h) c)
 
   -- no row is grown, and the check has come to this
   module _ (none : k ≡ 0) {e : Option Ended} {nu₂ : List Float} {st₂ : List ℕ} {c₂ : Counts} {rows₂ : List ℕ} {work₂ : List Float}

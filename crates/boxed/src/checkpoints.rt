@@ -35,11 +35,8 @@ fn attempt(
 {
     let e = exact_pass::WORKSPACE + nu.len();
     work[exact_pass::WORKSPACE..e].copy_from_slice(nu);
-    let ended = match exact_pass::exact_pass(
-        p.w, p.u_free, p.lo, p.hi, p.scale, states, nu, rows, work,
-    ) {
+    let ended = match exact_pass::pass_of(p, states, nu, rows, work) {
         Exact::Found => return Some(Ended::Exact),
-        Exact::Moved => None,
         Exact::Failed => None,
         Exact::Infeasible(k) => Some(Ended::Infeasible(Cause::Pass, k)),
     };

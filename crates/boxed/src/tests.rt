@@ -89,10 +89,7 @@ fn ray_test(
     let n = nu.len();
     let mut y = [0.0f64; box_rows::MAX_ROWS];
     change(nu, before, &mut y[..n]);
-    let k = exact_pass::ray(p.w, p.u_free, p.lo, p.hi, p.scale, states, &y[..n], rows);
-    if k == 0 {
-        return None;
-    }
+    let k = exact_pass::ray_of(p, states, &y[..n], rows)?;
     Some(Ended::Infeasible(Cause::Sweep, k))
 }
 

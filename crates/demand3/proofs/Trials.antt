@@ -21,7 +21,12 @@ use Rattle.exact_pass.specs.Ray.{ray}
 use Rattle.exact_pass.specs.Pass as pass
 use Rattle.exact_pass.specs.Pass.{Trial, trial, Pass, moved, found, failed, infeasible, free_rows, exact_pass}
 use Rattle.exact_pass.specs.Private.{free_step, release_row, start_row, started, take_step, unbounded, worse, worst_row}
+use Rattle.box_rows.specs.States.{byte}
+use Rattle.box_rows.specs.declared.Block.{Block}
 use Rattle.box_rows.specs.declared.Blocking.{Blocking}
+use Rattle.box_rows.specs.declared.RowState.{RowState}
+use Rattle.box_rows.specs.declared.RowState.TheVariants.{AtLo, AtHi}
+use Rattle.std.proofs.Common.{Option, Some, None}
 use Rattle.exact_pass.specs.declared.Worst.{Worst}
 use Rattle.demand3.specs.Claims.{first_tried, free_in, direction_of, direction_at, target_of, step_length, LastStep}
 use Rattle.demand3.proofs.Rays.{ActsUnlimited, ray-gathered}
@@ -176,34 +181,34 @@ advanced_tries p base t y alpha h =
 
 -- ---- the row that blocks a step is free
 
-data Blocks (p : Problem) (st : List ℕ) (r : Blocking) : Type 0 where
-  nowhere : r.state ≡ 0 → Blocks p st r
-  there : (r.state ≡ 0 → ⊥) → r.state ≤ 2 → r.row < size p → state st r.row ≡ 0 → Blocks p st r
+abbrev Blocks : Problem → List ℕ → Option Block → Type 0
+Blocks p st None = Unit {0}
+Blocks p st (Some b) = (byte b.state ≤ 2) × (b.row < size p) × (state st b.row ≡ 0)
 
 module _ (p : Problem) (st : List ℕ) where
-  nearer_blocks : (a s : ℕ) (ratio : Float) (r : Blocking) → (s ≡ 0 → ⊥) → s ≤ 2 → a < size p → state st a ≡ 0 → Blocks p st r → Blocks p st (nearer a s ratio r)
+  nearer_blocks : (a : ℕ) (s : RowState) (ratio : Float) (r : Blocking) → byte s ≤ 2 → a < size p → state st a ≡ 0 → Blocks p st r.block → Blocks p st (nearer a s ratio r).block
   unfolding nearer
-  nearer_blocks a s ratio r n few b e h = go (lt ratio r.alpha)
+  nearer_blocks a s ratio r few b e h = go (lt ratio r.alpha)
     where
-      go : (c : Bool) → Blocks p st (cond c (record { alpha = larger ratio 0ᶠ; row = a; state = s }) r)
-      go true = there n few b e
+      go : (c : Bool) → Blocks p st (cond c (record { alpha = larger ratio 0ᶠ; block = Some (record { row = a; state = s }) }) r).block
+      go true = (few, b, e)
       go false = h
 
-  row_blocks : (a : ℕ) (v y lo hi : Float) (r : Blocking) → a < size p → state st a ≡ 0 → Blocks p st r → Blocks p st (ratio_row a v y lo hi r)
+  row_blocks : (a : ℕ) (v y lo hi : Float) (r : Blocking) → a < size p → state st a ≡ 0 → Blocks p st r.block → Blocks p st (ratio_row a v y lo hi r).block
   unfolding ratio_row nearer
   row_blocks a v y lo hi r b e h = go (lt 0ᶠ y) (lt y 0ᶠ)
     where
-      go : (c d : Bool) → Blocks p st (cond c (nearer a 2 ((hi ⊖ v) ⊘ y) r) (cond d (nearer a 1 ((lo ⊖ v) ⊘ y) r) r))
-      go true d = nearer_blocks a 2 ((hi ⊖ v) ⊘ y) r (λ z. omega arith) (omega arith) b e h
-      go false true = nearer_blocks a 1 ((lo ⊖ v) ⊘ y) r (λ z. omega arith) (omega arith) b e h
+      go : (c d : Bool) → Blocks p st (cond c (nearer a AtHi ((hi ⊖ v) ⊘ y) r) (cond d (nearer a AtLo ((lo ⊖ v) ⊘ y) r) r)).block
+      go true d = nearer_blocks a AtHi ((hi ⊖ v) ⊘ y) r (omega arith) b e h
+      go false true = nearer_blocks a AtLo ((lo ⊖ v) ⊘ y) r (omega arith) b e h
       go false false = h
 
-  test_blocks : (nu y : List Float) (alpha : Float) → Blocks p st (pass.ratio_test p.lo p.hi (free_rows st (size p)) nu y alpha (length (free_rows st (size p))))
+  test_blocks : (nu y : List Float) (alpha : Float) → Blocks p st (pass.ratio_test p.lo p.hi (free_rows st (size p)) nu y alpha (length (free_rows st (size p)))).block
   unfolding pass.ratio_test ratio_row nearer
   test_blocks nu y alpha =
       let l = free_rows st (size p) in
       turns_keep (λ i r. ratio_row (get_or l i 0) (at nu (get_or l i 0)) (at y i) (at p.lo (get_or l i 0)) (at p.hi (get_or l i 0)) r)
-      (record { alpha = alpha; row = 0; state = 0 }) (λ i. Blocks p st) (length l) (nowhere refl)
+      (record { alpha = alpha; block = None }) (λ i r. Blocks p st r.block) (length l) tt
       λ i r c h. row_blocks (get_or l i 0) (at nu (get_or l i 0)) (at y i) (at p.lo (get_or l i 0)) (at p.hi (get_or l i 0)) r (free-below st (size p) i c) (free-is st (size p) i c) h
 
 -- ---- a row released is one that was placed, and where none is, none is pushed inside too hard
@@ -215,8 +220,8 @@ abbrev pub hard : Problem → List ℕ → List Float → ℕ → Bool
 hard p st nu i = pushed_at p st nu i && lt 1e-9 (residual_at p nu i)
 
 data Released (p : Problem) (st : List ℕ) (nu : List Float) (k : ℕ) (b : Worst) : Type 0 where
-  nothing : b.row ≡ size p → b.residual ≡ 1e-9 → ((i : ℕ) → i < k → hard p st nu i ≡ false) → Released p st nu k b
-  this : b.row < size p → pushed_at p st nu b.row ≡ true → Released p st nu k b
+  nothing : b.row ≡ None → b.residual ≡ 1e-9 → ((i : ℕ) → i < k → hard p st nu i ≡ false) → Released p st nu k b
+  this : (a : ℕ) → b.row ≡ Some a → a < size p → pushed_at p st nu a ≡ true → Released p st nu k b
 
 below_more : {P : ℕ → Type 0} (k : ℕ) → ((i : ℕ) → i < k → P i) → P k → (i : ℕ) → i < suc k → P i
 below_more {P} k h q i b = go (eqb i k) refl
@@ -231,20 +236,20 @@ module _ (p : Problem) (st : List ℕ) (nu : List Float) where
   row_released i b c (nothing e w h) = go (pushed_at p st nu i) refl (lt b.residual (residual_at p nu i)) refl
     where
       go : (x : Bool) → pushed_at p st nu i ≡ x → (z : Bool) → lt b.residual (residual_at p nu i) ≡ z
-          → Released p st nu (suc i) (cond x (cond z (record { residual = residual_at p nu i; row = i }) b) b)
-      go true f true g = this c f
+          → Released p st nu (suc i) (cond x (cond z (record { residual = residual_at p nu i; row = Some i }) b) b)
+      go true f true g = this i refl c f
       go true f false g = nothing e w (below_more {P = λ i. hard p st nu i ≡ false} i h (rw (f, ← w, g)))
       go false f z g = nothing e w (below_more {P = λ i. hard p st nu i ≡ false} i h (rw f))
-  row_released i b c (this l w) = go (pushed_at p st nu i) refl (lt b.residual (residual_at p nu i))
+  row_released i b c (this a e l w) = go (pushed_at p st nu i) refl (lt b.residual (residual_at p nu i))
     where
-      go : (x : Bool) → pushed_at p st nu i ≡ x → (z : Bool) → Released p st nu (suc i) (cond x (cond z (record { residual = residual_at p nu i; row = i }) b) b)
-      go true f true = this c f
-      go true f false = this l w
-      go false f z = this l w
+      go : (x : Bool) → pushed_at p st nu i ≡ x → (z : Bool) → Released p st nu (suc i) (cond x (cond z (record { residual = residual_at p nu i; row = Some i }) b) b)
+      go true f true = this i refl c f
+      go true f false = this a e l w
+      go false f z = this a e l w
 
   worst_released : Released p st nu (size p) (worst_row p st nu (size p))
   worst_released =
-      turns_keep (release_row p st nu) (record { residual = 1e-9; row = size p }) (Released p st nu) (size p) (nothing refl refl λ i b. absurd (not-suc-le-zero b))
+      turns_keep (release_row p st nu) (record { residual = 1e-9; row = None }) (Released p st nu) (size p) (nothing refl refl λ i b. absurd (not-suc-le-zero b))
       λ i x c k. row_released i x c k
 
 pushed-acts : (s : ℕ) (u : Float) → pushed s u ≡ true → eqb s 3 ≡ false
@@ -284,31 +289,30 @@ module _ (p : Problem) (base : List Float) (first : Trial) where
   release_passing t h w came = go (worst_row p t.states t.nu (size p)) (worst_released p t.states t.nu) came
     where
       go : (b : Worst) → Released p t.states t.nu (size p) b
-          → pass.steps p first (suc w.before) ≡ cond (eqb b.row (size p)) (found t) (moved (trial t.nu (set t.states b.row 0)))
-          → Passing p base first (cond (eqb b.row (size p)) (found t) (moved (trial t.nu (set t.states b.row 0))))
+          → pass.steps p first (suc w.before) ≡ pass.freed t b.row → Passing p base first (pass.freed t b.row)
       go b (nothing e d f) q =
           let last : LastStep p first t.nu t.states
-          = record { before = w.before; from = w.from; tried = w.tried; came = rw (eq-eqb b.row (size p) e) at q; written = w.written } in
-          rw (eq-eqb b.row (size p) e) (h, f, last)
-      go b (this c w) q =
-          let act = sym (h.stated.idle b.row c) ∙ pushed-acts (state t.states b.row) (row_sum (row_of p b.row) (at p.u_free b.row) t.nu) w in
-          rw (ne_eqb b.row (size p) (λ e. omega arith))
+          = record { before = w.before; from = w.from; tried = w.tried; came = rw e at q; written = w.written } in
+          rw e (h, f, last)
+      go b (this a e c w) q =
+          let act = sym (h.stated.idle a c) ∙ pushed-acts (state t.states a) (row_sum (row_of p a) (at p.u_free a) t.nu) w in
+          rw e
           (rw set-get_or at
-          (set_tries p base b.row 0 (at t.nu b.row) c act (omega arith) (λ e. absurd (omega arith)) (λ e. absurd (omega arith)) (size p) (size p) (λ j d q. d) t h))
+          (set_tries p base a 0 (at t.nu a) c act (omega arith) (λ e. absurd (omega arith)) (λ e. absurd (omega arith)) (size p) (size p) (λ j d q. d) t h))
 
   -- the blocking row on its bound
-  hold_tries : (t : Trial) (r : Blocking) → r.state ≤ 2 → r.row < size p → state t.states r.row ≡ 0 → Tries p base t → Tries p base (pass.hold p.lo p.hi t r)
+  hold_tries : (t : Trial) (r : Block) → byte r.state ≤ 2 → r.row < size p → state t.states r.row ≡ 0 → Tries p base t → Tries p base (pass.hold p.lo p.hi t r)
   unfolding pass.hold
   hold_tries t r few b z h =
       let a = r.row in
-      set_tries p base a r.state (placed (at p.lo a) (at p.hi a) r.state (at t.nu a)) b (state-not-idle p t.states a 0 h.stated b z refl) few
-      (placed-lo (at p.lo a) (at p.hi a) (at t.nu a) r.state) (placed-hi (at p.lo a) (at p.hi a) (at t.nu a) r.state) (size p) (size p) (λ j d q. d) t h
+      let on = byte r.state in
+      set_tries p base a on (placed (at p.lo a) (at p.hi a) on (at t.nu a)) b (state-not-idle p t.states a 0 h.stated b z refl) few
+      (placed-lo (at p.lo a) (at p.hi a) (at t.nu a) on) (placed-hi (at p.lo a) (at p.hi a) (at t.nu a) on) (size p) (size p) (λ j d q. d) t h
 
-  blocked_passing : (t : Trial) (r : Blocking) → Tries p base t → (w : Wrote p first t.nu t.states) → Blocks p t.states r
-      → pass.steps p first (suc w.before) ≡ cond (eqb r.state 0) (pass.release p t) (moved (pass.hold p.lo p.hi t r))
-      → Passing p base first (cond (eqb r.state 0) (pass.release p t) (moved (pass.hold p.lo p.hi t r)))
-  blocked_passing t r h w (nowhere e) came = rw (eq-eqb r.state 0 e) (release_passing t h w (rw (eq-eqb r.state 0 e) at came))
-  blocked_passing t r h w (there n few b z) came = rw (ne_eqb r.state 0 n) (hold_tries t r few b z h)
+  arrived_passing : (t : Trial) (x : Option Block) → Tries p base t → (w : Wrote p first t.nu t.states) → Blocks p t.states x
+      → pass.steps p first (suc w.before) ≡ pass.arrived p t x → Passing p base first (pass.arrived p t x)
+  arrived_passing t None h w b came = release_passing t h w came
+  arrived_passing t (Some r) h w b came = hold_tries t r b.0 b.1 b.2 h
 
   unmet_passing : (t : Trial) (l : List ℕ) → Tries p base t → Gathered (ActsUnlimited p t.states) (size p) l → Passing p base first (pass.unmet t l)
   unfolding pass.unmet
@@ -334,9 +338,9 @@ module _ (p : Problem) (base : List Float) (first : Trial) where
     abbrev stepped : Blocking → Pass
     stepped r =
         let u = trial (pass.advance (free_in p t) (direction_of p t) r.alpha t.nu (length (free_in p t))) t.states in
-        cond (is_finite r.alpha) (cond (eqb r.state 0) (pass.release p u) (moved (pass.hold p.lo p.hi u r))) (unbounded p t (free_in p t) (direction_of p t))
+        cond (is_finite r.alpha) (pass.arrived p u r.block) (unbounded p t (free_in p t) (direction_of p t))
 
-    stepped_passing : (r : Blocking) → r.alpha ≡ step_length p t → Blocks p t.states r → next ≡ stepped r → Passing p base first (stepped r)
+    stepped_passing : (r : Blocking) → r.alpha ≡ step_length p t → Blocks p t.states r.block → next ≡ stepped r → Passing p base first (stepped r)
     unfolding unbounded wrote
     stepped_passing r e s came = pick (is_finite r.alpha) came
       where
@@ -346,9 +350,9 @@ module _ (p : Problem) (base : List Float) (first : Trial) where
         y : List Float
         y = pass.scattered (free_in p t) (direction_of p t) (replicate (size p) 0ᶠ) (length (free_in p t))
 
-        pick : (b : Bool) → next ≡ cond b (cond (eqb r.state 0) (pass.release p u) (moved (pass.hold p.lo p.hi u r))) (pass.unmet t (ray p t.states y))
-            → Passing p base first (cond b (cond (eqb r.state 0) (pass.release p u) (moved (pass.hold p.lo p.hi u r))) (pass.unmet t (ray p t.states y)))
-        pick true c = blocked_passing u r (advanced_tries p base t (direction_of p t) r.alpha h) (wrote r.alpha e) s c
+        pick : (b : Bool) → next ≡ cond b (pass.arrived p u r.block) (pass.unmet t (ray p t.states y))
+            → Passing p base first (cond b (pass.arrived p u r.block) (pass.unmet t (ray p t.states y)))
+        pick true c = arrived_passing u r.block (advanced_tries p base t (direction_of p t) r.alpha h) (wrote r.alpha e) s c
         pick false c = unmet_passing t (ray p t.states y) h (ray-gathered p t.states y)
 
     free_step_passing : next ≡ free_step p t (free_in p t) → Passing p base first (free_step p t (free_in p t))

@@ -1,10 +1,10 @@
-pub mod Rows
-pub mod Systems
 pub mod OneWalk
-pub mod Collecting
-pub mod Releases
 pub mod Periods
+pub mod Loops
+pub mod Rows
+pub mod Releases
+pub mod Systems
+pub mod Collecting
 pub mod Stepping
-pub mod Lent
 pub mod Running
 pub mod Replies

@@ -1,58 +1,54 @@
 -- The public calls: what they accept, and what they leave where they do not.
-use Rattle.loops.proofs.Common.{ℕ, ◌≡◌, refl, sym, ◌∙◌, Bool, true, false, List, length, Float}
-use mathlib.Core.Bool.{◌&&◌, true≢false}
-use borrow.Author.Tests.{leb-true, eqb-true}
+use Rattle.std.proofs.Common.{ℕ, ◌<◌, ◌≤◌, ◌≡◌, refl, Bool, true, false, not, IsTrue, Option, None, List, length, ◌&&◌}
+use lib.Ieee.{Float}
 use lib.Dec.{leb}
+use borrow.Author.Tests.{le-leb, lt-leb}
+use Rattle.std.proofs.Math.Bool.{and-false}
 use Rattle.box_rows.specs.Rows as box
+use Rattle.box_rows.specs.Private.{sized}
 use Rattle.exact_pass.specs.Ray.{ray}
 use Rattle.exact_pass.specs.Promise.{fits, reply, ray_reply, Left, Front}
-use Rattle.exact_pass.specs.Private.{Fit, Listing, RunLent, Ran}
+use Rattle.exact_pass.specs.Private.{Ran}
 use Rattle.exact_pass.specs.declared.Exact.{Exact}
 use Rattle.exact_pass.specs.declared.Exact.TheVariants.{Failed}
 
-both : (a b : Bool) → (a && b) ≡ true → (a ≡ true) × (b ≡ true)
-both true b e = (refl, e)
-both false b e = absurd (true≢false (sym e))
+-- lists that do not fit one another
+unsized : (p : box.Problem) (states values rows : ℕ) → IsTrue (not (sized p)) → fits p states values rows ≡ false
+unsized p states values rows h = let e : sized p ≡ false = go (sized p) h in rw e
+  where
+    go : (b : Bool) → IsTrue (not b) → b ≡ false
+    go true h = cc
+    go false h = refl
 
-pub fits_lengths : (p : box.Problem) (st : List ℕ) (v : List Float) (rows : List ℕ) {b : Bool} → b ≡ fits p (length st) (length v) (length rows) → b ≡ true → Listing (Fit (box.size p) p.w p.lo p.hi p.scale st v) (box.size p) rows
-fits_lengths p st v rows h e =
-    let g = both _ _ (sym h ∙ e) in
-    let f = both _ _ g.0 in
-    let s = both _ _ f.0 in
-    let d = both _ _ s.0 in
-    let c = both _ _ d.0 in
-    let b = both _ _ c.0 in
-    let a = both _ _ b.0 in
-    record {
-      rows = record {
-        sized = (leb-true _ _ a.0, eqb-true _ _ a.1, eqb-true _ _ b.1, eqb-true _ _ c.1, eqb-true _ _ d.1);
-        states = eqb-true _ _ s.1;
-        values = eqb-true _ _ f.1;
-      };
-      list = leb-true _ _ g.1;
-    }
-
--- of the pass: f tells whether its lists fit
-module _ (p : box.Problem) (st : List ℕ) (nu : List Float) (rows : List ℕ) (work : List Float) (f : Bool) (e : f ≡ fits p (length st) (length nu) (length rows)) where
-  pub run_lent : (leb 1120 (length work) && f) ≡ true → RunLent (box.size p) p.w p.lo p.hi p.scale st nu rows work
-  run_lent g =
-      let b = both _ _ g in
-      let l = fits_lengths p st nu rows e b.1 in
-      record { fit = l.rows; list = l.list; workspace = leb-true _ _ b.0 }
-
-  pub left_unfit : (leb 1120 (length work) && f) ≡ false → Left p st nu rows work Failed st nu rows work
+-- of the pass
+module _ (p : box.Problem) (st : List ℕ) (nu : List Float) (rows : List ℕ) (work : List Float) where
+  left_as_it_was : leb 1120 (length work) && fits p (length st) (length nu) (length rows) ≡ false → Left p st nu rows work Failed st nu rows work
   unfolding reply
-  left_unfit g = record { passed = rw (← e, g) (record { answer = refl; tried = refl; listed = refl }); workspace = refl }
+  left_as_it_was g = record { passed = rw g (record { answer = refl; tried = refl; listed = refl }); workspace = rw g refl }
 
-  pub left_passed : (a : Exact) (st' : List ℕ) (nu' : List Float) (rows' : List ℕ) (work' : List Float) → (leb 1120 (length work) && f) ≡ true → Ran p st nu rows work a nu' st' rows' work' → Left p st nu rows work a st' nu' rows' work'
+  pub left_unfit : fits p (length st) (length nu) (length rows) ≡ false → Left p st nu rows work Failed st nu rows work
+  left_unfit g = left_as_it_was (rw g (and-false (leb 1120 (length work))))
+
+  pub left_unsized : IsTrue (not (sized p)) → Left p st nu rows work Failed st nu rows work
+  left_unsized h = left_unfit (unsized p _ _ _ h)
+
+  pub left_short : length work < 1120 → Left p st nu rows work Failed st nu rows work
+  left_short h = left_as_it_was (rw (lt-leb 1120 (length work) h))
+
+  pub left_passed : (a : Exact) (st' : List ℕ) (nu' : List Float) (rows' : List ℕ) (work' : List Float) → 1120 ≤ length work → fits p (length st) (length nu) (length rows) ≡ true → Ran p st nu rows work a nu' st' rows' work' → Left p st nu rows work a st' nu' rows' work'
   unfolding reply
-  left_passed a st' nu' rows' work' g r = record { passed = rw (← e, g) r.passed; workspace = rw (← e, g) r.workspace }
+  left_passed a st' nu' rows' work' h g r =
+      let l = le-leb 1120 (length work) h in
+      record { passed = rw (l, g) r.passed; workspace = rw (l, g) r.workspace }
 
-module _ (p : box.Problem) (st : List ℕ) (y : List Float) (rows : List ℕ) (f : Bool) (e : f ≡ fits p (length st) (length y) (length rows)) where
-  pub ray-fits : (k : ℕ) (rows' : List ℕ) → f ≡ true → Front (ray p st y) rows k rows' → Front (ray_reply p st y rows) rows k rows'
+module _ (p : box.Problem) (st : List ℕ) (y : List Float) (rows : List ℕ) where
+  pub ray_fits : (k : Option ℕ) (rows' : List ℕ) → fits p (length st) (length y) (length rows) ≡ true → Front (ray p st y) rows k rows' → Front (ray_reply p st y rows) rows k rows'
   unfolding ray_reply
-  ray-fits k rows' g h = rw (sym e ∙ g) h
+  ray_fits k rows' g h = rw g h
 
-  pub ray_unfit : f ≡ false → Front (ray_reply p st y rows) rows 0 rows
+  pub ray_unfit : fits p (length st) (length y) (length rows) ≡ false → Front (ray_reply p st y rows) rows None rows
   unfolding ray_reply
-  ray_unfit g = rw (sym e ∙ g) (record { count = refl; front = refl })
+  ray_unfit g = rw g (record { count = refl; front = refl })
+
+  pub ray_unsized : IsTrue (not (sized p)) → Front (ray_reply p st y rows) rows None rows
+  ray_unsized h = ray_unfit (unsized p _ _ _ h)

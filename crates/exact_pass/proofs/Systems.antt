@@ -1,18 +1,15 @@
 -- The system of the free rows: its matrix as a loop fills it row by row, and its least-norm solution, from what the calls promise.
 use Rattle.loops.proofs.Common.{ℕ, ◌+◌, ◌-◌, ◌*◌, ◌≤◌, ◌<◌, ◌≡◌, refl, sym, ap, ◌∙◌, Bool, true, false, cond, List, arith, add-one, length, get_or, drop, Float, nan, eq-eqb, ◌++◌}
 use lib.Seq.{ext_get_or}
-use lib.ListN.{set}
-use mathlib.Core.Bool.{◌||◌}
 use lib.Dec.{eqb}
 use lib.Ieee.{neg}
 use Rattle.loops.proofs.Updates.{updated_here, updated-long}
-use Rattle.floats.specs.Ops.{at, ◌⊕◌, ◌⊖◌, ◌⊗◌}
+use Rattle.floats.specs.Ops.{at, ◌⊖◌, ◌⊗◌}
 use borrow.Author.Tests.{le-leb}
 use Rattle.loops.specs.Loops.{turns, tab}
 use borrow.Rule.Slice.PartMut.{put_mid}
 use Rattle.loops.proofs.Parts.{parts-start, parts_again, parts_done}
 use Rattle.loops.proofs.Fill.{tab-length, tab-at}
-use Rattle.loops.proofs.Turns.{turns_again}
 use Rattle.least_norm.specs.LeastNorm.{least_norm}
 use Rattle.least_norm.specs.Promise as promise
 use Rattle.box_rows.specs.Rows as box
@@ -44,23 +41,7 @@ module _ (w scale : List Float) (l : List ℕ) (m₀ : List Float) where
   unfolding pass.matrix row private.matrix_row
   matrix_done i m e f g h = parts_done row (length l) rows_long m₀ i m e f g h
 
--- ---- what the solution leaves of a row, by that row, and two rows taken in one turn
-
-pub residual_again : (r scale : List Float) (l : List ℕ) (z : List Float) (b : Float) (j : ℕ) {c : ℕ} {s x v e : Float} → s ≡ private.residual_row r scale l z b j → c ≡ get_or l j 0 → x ≡ at scale c → v ≡ at z j → e ≡ at r c → s ⊕ e ⊗ x ⊗ v ≡ private.residual_row r scale l z b (j + 1)
-unfolding private.residual_row
-residual_again r scale l z b j h c x v e = turns_again _ _ j _ _ h (rw (e, v, x, c))
-
-module _ (w scale : List Float) (l : List ℕ) (rhs z : List Float) (i : ℕ) where
-  pub residual_is : {a : ℕ} {r : List Float} {b s : Float} → a ≡ get_or l i 0 → r ≡ box.row w (length scale) a → b ≡ at rhs i → s ≡ private.residual_row r scale l z b (length l) → s ≡ pass.residual w scale l rhs z i
-  unfolding pass.residual private.residual_row
-  residual_is e f g h = rw (h, g, f, e)
-
-  pub too_large-is : {a : ℕ} {r : List Float} {x : Float} {b : Bool} → a ≡ get_or l i 0 → r ≡ box.row w (length scale) a → x ≡ pass.residual w scale l rhs z i → b ≡ private.too_large r scale a x → b ≡ private.too_large_at w scale l rhs z i
-  too_large-is e f g h = rw (h, g, f, e)
-
-  pub two-tested : (e : ℕ) (y : List Float) {y₁ y₂ : List Float} {a b : Float} {s t : Bool} → y₁ ≡ set y i (neg a) → y₂ ≡ set y₁ e (neg b) → a ≡ pass.residual w scale l rhs z i → b ≡ pass.residual w scale l rhs z e
-      → s ≡ private.too_large_at w scale l rhs z i → t ≡ private.too_large_at w scale l rhs z e → private.TwoTested w scale l rhs z i e y (s || t) y₂
-  two-tested e y p q g h s t = record { downhill = rw (q, p, g, h); inconsistent = rw (s, t) }
+pub ruleset by_rows = (matrix-start, matrix_again, matrix_done)
 
 -- ---- the right-hand side, column by column
 
@@ -97,9 +78,9 @@ module _ (w u_free : List Float) (st : List ℕ) (nu : List Float) (l : List ℕ
         updated_here nan (λ (i : ℕ). i) g 0 rhs (λ t u a b. omega arith) k i (omega arith) m (omega (arith, long))
         ∙ rw (here, tab-at (after (j + 1)) k i nan m, add-one j, f)
 
-  pub columns_again : (j s : ℕ) (v : Float) (rhs rhs' : List Float) → rhs ≡ columns j → s ≡ get_or st j 0 → v ≡ at nu j
-      → rhs' ≡ cond (eqb s 0) rhs (column_taken w (length nu) l j v k rhs) → rhs' ≡ columns (j + 1)
-  columns_again j s v rhs rhs' e a b f = go (eqb (get_or st j 0) 0) refl (rw (a, b) at f)
+  pub columns_again : (j : ℕ) (rhs rhs' : List Float) → rhs ≡ columns j
+      → rhs' ≡ cond (eqb (get_or st j 0) 0) rhs (column_taken w (length nu) l j (at nu j) k rhs) → rhs' ≡ columns (j + 1)
+  columns_again j rhs rhs' e f = go (eqb (get_or st j 0) 0) refl f
     where
       go : (c : Bool) → eqb (get_or st j 0) 0 ≡ c
           → rhs' ≡ cond (eqb (get_or st j 0) 0) rhs (column_taken w (length nu) l j (at nu j) k rhs) → rhs' ≡ columns (j + 1)
@@ -109,6 +90,8 @@ module _ (w u_free : List Float) (st : List ℕ) (nu : List Float) (l : List ℕ
   pub columns_done : (j : ℕ) (rhs : List Float) → j ≤ length nu → length nu ≤ j → rhs ≡ columns j → rhs ≡ pass.right_hand_side w u_free st nu l k
   unfolding columns pass.right_hand_side private.right_hand_row
   columns_done j rhs g h e = let q : j ≡ length nu = omega arith in rw q at e
+
+pub ruleset by_columns = (columns-start, columns_again, columns_done)
 
 pub right_hand-length : (w u_free : List Float) (st : List ℕ) (nu : List Float) (l : List ℕ) (k : ℕ) → length (pass.right_hand_side w u_free st nu l k) ≡ k
 unfolding pass.right_hand_side private.right_hand_row

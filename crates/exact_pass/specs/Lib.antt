@@ -1,3 +1,4 @@
+pub mod Below
 pub mod Ray
 pub mod Walk
 pub mod Pass

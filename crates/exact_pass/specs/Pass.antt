@@ -1,6 +1,6 @@
 -- The exact pass of boxed.rs, by its steps. Definitions only. l lists the free rows; the right-hand side, z and y
 -- have a value for each of them.
-use Rattle.std.specs.Prelude.{ℕ, suc, ◌+◌, ◌*◌, Bool, false, cond, ◌||◌, List, [], ◌∷◌, ◌++◌, eqb, get_or, set, length, replicate, Float}
+use Rattle.std.specs.Prelude.{ℕ, suc, ◌+◌, ◌*◌, Bool, false, cond, ◌||◌, Option, Some, None, List, [], ◌∷◌, ◌++◌, eqb, get_or, set, length, replicate, Float}
 use Rattle.std.specs.Float.Ieee.{lt, neg}
 use Rattle.loops.specs.Loops.{turns, tab, those}
 use Rattle.floats.specs.Ops.{◌⊕◌, ◌⊖◌, ◌⊗◌, ◌⊘◌, at, 0ᶠ, 1ᶠ, 1e-9, ∞}
@@ -8,6 +8,8 @@ use Rattle.floats.specs.Helpers.{abs, is_finite}
 use Rattle.least_norm.specs.LeastNorm.{least_norm}
 use Rattle.box_rows.specs.Rows as box
 use Rattle.exact_pass.specs.Ray.{ray}
+use Rattle.box_rows.specs.States.{byte}
+use Rattle.box_rows.specs.declared.Block.{Block}
 use Rattle.box_rows.specs.declared.Blocking.{Blocking}
 use Rattle.exact_pass.specs.declared.Worst.{Worst}
 
@@ -105,7 +107,7 @@ longest inconsistent = cond inconsistent ∞ 1ᶠ
 
 unfoldable pub ratio_test : List Float → List Float → List ℕ → List Float → List Float → Float → ℕ → Blocking
 ratio_test lo hi l nu y alpha k =
-    turns k (record { alpha = alpha; row = 0; state = box.inside }) λ i r.
+    turns k (record { alpha = alpha; block = None }) λ i r.
     let a = get_or l i 0 in
     box.ratio_row a (at nu a) (at y i) (at lo a) (at hi a) r
 
@@ -114,25 +116,29 @@ unfoldable pub advance : List ℕ → List Float → Float → List Float → �
 advance l y alpha nu k = turns k nu λ i nu. set nu (get_or l i 0) (at nu (get_or l i 0) ⊕ alpha ⊗ at y i)
 
 -- the blocking row on its bound
-unfoldable pub hold : List Float → List Float → Trial → Blocking → Trial
+unfoldable pub hold : List Float → List Float → Trial → Block → Trial
 hold lo hi t r =
     let a = r.row in
-    trial (set t.nu a (box.placed (at lo a) (at hi a) r.state (at t.nu a))) (set t.states a r.state)
+    trial (set t.nu a (box.placed (at lo a) (at hi a) (byte r.state) (at t.nu a))) (set t.states a (byte r.state))
 
--- ---- the release of the row on a bound pushed inside the hardest, the first of equals; n is none
+-- ---- the release of the row on a bound pushed inside the hardest, the first of equals
 
 -- where no row is left to free, the multipliers meet every condition
+abbrev pub freed : Trial → Option ℕ → Pass
+freed t None = found t
+freed t (Some i) = moved (trial t.nu (set t.states i box.inside))
+
 unfoldable pub release : box.Problem → Trial → Pass
 release p t =
     let n = box.size p in
     let worst : Worst =
-    turns n (record { residual = 1e-9; row = n }) λ i worst.
+    turns n (record { residual = 1e-9; row = None }) λ i worst.
     let u = box.row_sum (box.row p.w n i) (at p.u_free i) t.nu in
     let r = box.residual_at p t.nu i in
     cond (box.pushed (box.state t.states i) u)
-    (cond (lt worst.residual r) (record { residual = r; row = i }) worst)
+    (cond (lt worst.residual r) (record { residual = r; row = Some i }) worst)
     worst in
-    cond (eqb worst.row n) (found t) (moved (trial t.nu (set t.states worst.row box.inside)))
+    freed t worst.row
 
 -- ---- no bound is met: the rows of a ray, or the pass has failed
 
@@ -146,6 +152,11 @@ unmet t (a ∷ l) = infeasible (a ∷ l) t
 
 -- ---- one step, where l lists the free rows
 
+-- after the step that the boxes let be: the row that blocks it on its bound; where none does, one is released
+abbrev pub arrived : box.Problem → Trial → Option Block → Pass
+arrived p u None = release p u
+arrived p u (Some r) = moved (hold p.lo p.hi u r)
+
 unfoldable pub step_of : box.Problem → Trial → List ℕ → Pass
 step_of p t [] = release p t
 step_of p t (a ∷ r) =
@@ -154,7 +165,7 @@ step_of p t (a ∷ r) =
     let y = direction g.inconsistent p.scale l g.z t.nu g.y in
     let b = ratio_test p.lo p.hi l t.nu y (longest g.inconsistent) (length l) in
     let u = trial (advance l y b.alpha t.nu (length l)) t.states in
-    cond (is_finite b.alpha) (cond (eqb b.state box.inside) (release p u) (moved (hold p.lo p.hi u b)))
+    cond (is_finite b.alpha) (arrived p u b.block)
     (unmet t (ray p t.states (scattered l y (replicate (box.size p) 0ᶠ) (length l))))
 
 unfoldable pub step : box.Problem → ℕ → Pass → Pass

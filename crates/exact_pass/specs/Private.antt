@@ -1,6 +1,6 @@
 -- Words of private contracts: what they are lent. No promise of a public call stands on them; those are in
 -- Promise.antt. Definitions only.
-use Rattle.std.specs.Prelude.{ℕ, suc, ◌+◌, ◌-◌, ◌*◌, ◌≤◌, ◌<◌, ◌≡◌, Bool, true, false, not, cond, ◌&&◌, ◌||◌, List, [], eqb, get_or, set, length, take, drop, replicate, Float}
+use Rattle.std.specs.Prelude.{ℕ, suc, ◌+◌, ◌-◌, ◌*◌, ◌≤◌, ◌<◌, ◌≡◌, Bool, false, not, cond, ◌&&◌, ◌||◌, Option, Some, None, MatchOption, List, eqb, get_or, set, length, take, drop, replicate, Float}
 use Rattle.std.specs.Float.{nan}
 use Rattle.std.specs.Float.Ieee.{lt, le, neg}
 use Rattle.loops.specs.Loops.{turns, tab}
@@ -9,21 +9,19 @@ use Rattle.floats.specs.Ops.{◌⊕◌, ◌⊖◌, ◌⊗◌, ◌⊘◌, at, 0�
 use Rattle.floats.specs.Helpers.{larger, abs, is_finite}
 use Rattle.least_norm.specs.LeastNorm.{least_norm}
 use Rattle.box_rows.specs.Rows as box
-use Rattle.box_rows.specs.Private.{Sized, Square}
 use Rattle.exact_pass.specs.Ray.{ray}
 use Rattle.exact_pass.specs.Pass as pass
 use Rattle.exact_pass.specs.Walk as walks
-use Rattle.exact_pass.specs.Promise.{Passed, WORKSPACE}
+use Rattle.exact_pass.specs.Promise as promise
+use Rattle.exact_pass.specs.Promise.{WORKSPACE}
+use Rattle.exact_pass.specs.Below.{Below}
+use Rattle.exact_pass.specs.declared.free_rows.FreeRows.{FreeRows}
+use Rattle.exact_pass.specs.declared.RayRows.{RayRows}
 use Rattle.exact_pass.specs.declared.Residuals.{Residuals}
-use Rattle.box_rows.specs.declared.Blocking.{Blocking}
 use Rattle.exact_pass.specs.declared.Worst.{Worst}
 use Rattle.exact_pass.specs.declared.Cycle.{Cycle}
 use Rattle.exact_pass.specs.declared.Exact.{Exact}
-use Rattle.exact_pass.specs.declared.Exact.TheVariants.{Moved, Found, Failed, Infeasible}
-
--- every number of l is below n
-abbrev pub Below : ℕ → List ℕ → Type 0
-Below n l = (i : ℕ) → i < length l → get_or l i 0 < n
+use Rattle.exact_pass.specs.declared.Exact.TheVariants.{Found, Failed, Infeasible}
 
 -- places of the workspace: the right-hand side of the free rows and then, in the same place, their direction; the
 -- multipliers marked
@@ -36,130 +34,32 @@ DIRECTION = 1056
 abbrev pub MARKED : ℕ
 MARKED = 1088
 
--- whether the pass ends with this step
-abbrev pub is_end : Exact → Bool
-is_end Moved = false
-is_end Found = true
-is_end Failed = true
-is_end (Infeasible k) = true
+-- how a step ends the pass, if it does
+abbrev pub end_of : pass.Pass → Option Exact
+end_of (pass.moved t) = None
+end_of (pass.found t) = Some Found
+end_of (pass.failed t) = Some Failed
+end_of (pass.infeasible l t) = Some (Infeasible (length l))
+
+-- after a step, which was lent the row list r₀
+pub record Passed (p : pass.Pass) (r₀ : List ℕ) (e : Option Exact) (nu : List Float) (st r : List ℕ) : Type 0 where
+  pub answer : e ≡ end_of p
+  pub tried : pass.trial nu st ≡ promise.trial_of p
+  pub listed : r ≡ promise.rows_of p r₀
 
 -- a copy of `from` in `to`, which was to₀, from place a on; what lies past it stays
 pub record Copied (from : List Float) (a : ℕ) (to₀ to : List Float) : Type 0 where
   pub part : take (length from) (drop a to) ≡ from
   pub after : drop (a + length from) to ≡ drop (a + length from) to₀
 
--- the rows f, below n, at the front of l, k of them
-pub record Free (f : List ℕ) (n k : ℕ) (l : List ℕ) : Type 0 where
-  pub count : k ≡ length f
-  pub few : k ≤ n
-  pub front : take k l ≡ f
-  pub below : Below n f
-
 -- ---- what the functions are lent
 
--- the lists of a problem of n rows, with a state and a value for each row
-pub record Fit (n : ℕ) (w lo hi scale : List Float) (st : List ℕ) (v : List Float) : Type 0 where
-  pub sized : Sized n w lo hi scale
-  pub states : length st ≡ n
-  pub values : length v ≡ n
-
--- n rows, each with its bounds, scale and state
-pub record Scaled (n : ℕ) (lo hi scale : List Float) (st : List ℕ) : Type 0 where
-  pub lower : length lo ≡ n
-  pub upper : length hi ≡ n
-  pub scales : length scale ≡ n
-  pub states : length st ≡ n
-
--- what A says of the lists, and that l lists some of n rows
-pub record Rows (A : Type 0) (n : ℕ) (l : List ℕ) : Type 0 where
-  pub lists : A
-  pub below : Below n l
-
--- what A says of the rows, and that l has a place for each of n
-pub record Listing (A : Type 0) (n : ℕ) (l : List ℕ) : Type 0 where
-  pub rows : A
-  pub list : n ≤ length l
-
--- l lists some of n rows, and y has a value for each of them
-pub record Listed (n : ℕ) (l : List ℕ) (y : List Float) : Type 0 where
-  pub below : Below n l
-  pub long : length y ≡ length l
-
--- what the largest of the sizes of n rows is found from
-pub record SizesLent (n : ℕ) (scale : List Float) (st : List ℕ) : Type 0 where
-  pub scales : length scale ≡ n
-  pub states : length st ≡ n
-
--- what shows whether a problem of n rows falls along the rows of l
-pub record FallsLent (n : ℕ) (w u_free : List Float) (l : List ℕ) : Type 0 where
-  pub square : Square w n
-  pub free_motion : length u_free ≡ n
-  pub below : Below n l
-
--- what the ratio test is lent, for the free rows l and their direction y
-pub record RatioLent (n : ℕ) (lo hi : List Float) (l : List ℕ) (y : List Float) : Type 0 where
-  pub listed : Listed n l y
-  pub lower : length lo ≡ n
-  pub upper : length hi ≡ n
-
--- what the direction is made from: the solution z of the free rows l
-pub record DirectionLent (n : ℕ) (scale : List Float) (l : List ℕ) (z y : List Float) : Type 0 where
-  pub listed : Listed n l y
-  pub scales : length scale ≡ n
-  pub solution : length z ≡ length l
-
--- what the system of the free rows l is made from
-pub record SystemLent (n : ℕ) (w u_free scale : List Float) (st l : List ℕ) (work : List Float) : Type 0 where
-  pub square : Square w n
-  pub free_motion : length u_free ≡ n
-  pub scales : length scale ≡ n
-  pub states : length st ≡ n
-  pub below : Below n l
-  pub few : length l ≤ box.MAX_ROWS
+-- the states and multipliers of a problem, and the workspace, where the system of its free rows is solved
+pub record SystemLent (f : FreeRows) (st : List ℕ) (nu work : List Float) : Type 0 where
+  pub states : length st ≡ length f.problem.now.u_free.now
+  pub multipliers : length nu ≡ length f.problem.now.u_free.now
+  pub few : length f.rows.now ≤ box.MAX_ROWS
   pub workspace : WORKSPACE ≤ length work
-
--- the same, with scratch for as many rows as l lists
-pub record TargetLent (n : ℕ) (w u_free scale : List Float) (st l : List ℕ) (m y z work : List Float) : Type 0 where
-  pub system : SystemLent n w u_free scale st l work
-  pub matrix : length m ≡ length l * length l
-  pub direction : length y ≡ length l
-  pub solution : length z ≡ length l
-
--- scratch for k rows or more
-pub record Scratch (k : ℕ) (m y z : List Float) : Type 0 where
-  pub matrix : k * k ≤ length m
-  pub direction : k ≤ length y
-  pub solution : k ≤ length z
-
--- the system, with such scratch
-pub record ScratchLent (n : ℕ) (w u_free scale : List Float) (st l : List ℕ) (m y z work : List Float) : Type 0 where
-  pub system : SystemLent n w u_free scale st l work
-  pub scratch : Scratch (length l) m y z
-
--- what column j is taken in: the rows l of w, and their right-hand side
-pub record ColumnLent (n : ℕ) (w : List Float) (l : List ℕ) (rhs : List Float) (j : ℕ) : Type 0 where
-  pub square : Square w n
-  pub listed : Listed n l rhs
-  pub column : j < n
-
--- what the right-hand side of the rows l is made from
-pub record RightHandLent (n : ℕ) (w u_free : List Float) (st l : List ℕ) (rhs : List Float) : Type 0 where
-  pub square : Square w n
-  pub free_motion : length u_free ≡ n
-  pub states : length st ≡ n
-  pub listed : Listed n l rhs
-
--- what a row of the matrix of the rows l is made from
-pub record MatrixRowLent (n : ℕ) (r : List Float) (l : List ℕ) (out : List Float) : Type 0 where
-  pub row : length r ≡ n
-  pub listed : Listed n l out
-
--- what all of them are
-pub record MatrixLent (n : ℕ) (w : List Float) (l : List ℕ) (m : List Float) : Type 0 where
-  pub square : Square w n
-  pub below : Below n l
-  pub few : length l ≤ box.MAX_ROWS
-  pub matrix : length m ≡ length l * length l
 
 -- a system of k rows, at most 32, a place for each value of its solution, and the workspace of a least-norm call
 pub record SolveLent (k : ℕ) (m z work : List Float) : Type 0 where
@@ -168,62 +68,11 @@ pub record SolveLent (k : ℕ) (m z work : List Float) : Type 0 where
   pub solution : length z ≡ k
   pub workspace : RIGHT_HAND_SIDE ≤ length work
 
--- two rows of a system of the free rows l, and its solution z
-pub record RowsLent (n : ℕ) (a b : List Float) (l : List ℕ) (z : List Float) : Type 0 where
-  pub first : length a ≡ n
-  pub second : length b ≡ n
-  pub listed : Listed n l z
-
--- row i of the rows l of w
-pub record RowLent (n : ℕ) (w : List Float) (l : List ℕ) (i : ℕ) : Type 0 where
-  pub square : Square w n
-  pub below : Below n l
-  pub row : i < length l
-
--- what the solution z is tested in for rows i and e: their right-hand sides, and y
-pub record TwoLent (n : ℕ) (w : List Float) (l : List ℕ) (rhs z y : List Float) (i e : ℕ) : Type 0 where
-  pub first : RowLent n w l i
-  pub second : RowLent n w l e
-  pub side : length rhs ≡ length l
-  pub solution : length z ≡ length l
-  pub direction : length y ≡ length l
-
--- for all rows, with the right-hand side in the workspace
-pub record ResidualLent (n : ℕ) (w : List Float) (l : List ℕ) (work z y : List Float) : Type 0 where
-  pub square : Square w n
-  pub listed : Listed n l z
-  pub direction : length y ≡ length l
-  pub few : length l ≤ box.MAX_ROWS
-  pub workspace : WORKSPACE ≤ length work
-
--- r blocks a step by one of n rows, on a bound
-pub record Blocked (n : ℕ) (lo hi : List Float) (st : List ℕ) (r : Blocking) : Type 0 where
-  pub row : r.row < n
-  pub lower : length lo ≡ n
-  pub upper : length hi ≡ n
-  pub states : length st ≡ n
-  pub byte : r.state < 256
-
--- what a ray in the direction y of the free rows l is looked for in
-pub record RayLent (n : ℕ) (w lo hi scale : List Float) (st l : List ℕ) (y : List Float) (rows : List ℕ) : Type 0 where
-  pub sized : Sized n w lo hi scale
-  pub states : length st ≡ n
-  pub listed : Listed n l y
-  pub list : n ≤ length rows
-
--- what a step of the free rows l in the direction y is lent
-pub record StepLent (n : ℕ) (w lo hi scale : List Float) (st : List ℕ) (nu : List Float) (l : List ℕ)
-    (y : List Float) (rows : List ℕ) : Type 0 where
-  pub fit : Fit n w lo hi scale st nu
-  pub listed : Listed n l y
-  pub some : 0 < n
-  pub list : n ≤ length rows
-
 -- what a run and each of its steps are lent
-pub record RunLent (n : ℕ) (w lo hi scale : List Float) (st : List ℕ) (nu : List Float) (rows : List ℕ)
-    (work : List Float) : Type 0 where
-  pub fit : Fit n w lo hi scale st nu
-  pub list : n ≤ length rows
+pub record RunLent (p : box.Problem) (st : List ℕ) (nu : List Float) (rows : List ℕ) (work : List Float) : Type 0 where
+  pub states : length st ≡ box.size p
+  pub multipliers : length nu ≡ box.size p
+  pub list : box.size p ≤ length rows
   pub workspace : WORKSPACE ≤ length work
 
 -- what marks are made in: multipliers of n rows in the workspace, their states in `marks`
@@ -232,11 +81,6 @@ pub record MarksLent (n : ℕ) (st : List ℕ) (work : List Float) (marks : List
   pub few : n ≤ box.MAX_ROWS
   pub workspace : WORKSPACE ≤ length work
   pub long : n ≤ length marks
-
--- the same, k steps after the mark was made, at least one
-pub record SinceLent (n : ℕ) (st : List ℕ) (work : List Float) (marks : List ℕ) (k : ℕ) : Type 0 where
-  pub lent : MarksLent n st work marks
-  pub some : 0 < k
 
 -- the same after a step, by the counters m before it, when some step remained
 pub record AfterLent (n : ℕ) (st : List ℕ) (work : List Float) (marks : List ℕ) (m : Cycle) : Type 0 where
@@ -256,27 +100,21 @@ abbrev pub targeted : List Float → List Float → Bool → pass.Target
 targeted z y b = record { z = z; y = y; inconsistent = b }
 
 -- after a step: what is marked in the workspace stays
-pub record Stepped (p : pass.Pass) (rows : List ℕ) (work : List Float) (e : Exact) (nu : List Float)
-    (st rows' : List ℕ) (work' : List Float) : Type 0 where
+pub record Stepped (p : pass.Pass) (rows : List ℕ) (work : List Float) (e : Option Exact)
+    (nu : List Float) (st rows' : List ℕ) (work' : List Float) : Type 0 where
   pub passed : Passed p rows e nu st rows'
   pub workspace : drop MARKED work' ≡ drop MARKED work
 
 -- after a pass
 pub record Ran (p : box.Problem) (st : List ℕ) (nu : List Float) (rows : List ℕ) (work : List Float) (e : Exact)
     (nu' : List Float) (st' rows' : List ℕ) (work' : List Float) : Type 0 where
-  pub passed : Passed (pass.exact_pass p st nu) rows e nu' st' rows'
+  pub passed : promise.Passed (pass.exact_pass p st nu) rows e nu' st' rows'
   pub workspace : drop WORKSPACE work' ≡ drop WORKSPACE work
 
 -- after a system of the matrix m and the right-hand side b is solved
 pub record Solved (m b work z work' : List Float) : Type 0 where
   pub solution : z ≡ (least_norm (length b) (length b) m b).x
   pub workspace : drop 1056 work' ≡ drop 1056 work
-
--- e is the row that is taken with row i of k
-pub record Second (i k e : ℕ) : Type 0 where
-  pub least : i ≤ e
-  pub most : e ≤ i + 1
-  pub within : e < k
 
 -- column j of w times v, taken from the right-hand sides of the first k rows of l
 abbrev pub column_taken : List Float → ℕ → List ℕ → ℕ → Float → ℕ → List Float → List Float
@@ -294,31 +132,17 @@ pub record Directed (t : pass.Target) (scale : List Float) (l : List ℕ) (nu wo
   pub inconsistent : b ≡ t.inconsistent
   pub workspace : drop MARKED work' ≡ drop MARKED work
 
--- the same for the target of the system that these lists make
-abbrev pub DirectedTo : List Float → List Float → List Float → List ℕ → List Float → List ℕ → List Float → Bool
-    → List Float → Type 0
-DirectedTo w u_free scale st nu l work b work' = Directed (pass.target w u_free scale st nu l) scale l nu work b work'
+-- the same for the target of the system of the rows f
+abbrev pub DirectedTo : FreeRows → List ℕ → List Float → List Float → Bool → List Float → Type 0
+DirectedTo f st nu work b work' =
+    let p = f.problem.now in
+    Directed (pass.target p.w.now p.u_free.now p.scale.now st nu f.rows.now) p.scale.now f.rows.now nu work b work'
 
--- a row that is dropped is 0, one taken 1, one that ends the collecting 2
-unfoldable pub verdict : Bool → Bool → ℕ
-verdict drop grow = cond drop 0 (cond grow 1 2)
-
--- the rows that a walk has, and their farthest; where it was stopped, none and 0
-abbrev pub walked_rows : walks.Walked → List ℕ
-walked_rows walks.none = []
-walked_rows (walks.these l far) = l
-
-abbrev pub walked_farthest : walks.Walked → Float
-walked_farthest walks.none = 0ᶠ
-walked_farthest (walks.these l far) = far
-
--- a walk over the first n rows has left k rows at the front of l, and their farthest
-pub record Collecting (c : walks.Walked) (n k : ℕ) (far : Float) (l : List ℕ) : Type 0 where
-  pub rows : walked_rows c ≡ take k l
-  pub farthest : walked_farthest c ≡ far
-  pub few : k ≤ n
-  pub within : k ≤ length l
-  pub below : Below n (take k l)
+-- the rows that a walk over n rows has, and their farthest; none where it was stopped
+abbrev pub Collected : Option RayRows → ℕ → walks.Walked → Type 0
+Collected c n walks.none = c ≡ None
+Collected c n (walks.these l far) =
+    MatchOption c ⊥ λ r. (r.rows.items ≡ l) × (r.farthest ≡ far) × (length l ≤ n) × Below n l
 
 -- the multipliers and states marked, of n rows
 abbrev pub marked : ℕ → List Float → List ℕ → pass.Trial
@@ -412,7 +236,7 @@ abbrev pub to_target : List Float → List ℕ → List Float → List Float →
 to_target scale l z nu k = tab (λ (i : ℕ). at scale (get_or l i 0) ⊗ at z i ⊖ at nu (get_or l i 0)) k
 
 unfoldable pub worse : ℕ → Float → Worst → Worst
-worse i r worst = cond (lt worst.residual r) (record { residual = r; row = i }) worst
+worse i r worst = cond (lt worst.residual r) (record { residual = r; row = Some i }) worst
 
 unfoldable pub release_row : box.Problem → List ℕ → List Float → ℕ → Worst → Worst
 release_row p st nu i worst =
@@ -421,7 +245,7 @@ release_row p st nu i worst =
     worst
 
 abbrev pub worst_row : box.Problem → List ℕ → List Float → ℕ → Worst
-worst_row p st nu n = turns n (record { residual = 1e-9; row = box.size p }) (release_row p st nu)
+worst_row p st nu n = turns n (record { residual = 1e-9; row = None }) (release_row p st nu)
 
 unfoldable pub unbounded : box.Problem → pass.Trial → List ℕ → List Float → pass.Pass
 unbounded p t l y = pass.unmet t (ray p t.states (pass.scattered l y (replicate (box.size p) 0ᶠ) (length l)))
@@ -431,9 +255,7 @@ unfoldable pub take_step : box.Problem → pass.Trial → List ℕ → List Floa
 take_step p t l y inconsistent =
     let r = pass.ratio_test p.lo p.hi l t.nu y (pass.longest inconsistent) (length l) in
     let u = pass.trial (pass.advance l y r.alpha t.nu (length l)) t.states in
-    cond (is_finite r.alpha)
-    (cond (eqb r.state box.inside) (pass.release p u) (pass.moved (pass.hold p.lo p.hi u r)))
-    (unbounded p t l y)
+    cond (is_finite r.alpha) (pass.arrived p u r.block) (unbounded p t l y)
 
 unfoldable pub free_step : box.Problem → pass.Trial → List ℕ → pass.Pass
 free_step p t l =

@@ -1,11 +1,11 @@
 -- What the public calls promise: the exact pass and the ray. Definitions only.
-use Rattle.std.specs.Prelude.{ℕ, ◌*◌, ◌≡◌, Bool, cond, ◌&&◌, List, [], leb, eqb, length, drop, Float}
+use Rattle.std.specs.Prelude.{ℕ, ◌*◌, ◌≡◌, Bool, cond, ◌&&◌, Option, Some, None, List, [], ◌∷◌, leb, eqb, length, drop, Float}
 use Rattle.loops.specs.Loops.{fronted}
 use Rattle.box_rows.specs.Rows as box
 use Rattle.exact_pass.specs.Pass.{Trial, trial, Pass, moved, found, failed, infeasible, exact_pass}
 use Rattle.exact_pass.specs.Ray.{ray}
 use Rattle.exact_pass.specs.declared.Exact.{Exact}
-use Rattle.exact_pass.specs.declared.Exact.TheVariants.{Moved, Found, Failed, Infeasible}
+use Rattle.exact_pass.specs.declared.Exact.TheVariants.{Found, Failed, Infeasible}
 
 -- the lists of a problem of at most 32 rows, with a state and a value for each row, and a row list long enough
 abbrev pub fits : box.Problem → ℕ → ℕ → ℕ → Bool
@@ -30,8 +30,9 @@ abbrev pub used : box.Problem → List ℕ → List Float → List ℕ → ℕ �
 used p st nu rows workspace =
     cond (leb WORKSPACE workspace && fits p (length st) (length nu) (length rows)) WORKSPACE 0
 
+-- a pass that has only moved has failed
 abbrev pub exact_of : Pass → Exact
-exact_of (moved t) = Moved
+exact_of (moved t) = Failed
 exact_of (found t) = Found
 exact_of (failed t) = Failed
 exact_of (infeasible l t) = Infeasible (length l)
@@ -65,7 +66,12 @@ pub record Left (p : box.Problem) (st₀ : List ℕ) (nu₀ : List Float) (r₀ 
 unfoldable pub ray_reply : box.Problem → List ℕ → List Float → List ℕ → List ℕ
 ray_reply p st y rows = cond (fits p (length st) (length y) (length rows)) (ray p st y) []
 
+-- how many rows, if there is one
+abbrev pub count_of : List ℕ → Option ℕ
+count_of [] = None
+count_of (a ∷ l) = Some (length (a ∷ l))
+
 -- l by its length k and at the front of what was l₀
-pub record Front (l l₀ : List ℕ) (k : ℕ) (l' : List ℕ) : Type 0 where
-  pub count : k ≡ length l
+pub record Front (l l₀ : List ℕ) (k : Option ℕ) (l' : List ℕ) : Type 0 where
+  pub count : k ≡ count_of l
   pub front : l' ≡ fronted l l₀

@@ -1,23 +1,36 @@
 // Cycles of steps: a step depends on multipliers and states alone, so a pass that comes back to those of an earlier
 // step goes round for ever, and whole cycles of the steps that remain are left out. Multipliers are marked in the
 // workspace, past least norm's part.
-ghost use Rattle.std.specs.Prelude.{◌≡◌, true, ◌≤◌, length, take};
+ghost use Rattle.std.specs.Prelude.{◌≡◌, ◌*◌, ◌+◌, ◌<◌, ◌≤◌, true, length, take};
 ghost use Rattle.exact_pass.specs.Pass as pass;
 ghost use Rattle.exact_pass.specs.Private as private;
 
-use crate::{Cycle, read};
+use crate::{Cycle, MARKED};
 
 // Whether two multipliers are one value, every NaN as one.
 fn same(x: f64, y: f64) -> bool
     ensures { result ≡ true → x ≡ y }
 {
-    if x != x {
-        return y != y;
+    if floats::is_nan(x) {
+        return floats::is_nan(y);
     }
-    if y != y {
+    if floats::is_nan(y) {
         return false;
     }
-    f64::to_bits(x) == f64::to_bits(y)
+    x.to_bits() == y.to_bits()
+}
+
+// The same of as many multipliers each.
+fn same_values(a: &[f64], b: &[f64]) -> bool
+    requires { length a.now ≡ length b.now }
+    ensures { result ≡ true → a.now ≡ b.now }
+{
+    for i in 0..a.len() {
+        if !same(a[i], b[i]) {
+            return false;
+        }
+    }
+    true
 }
 
 // Whether multipliers and states are those marked.
@@ -27,17 +40,7 @@ fn same_trial(nu: &[f64], states: &[u8], work: &[f64], marks: &[u8]) -> bool
         ≡ private.marked (length nu.now) work.now marks.now }
 {
     let n = nu.len();
-    let mut i = 0;
-    while i < n {
-        if read::state(marks, i) != read::state(states, i) {
-            return false;
-        }
-        if !same(read::at(work, crate::MARKED + i), read::at(nu, i)) {
-            return false;
-        }
-        i += 1;
-    }
-    true
+    &marks[..n] == states && same_values(&work[MARKED..MARKED + n], nu)
 }
 
 // How many of the steps that remain are still to be made, `since` steps after the mark.
@@ -49,7 +52,8 @@ fn remaining_after(
     since: usize,
     remaining: usize,
 ) -> usize
-    requires { private.SinceLent (length nu.now) states.now work.now marks.now since }
+    requires lent { private.MarksLent (length nu.now) states.now work.now marks.now }
+    requires some { 0 < since }
     ensures { private.Shortened
         (private.marked (length nu.now) work.now marks.now)
         (pass.trial nu.now states.now) since remaining result }
@@ -60,16 +64,13 @@ fn remaining_after(
     remaining
 }
 
-// The states marked.
+// The states marked, by a loop as in `store`.
 pub fn mark_states(states: &[u8], marks: &mut [u8])
     requires { length states.now ≤ length marks.old }
     ensures { take (length states.now) marks.new ≡ states.now }
 {
-    let n = states.len();
-    let mut i = 0;
-    while i < n {
-        read::put_state(marks, i, read::state(states, i));
-        i += 1;
+    for i in 0..states.len() {
+        marks[i] = states[i];
     }
 }
 
@@ -88,7 +89,7 @@ pub fn after_step(nu: &[f64], states: &[u8], work: &mut [f64], marks: &mut [u8],
             remaining,
         };
     }
-    read::copy(nu, work, crate::MARKED);
+    crate::store(nu, work, MARKED);
     mark_states(states, marks);
     Cycle {
         since: 0,

@@ -1,36 +1,31 @@
 // The free rows: those strictly inside their boxes (`stuck` in boxed.rs).
-ghost use Rattle.std.specs.Prelude.{◌+◌, ◌≤◌, ◌<◌, eqb, length};
-ghost use Rattle.box_rows.specs.Rows as box;
-ghost use Rattle.box_rows.specs.Private.{Noted};
+ghost use Rattle.std.specs.Prelude.{◌≡◌, ◌≤◌, length};
 ghost use Rattle.exact_pass.specs.Pass as pass;
-ghost use Rattle.exact_pass.specs.Private as private;
+ghost use Rattle.exact_pass.specs.Below.{Below};
 
-use crate::read;
+use arrayvec::ArrayVec;
+use box_rows::problem::BoxProblem;
+use box_rows::{INSIDE, MAX_ROWS};
 
-// Row i joins the k rows at the front of `free` where its state is inside; how many there are then.
-fn free_row(state: u8, i: usize, k: usize, free: &mut [u8]) -> usize
-    requires { private.Listing (i < 32) (k + 1) free.old }
-    ensures { Noted (eqb state box.inside) i k free.old result free.new }
-{
-    if state == box_rows::INSIDE {
-        read::put_state(free, k, i as u8);
-        return k + 1;
-    }
-    k
+// Some rows of a problem by their numbers, a byte each.
+#[derive(Clone, Copy)]
+pub struct FreeRows<'a> {
+    pub problem: &'a BoxProblem<'a>,
+    pub rows: &'a [u8],
+    pub ghost below: { Below (length problem.now.u_free.now) rows.now },
 }
 
-// They stand at the front of `free`, rising, a byte each; how many there are.
-pub fn free_rows(states: &[u8], free: &mut [u8]) -> usize
-    requires { private.Listing (length states.now ≤ 32) (length states.now) free.old }
-    ensures { private.Free (pass.free_rows states.now (length states.now))
-        (length states.now) result free.new }
+// Their numbers, rising.
+#[tactic(auto, using(crate::proofs::Rows::gathering))]
+pub fn free_rows(states: &[u8]) -> ArrayVec<u8, MAX_ROWS>
+    requires { length states.now ≤ 32 }
+    ensures { result.items ≡ pass.free_rows states.now (length states.now) }
 {
-    let n = states.len();
-    let mut k = 0;
-    let mut i = 0;
-    while i < n {
-        k = free_row(read::state(states, i), i, k, free);
-        i += 1;
+    let mut free = ArrayVec::new();
+    for (i, state) in states.iter().enumerate() {
+        if *state == INSIDE {
+            free.push(i as u8);
+        }
     }
-    k
+    free
 }

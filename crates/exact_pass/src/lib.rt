@@ -2,18 +2,23 @@
 // loop body, and the modules are its parts.
 #![tactic(auto)]
 
-ghost use Rattle.std.specs.Prelude.{◌≡◌};
+ghost use Rattle.std.specs.Prelude.{◌≡◌, ◌+◌, ◌≤◌, length};
+ghost use Rattle.box_rows.specs.Lent.{of};
 ghost use Rattle.box_rows.specs.Rows as box;
+ghost use Rattle.exact_pass.specs.Private as private;
 ghost use Rattle.exact_pass.specs.Promise as promise;
 
+use arrayvec::ArrayVec;
+use box_rows::MAX_ROWS;
+use box_rows::problem::BoxProblem;
+
 // The steps of a pass: start, free_rows, system, direction, ratio, release, rays where no bound is met, and cycles;
-// steps is one step and the run of them, read the reads and stores of all.
+// steps is one step and the run of them.
 mod cycles;
 mod direction;
 mod free_rows;
 mod ratio;
 mod rays;
-mod read;
 mod release;
 mod start;
 mod steps;
@@ -35,11 +40,9 @@ pub const MARKED: usize = 1088;
 
 pub const WORKSPACE: usize = 1120;
 
-// What a pass, or a step of it, found. Moved is a step's answer alone: the pass goes on. Of the rows that no motion
-// meets the number is told; they stand at the front of the row list.
-#[derive(Clone, Copy)]
+// What a pass found. Of the rows that no motion meets the number is told; they stand at the front of the row list.
+#[derive(Clone, Copy, PartialEq, Eq)]
 pub enum Exact {
-    Moved,
     Found,
     Failed,
     Infeasible(usize),
@@ -52,17 +55,17 @@ pub struct Residuals {
     pub second: f64,
 }
 
-// The row on a bound pushed inside the hardest, and its natural residual: row n is none.
+// The row on a bound pushed inside the hardest, if there is one, and its natural residual.
 #[derive(Clone, Copy)]
 pub struct Worst {
     pub residual: f64,
-    pub row: usize,
+    pub row: Option<usize>,
 }
 
-// How many rows a ray has, and the farthest of them over its scale.
-#[derive(Clone, Copy)]
+// The rows of a ray, and the farthest of them over its scale.
+#[derive(Drop)]
 pub struct RayRows {
-    pub count: usize,
+    pub rows: ArrayVec<usize, MAX_ROWS>,
     pub farthest: f64,
 }
 
@@ -75,34 +78,23 @@ pub struct Cycle {
     pub remaining: usize,
 }
 
-// Whether the lists are those of a problem of at most 32 rows, which has `states` states, `values` values and a row list
-// of `rows` places.
-fn fits(
-    w: &[f64],
-    u_free: &[f64],
-    lo: &[f64],
-    hi: &[f64],
-    scale: &[f64],
-    states: usize,
-    values: usize,
-    rows: usize,
-) -> bool
-    ensures { result ≡ promise.fits
-        (box.problem w.now u_free.now lo.now hi.now
-        scale.now)
-        states values rows }
+// A copy of `from` in `to`, from place a on. By a loop: the few values of a small pass are there before `copy_from_slice`
+// has been called, which made a solve of one or two rows a tenth slower.
+fn store(from: &[f64], to: &mut [f64], a: usize)
+    requires { a + length from.now ≤ length to.old }
+    ensures { private.Copied from.now a to.old to.new }
 {
-    let n = u_free.len();
-    if n > box_rows::MAX_ROWS {
-        return false;
+    for i in 0..from.len() {
+        to[a + i] = from[i];
     }
-    (w.len() == n * n)
-        & (lo.len() == n)
-        & (hi.len() == n)
-        & (scale.len() == n)
-        & (states == n)
-        & (values == n)
-        & (n <= rows)
+}
+
+// Whether there are a state and a value for each row of the problem, and a row list long enough.
+fn fits(p: &BoxProblem, states: usize, values: usize, rows: usize) -> bool
+    ensures { result ≡ promise.fits (of p.now) states values rows }
+{
+    let n = p.n();
+    states == n && values == n && n <= rows
 }
 
 // From the multipliers in nu the exact solution, in their place, with the states that the pass leaves; or the rows
@@ -120,20 +112,36 @@ pub fn exact_pass(
     workspace: &mut [f64],
 ) -> Exact
     ensures { promise.Left
-        (box.problem w.now u_free.now lo.now hi.now
-        scale.now)
+        (box.problem w.now u_free.now lo.now hi.now scale.now)
         states.old nu.old rows.old workspace.old
         result states.new nu.new rows.new workspace.new }
 {
-    let fit = fits(w, u_free, lo, hi, scale, states.len(), nu.len(), rows.len());
-    if (workspace.len() >= WORKSPACE) & fit {
-        return steps::run(w, u_free, lo, hi, scale, states, nu, rows, workspace);
+    match BoxProblem::new(w, u_free, lo, hi, scale) {
+        Some(p) => pass_of(&p, states, nu, rows, workspace),
+        None => Exact::Failed,
+    }
+}
+
+// The same of a problem whose lists fit one another.
+pub fn pass_of(
+    p: &BoxProblem,
+    states: &mut [u8],
+    nu: &mut [f64],
+    rows: &mut [usize],
+    workspace: &mut [f64],
+) -> Exact
+    ensures { promise.Left (of p.now)
+        states.old nu.old rows.old workspace.old
+        result states.new nu.new rows.new workspace.new }
+{
+    if workspace.len() >= WORKSPACE && fits(p, states.len(), nu.len(), rows.len()) {
+        return steps::run(p, states, nu, rows, workspace);
     }
     Exact::Failed
 }
 
 // The rows along whose direction y the problem falls without end, at the front of `rows`, and how many. Where there are
-// none, or the lists do not fit, 0 and nothing is changed.
+// none, or the lists do not fit, nothing is changed.
 pub fn ray(
     w: &[f64],
     u_free: &[f64],
@@ -143,16 +151,25 @@ pub fn ray(
     states: &[u8],
     y: &[f64],
     rows: &mut [usize],
-) -> usize
+) -> Option<usize>
     ensures { promise.Front
         (promise.ray_reply
-        (box.problem w.now u_free.now lo.now hi.now
-        scale.now)
+        (box.problem w.now u_free.now lo.now hi.now scale.now)
         states.now y.now rows.old)
         rows.old result rows.new }
 {
-    if fits(w, u_free, lo, hi, scale, states.len(), y.len(), rows.len()) {
-        return rays::ray(w, u_free, lo, hi, scale, states, y, rows);
+    let p = BoxProblem::new(w, u_free, lo, hi, scale)?;
+    ray_of(&p, states, y, rows)
+}
+
+// The same of a problem whose lists fit one another.
+pub fn ray_of(p: &BoxProblem, states: &[u8], y: &[f64], rows: &mut [usize]) -> Option<usize>
+    ensures { promise.Front
+        (promise.ray_reply (of p.now) states.now y.now rows.old)
+        rows.old result rows.new }
+{
+    if fits(p, states.len(), y.len(), rows.len()) {
+        return rays::ray(p, states, y, rows);
     }
-    0
+    None
 }

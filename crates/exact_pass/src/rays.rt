@@ -1,263 +1,138 @@
 // The ray test: whether the problem falls without end along a direction y, and the rows where y is not zero.
-ghost use Rattle.std.specs.Prelude.{◌≡◌, not, cond, ◌≤◌, ◌<◌, eqb, length};
-ghost use Rattle.loops.specs.Loops.{fronted};
-ghost use Rattle.floats.specs.Helpers.{larger};
-ghost use Rattle.box_rows.specs.Rows as box;
-ghost use Rattle.box_rows.specs.Private.{AtRow, Noted, Square};
+ghost use Rattle.std.specs.Prelude.{◌≡◌, ◌≤◌, length};
+ghost use Rattle.box_rows.specs.Lent.{of};
 ghost use Rattle.exact_pass.specs.Ray as rays;
 ghost use Rattle.exact_pass.specs.Walk as walks;
 ghost use Rattle.exact_pass.specs.Promise as promise;
 ghost use Rattle.exact_pass.specs.Private as private;
+ghost use Rattle.exact_pass.specs.Below.{Below};
 
-use crate::{RayRows, read};
-
-// The largest size so far, row a with it.
-fn larger_row(scale: &[f64], states: &[u8], y: &[f64], a: usize, worst: f64) -> f64
-    requires { AtRow (private.SizesLent (length y.now) scale.now states.now) (length y.now) a }
-    ensures { result ≡ private.largest_row scale.now states.now y.now a worst }
-{
-    if read::state(states, a) == box_rows::IDLE {
-        return worst;
-    }
-    floats::larger(worst, box_rows::size_of(read::at(y, a), read::at(scale, a)))
-}
+use crate::{DIVERGENCE, EXACT_RESIDUAL, RayRows};
+use arrayvec::ArrayVec;
+use box_rows::problem::BoxProblem;
+use box_rows::{IDLE, grows, size_of};
 
 // The largest size of a row that acts.
+#[tactic(auto, using(crate::proofs::Loops::turning), unfolding(crate::specs::Private::largest, crate::specs::Private::largest_row))]
 fn largest(scale: &[f64], states: &[u8], y: &[f64]) -> f64
-    requires { private.SizesLent (length y.now) scale.now states.now }
-    ensures { result ≡ private.largest scale.now states.now y.now
-        (length y.now) }
+    requires scales { length scale.now ≡ length y.now }
+    requires states { length states.now ≡ length y.now }
+    ensures { result ≡ private.largest scale.now states.now y.now (length y.now) }
 {
-    let n = y.len();
     let mut worst = 0.0;
-    let mut a = 0;
-    while a < n {
-        worst = larger_row(scale, states, y, a, worst);
-        a += 1;
+    for a in 0..y.len() {
+        if states[a] != IDLE {
+            worst = floats::larger(worst, size_of(y[a], scale[a]));
+        }
     }
     worst
 }
 
-// What a walk does with a row.
-const DROPPED: u8 = 0;
-
-const TAKEN: u8 = 1;
-
-const NO_RAY: u8 = 2;
-
-// A row is dropped where it is Idle or moves next to nothing; else it is taken if it may grow, and there is no ray if it
-// may not.
-fn verdict(lo: f64, hi: f64, state: u8, size: f64, y: f64, least: f64) -> u8
-    ensures { result ≡ private.verdict (walks.dropped (not (eqb state box.idle)) size least) (box.grows y lo hi) }
+// The rows that count and their farthest, in one walk, or none where one that counts may not grow. A row does not count
+// where it is Idle or moves next to nothing.
+fn collect(p: &BoxProblem, states: &[u8], y: &[f64], least: f64) -> Option<RayRows>
+    requires states { length states.now ≡ length p.now.u_free.now }
+    requires direction { length y.now ≡ length p.now.u_free.now }
+    ensures { private.Collected result (length y.now)
+        (walks.walked p.now.lo.now p.now.hi.now p.now.scale.now states.now y.now
+        least (length y.now)) }
 {
-    if state == box_rows::IDLE {
-        return DROPPED;
-    }
-    if size <= least {
-        return DROPPED;
-    }
-    if box_rows::grows(y, lo, hi) {
-        return TAKEN;
-    }
-    NO_RAY
-}
-
-// Row a joins the k rows at the front of the list where it is taken; how many there are then.
-fn taken(verdict: u8, a: usize, k: usize, list: &mut [usize]) -> usize
-    requires { k < length list.old }
-    ensures { Noted (eqb verdict 1) a k list.old result list.new }
-{
-    if verdict == TAKEN {
-        read::put_number(list, k, a);
-        return k + 1;
-    }
-    k
-}
-
-// A row that is dropped does not count for the farthest.
-fn farther(verdict: u8, size: f64, far: f64) -> f64
-    ensures { result ≡ cond (eqb verdict 1) (larger far size) far }
-{
-    if verdict == TAKEN {
-        return floats::larger(far, size);
-    }
-    far
-}
-
-// The rows that count and their farthest, in one walk: no row where one that counts may not grow.
-fn collect(
-    lo: &[f64],
-    hi: &[f64],
-    scale: &[f64],
-    states: &[u8],
-    y: &[f64],
-    least: f64,
-    list: &mut [usize],
-) -> RayRows
-    requires { private.Listing
-        (private.Scaled (length y.now) lo.now hi.now scale.now states.now)
-        (length y.now) list.old }
-    ensures { private.Collecting
-        (walks.walked lo.now hi.now scale.now states.now y.now
-        least (length y.now))
-        (length y.now) result.count result.farthest list.new }
-{
-    let n = y.len();
-    let mut k = 0;
-    let mut far = 0.0;
-    let mut a = 0;
-    while a < n {
-        let x = read::at(y, a);
-        let row_size = box_rows::size_of(x, read::at(scale, a));
-        let v = verdict(
-            read::at(lo, a),
-            read::at(hi, a),
-            read::state(states, a),
-            row_size,
-            x,
-            least,
-        );
-        if v == NO_RAY {
-            return RayRows {
-                count: 0,
-                farthest: 0.0,
-            };
+    let mut rows = ArrayVec::new();
+    let mut farthest = 0.0;
+    for a in 0..y.len() {
+        let size = size_of(y[a], p.scale[a]);
+        if states[a] == IDLE || size <= least {
+            continue;
         }
-        far = farther(v, row_size, far);
-        k = taken(v, a, k, list);
-        a += 1;
+        if !grows(y[a], p.lo[a], p.hi[a]) {
+            return None;
+        }
+        rows.push(a);
+        farthest = floats::larger(farthest, size);
     }
-    RayRows {
-        count: k,
-        farthest: far,
-    }
+    Some(RayRows { rows, farthest })
 }
 
 // lin: u_free times y, summed over the rows of l.
+#[tactic(auto, using(crate::proofs::Loops::turning), unfolding(crate::specs::Private::linear))]
 fn linear(u_free: &[f64], y: &[f64], l: &[usize]) -> f64
-    requires { private.Rows (length u_free.now ≡ length y.now) (length y.now) l.now }
-    ensures { result ≡ private.linear u_free.now y.now l.now
-        (length l.now) }
+    requires lists { length u_free.now ≡ length y.now }
+    requires below { Below (length y.now) l.now }
+    ensures { result ≡ private.linear u_free.now y.now l.now (length l.now) }
 {
-    let k = l.len();
     let mut s = 0.0;
-    let mut i = 0;
-    while i < k {
-        let a = read::number(l, i);
-        s = s + read::at(u_free, a) * read::at(y, a);
-        i += 1;
+    for i in 0..l.len() {
+        s = s + u_free[l[i]] * y[l[i]];
     }
     s
 }
 
 // quad with one row of the matrix more, whose own place in y holds v.
+#[tactic(auto, using(crate::proofs::Loops::turning), unfolding(crate::specs::Private::quadratic_row))]
 fn quadratic_row(row: &[f64], v: f64, y: &[f64], l: &[usize], quad: f64) -> f64
-    requires { private.Rows (length row.now ≡ length y.now) (length y.now) l.now }
-    ensures { result ≡ private.quadratic_row row.now v y.now l.now quad
-        (length l.now) }
+    requires lists { length row.now ≡ length y.now }
+    requires below { Below (length y.now) l.now }
+    ensures { result ≡ private.quadratic_row row.now v y.now l.now quad (length l.now) }
 {
-    let k = l.len();
     let mut q = quad;
-    let mut j = 0;
-    while j < k {
-        let b = read::number(l, j);
-        q = q + v * read::at(row, b) * read::at(y, b);
-        j += 1;
+    for j in 0..l.len() {
+        q = q + v * row[l[j]] * y[l[j]];
     }
     q
 }
 
 // quad: y times W times y, summed over the rows of l and its columns.
-fn quadratic(w: &[f64], y: &[f64], l: &[usize]) -> f64
-    requires { private.Rows (Square w.now (length y.now)) (length y.now) l.now }
-    ensures { result ≡ private.quadratic w.now (length y.now) y.now l.now
-        (length l.now) }
+#[tactic(auto, using(crate::proofs::Loops::turning), unfolding(crate::specs::Private::quadratic))]
+fn quadratic(p: &BoxProblem, y: &[f64], l: &[usize]) -> f64
+    requires direction { length y.now ≡ length p.now.u_free.now }
+    requires below { Below (length y.now) l.now }
+    ensures { result ≡ private.quadratic p.now.w.now (length y.now) y.now l.now (length l.now) }
 {
-    let k = l.len();
-    let n = y.len();
     let mut q = 0.0;
-    let mut i = 0;
-    while i < k {
-        let a = read::number(l, i);
-        q = quadratic_row(read::row(w, n, a), read::at(y, a), y, l, q);
-        i += 1;
+    for i in 0..l.len() {
+        q = quadratic_row(p.row(l[i]), y[l[i]], y, l, q);
     }
     q
 }
 
 // Along nu + t y the problem falls as t · lin + t² · quad / 2: without end if quad is zero, else to its least at
 // t = −lin / quad.
-fn falls(w: &[f64], u_free: &[f64], y: &[f64], l: &[usize], far: f64) -> bool
-    requires { private.FallsLent (length y.now) w.now u_free.now l.now }
+#[tactic(auto, unfolding(crate::specs::Private::falls))]
+fn falls(p: &BoxProblem, y: &[f64], l: &[usize], far: f64) -> bool
+    requires direction { length y.now ≡ length p.now.u_free.now }
+    requires below { Below (length y.now) l.now }
     ensures { result ≡ private.falls
-        (private.linear u_free.now y.now l.now (length l.now))
-        (private.quadratic w.now (length y.now) y.now l.now
-        (length l.now))
+        (private.linear p.now.u_free.now y.now l.now (length l.now))
+        (private.quadratic p.now.w.now (length y.now) y.now l.now (length l.now))
         far }
 {
-    let lin = linear(u_free, y, l);
+    let lin = linear(p.u_free, y, l);
     if lin >= 0.0 {
         return false;
     }
-    let quad = quadratic(w, y, l);
+    let quad = quadratic(p, y, l);
     if quad <= 0.0 {
         return true;
     }
-    -lin / quad * far > crate::DIVERGENCE
+    -lin / quad * far > DIVERGENCE
 }
 
-// The rows of l at the front of `rows`.
-fn front(l: &[usize], rows: &mut [usize])
-    requires { length l.now ≤ length rows.old }
-    ensures { rows.new ≡ fronted l.now rows.old }
+// The ray test: the rows of the ray at the front of `rows`, and how many. Where there is no ray, nothing is changed.
+pub fn ray(p: &BoxProblem, states: &[u8], y: &[f64], rows: &mut [usize]) -> Option<usize>
+    requires states { length states.now ≡ length p.now.u_free.now }
+    requires direction { length y.now ≡ length p.now.u_free.now }
+    requires list { length p.now.u_free.now ≤ length rows.old }
+    ensures { promise.Front (rays.ray (of p.now) states.now y.now) rows.old result rows.new }
 {
-    let k = l.len();
-    let mut i = 0;
-    while i < k {
-        read::put_number(rows, i, read::number(l, i));
-        i += 1;
-    }
-}
-
-// The ray test: the rows of the ray at the front of `rows`, and how many. Where there is none, 0 and nothing is changed.
-pub fn ray(
-    w: &[f64],
-    u_free: &[f64],
-    lo: &[f64],
-    hi: &[f64],
-    scale: &[f64],
-    states: &[u8],
-    y: &[f64],
-    rows: &mut [usize],
-) -> usize
-    requires { private.Listing
-        (private.Fit (length u_free.now) w.now lo.now hi.now scale.now states.now y.now)
-        (length u_free.now) rows.old }
-    ensures { promise.Front
-        (rays.ray
-        (box.problem w.now u_free.now lo.now hi.now scale.now)
-        states.now y.now)
-        rows.old result rows.new }
-{
-    let s = largest(scale, states, y);
+    let s = largest(p.scale, states, y);
     if s == 0.0 {
-        return 0;
+        return None;
     }
-    let mut list = [0usize; box_rows::MAX_ROWS];
-    let c = collect(
-        lo,
-        hi,
-        scale,
-        states,
-        y,
-        crate::EXACT_RESIDUAL * s,
-        &mut list,
-    );
-    let k = c.count;
-    let l = &list[..k];
-    if falls(w, u_free, y, l, c.farthest) {
-        front(l, rows);
-        return k;
+    let found = collect(p, states, y, EXACT_RESIDUAL * s)?;
+    let l = found.rows.as_slice();
+    if falls(p, y, l, found.farthest) {
+        rows[..l.len()].copy_from_slice(l);
+        return Some(l.len());
     }
-    0
+    None
 }

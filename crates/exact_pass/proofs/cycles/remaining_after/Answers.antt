@@ -1,10 +1,6 @@
-use Rattle.loops.proofs.Common.{refl, arith}
 use native.Mathlib.Nat.{mod-le}
 use Rattle.exact_pass.proofs.Periods.{rest-is}
 use Rattle.exact_pass.proofs.cycles.remaining_after.Goals as goal
 
 pub returns-then-same_trial : goal.returns-then-same_trial
 returns-then-same_trial c = record { steps = rest-is _ _ _ _ (c.same_trial.ensures c.if-same_trial.true); fewer = mod-le _ _ }
-
-pub returns : goal.returns
-returns c = record { steps = λ p h. refl; fewer = omega arith }

@@ -1,9 +1,6 @@
-use Rattle.loops.proofs.Common.{◌-◌, ◌≤◌, ◌≡◌, length}
-use Rattle.exact_pass.specs.Private.{linear}
+use Rattle.std.proofs.Common.{◌≡◌}
+use Rattle.exact_pass.specs.Private as private
 use Rattle.exact_pass.proofs.rays.linear.Given as goal
 
 abbrev pub invariant-loop-i : goal.invariant-loop-i
-invariant-loop-i l = (l.i ≤ l.k) × (l.k ≡ length l.l) × (l.s ≡ linear l.u_free l.y l.l l.i)
-
-abbrev pub decreases-loop-i : goal.decreases-loop-i
-decreases-loop-i l = l.k - l.i
+invariant-loop-i l = l.s ≡ private.linear l.u_free l.y l.l l.i

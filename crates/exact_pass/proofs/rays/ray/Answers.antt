@@ -1,35 +1,22 @@
-use Rattle.loops.proofs.Common.{arith, rules}
-use lib.ListN.{length-take}
-use Rattle.exact_pass.proofs.Collecting.{ray-zero, ray-found, ray-not}
+use Rattle.std.proofs.Common.{sym, arith}
+use mathlib.Core.Path.{◌∙◌}
+use Rattle.exact_pass.proofs.Collecting.{ray_zero, ray_stopped, ray_found, ray_not}
 use Rattle.exact_pass.proofs.rays.ray.Goals as goal
 
-pub largest-s-requires : goal.largest-s-requires
-largest-s-requires c = omega arith
-
 pub returns-then-s : goal.returns-then-s
-returns-then-s c = search (ray-zero, rules)
+returns-then-s c = ray_zero _ _ _ _ _ c.requires.direction _ c.largest-s.ensures c.if-s.true
 
-pub collect-c-requires : goal.collect-c-requires
-collect-c-requires c = omega arith
-
-pub slice_bounds-list-end : goal.slice_bounds-list-end
-slice_bounds-list-end c = omega arith
-
-pub slice_bounds-l-end : goal.slice_bounds-l-end
-slice_bounds-l-end c = simp length-take (omega arith)
-
-pub falls-requires : goal.falls-requires
-falls-requires c = let fit = c.requires.rows in
-    record { square = rw fit.values (fit.sized.0, fit.sized.1); free_motion = omega arith; below = search rules }
-
-pub front-requires : goal.front-requires
-front-requires c = simp length-take (omega arith)
-
-pub shape_of-rows-then-falls : goal.shape_of-rows-then-falls
-shape_of-rows-then-falls c = omega arith
+pub returns-in_err-found : goal.returns-in_err-found
+returns-in_err-found c =
+    rw c.from_residual.ensures (ray_stopped _ _ _ _ _ c.requires.direction _ c.largest-s.ensures c.if-s.false c.in_err-found.ensures)
 
 pub returns-then-falls : goal.returns-then-falls
-returns-then-falls c = search (ray-found, rules)
+returns-then-falls c =
+    let fallen = rw c.as_slice-l.ensures.value at (sym c.falls.ensures ∙ c.if-falls.true) in
+    rw (c.copy_from_slice.ensures.after, c.as_slice-l.ensures.value)
+    (ray_found _ _ _ _ _ c.requires.direction _ c.largest-s.ensures c.if-s.false _ c.in_ok-found.ensures fallen (omega arith))
 
 pub returns : goal.returns
-returns c = search (ray-not, rules)
+returns c =
+    let risen = rw c.as_slice-l.ensures.value at (sym c.falls.ensures ∙ c.if-falls.false) in
+    ray_not _ _ _ _ _ c.requires.direction _ c.largest-s.ensures c.if-s.false _ c.in_ok-found.ensures risen

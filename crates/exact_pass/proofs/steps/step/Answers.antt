@@ -1,52 +1,23 @@
-use Rattle.loops.proofs.Common.{refl, sym, arith}
-use lib.Seq.{length-take-le}
-use Rattle.exact_pass.proofs.Stepping.{step_released, step-free}
-use Rattle.exact_pass.proofs.Lent.{free-few, system-lent, step-lent}
+use Rattle.std.proofs.Common.{refl, sym, length}
+use borrow.Author.Tests.{eqb-true, eqb-false}
+use mathlib.Core.Path.{◌∙◌}
+use Rattle.exact_pass.specs.Pass.{free_rows}
+use Rattle.exact_pass.proofs.Rows.{free_below}
+use Rattle.exact_pass.proofs.Stepping.{part_is, step_released, step_free}
 use Rattle.exact_pass.proofs.steps.step.Goals as goal
 
-pub free_rows-k-requires : goal.free_rows-k-requires
-free_rows-k-requires c = omega arith
+pub invariant_of-free : goal.invariant_of-free
+invariant_of-free c = record { below = rw (c.as_slice.ensures.value, c.free_rows-list.ensures, c.requires.states) (free_below _ _) }
 
-pub release-requires : goal.release-requires
-release-requires c = c.requires.fit
-
-pub shape_of-states-then-k-eq0 : goal.shape_of-states-then-k-eq0
-shape_of-states-then-k-eq0 c = omega arith
-
-pub shape_of-nu-then-k-eq0 : goal.shape_of-nu-then-k-eq0
-shape_of-nu-then-k-eq0 c = refl
-
-pub returns-then-k-eq0 : goal.returns-then-k-eq0
-returns-then-k-eq0 c = let f = rw c.requires.fit.states at c.free_rows-k.ensures in
-    record { passed = step_released _ _ _ _ _ _ _ _ _ f.count c.if-k-eq0.true (c.release.ensures _); workspace = refl }
-
-pub slice_bounds-list-end : goal.slice_bounds-list-end
-slice_bounds-list-end c = omega (arith, free-few c.requires c.free_rows-k.ensures)
-
-pub slice_bounds-free-end : goal.slice_bounds-free-end
-slice_bounds-free-end c = sym (length-take-le _ _ (omega (arith, free-few c.requires c.free_rows-k.ensures)))
-
-pub of_free_rows-inconsistent-requires : goal.of_free_rows-inconsistent-requires
-of_free_rows-inconsistent-requires c = system-lent c.requires c.free_rows-k.ensures refl
-
-pub part-y-requires : goal.part-y-requires
-part-y-requires c = omega (arith, c.of_free_rows-inconsistent.auto.work, free-few c.requires c.free_rows-k.ensures, c.requires.workspace)
-
-pub take_step-requires : goal.take_step-requires
-take_step-requires c = step-lent c.requires c.free_rows-k.ensures c.if-k-eq0.false c.of_free_rows-inconsistent.new.work c.of_free_rows-inconsistent.auto.work c.part-y.ensures
-
-pub shape_of-states : goal.shape_of-states
-shape_of-states c = c.take_step.auto.states
-
-pub shape_of-nu : goal.shape_of-nu
-shape_of-nu c = c.take_step.auto.nu
-
-pub shape_of-rows : goal.shape_of-rows
-shape_of-rows c = c.take_step.auto.rows
-
-pub shape_of-work : goal.shape_of-work
-shape_of-work c = c.of_free_rows-inconsistent.auto.work
+pub returns-then-is_empty : goal.returns-then-is_empty
+returns-then-is_empty c =
+    let free = rw (c.as_slice.ensures.value, c.free_rows-list.ensures, c.requires.states) at (sym c.is_empty.ensures ∙ c.if-is_empty.true) in
+    record { passed = step_released _ _ _ _ _ _ _ _ (eqb-true _ _ free) (c.release.ensures _); workspace = refl }
 
 pub returns : goal.returns
-returns c = let f = rw c.requires.fit.states at c.free_rows-k.ensures in
-    step-free _ _ _ _ _ _ _ _ _ f.front f.count c.if-k-eq0.false _ _ c.of_free_rows-inconsistent.ensures c.part-y.ensures c.take_step.ensures
+returns c =
+    let rows = c.as_slice.ensures.value ∙ c.free_rows-list.ensures in
+    let free = rw (rows, c.requires.states) at (sym c.is_empty.ensures ∙ c.if-is_empty.false) in
+    step_free _ _ _ _ _ _ _ _ (eqb-false _ _ free) _ _ _ _ (rw (rows, c.requires.states) at c.of_free_rows-inconsistent.ensures)
+    (part_is 1056 (length (free_rows c.args.states.now (length c.args.p.now.u_free.now))) c.of_free_rows-inconsistent.new.work)
+    (rw (rows, c.requires.states) at c.take_step.ensures)

@@ -1,49 +1,35 @@
-use Rattle.loops.proofs.Common.{◌∙◌, arith, rules}
+use Rattle.std.proofs.Common.{ℕ, min, ◌+◌, ◌-◌, ◌*◌, ◌≤◌, ◌≡◌, ◌∙◌, arith, length}
 use Rattle.loops.proofs.Fill.{tab-start}
-use Rattle.loops.proofs.Turns.{turns-from, turns_done}
-use Rattle.box_rows.proofs.Matrix.{tab-filled}
-use Rattle.exact_pass.proofs.Lent.{part-long}
+use Rattle.loops.proofs.Turns.{turns-from}
 use Rattle.loops.proofs.Pairs.{tab-two, or-two}
+use Rattle.box_rows.proofs.Matrix.{tab-filled}
 use Rattle.exact_pass.proofs.system.residual.Goals as goal
 
-pub part-rhs-requires : goal.part-rhs-requires
-part-rhs-requires c = omega arith
+pub loop-h-init : goal.loop-h-init
+loop-h-init c =
+    let none : min (2 * 0) (length c.args.free.now.rows.now) ≡ 0 = omega arith in
+    rw none (record { downhill = tab-start _ _; inconsistent = turns-from _ _ })
 
-pub loop-i-init : goal.loop-i-init
-loop-i-init c = (search rules, search rules, search rules, tab-start _ _, turns-from _ _)
-
-pub second_row-e-requires : goal.second_row-e-requires
-second_row-e-requires c = omega arith
-
-pub two_rows-inconsistent-requires : goal.two_rows-inconsistent-requires
-two_rows-inconsistent-requires c = record {
-  first = record { square = c.requires.square; below = c.requires.listed.below; row = omega arith };
-  second = record { square = c.requires.square; below = c.requires.listed.below; row = omega arith };
-  side = part-long 1056 _ c.args.work.now c.part-rhs.ensures (omega arith);
-  solution = c.requires.listed.long;
-  direction = omega arith;
-}
-
-pub overflow_add-i : goal.overflow_add-i
-overflow_add-i c = omega (arith, c)
-
-pub loop-i-smaller : goal.loop-i-smaller
-loop-i-smaller c = omega (arith, c)
-
-pub loop-i-preserved : goal.loop-i-preserved
-loop-i-preserved c = let i = c.loop-i.invariant in
-    let e = c.second_row-e.ensures in (
-      omega (arith, c),
-      i.1,
-      omega arith,
-      c.two_rows-inconsistent.ensures.downhill ∙ tab-two e.least e.most _ _ _ i.3 i.2 (omega (arith, e, i.1, c.requires.direction)),
-      or-two e.least e.most _ _ _ i.4 c.two_rows-inconsistent.ensures.inconsistent,
-    )
-
-pub shape_of-y : goal.shape_of-y
-shape_of-y c = omega arith
+pub loop-h-preserved : goal.loop-h-preserved
+loop-h-preserved c =
+    let k : ℕ = length c.args.free.now.rows.now in
+    let i : ℕ = 2 * c.loop-h.h in
+    let e : ℕ = c.min-e.result in
+    let now : min i k ≡ i = omega arith in
+    let next : min (2 * (c.loop-h.h + 1)) k ≡ e + 1 = omega arith in
+    let least : i ≤ e = omega arith in
+    let most : e ≤ i + 1 = omega arith in
+    let was = c.loop-h.invariant in
+    let two = c.two_rows-inconsistent.ensures in
+    rw next (record {
+      downhill = (two.downhill ∙ tab-two least most _ _ _ (rw now at was.downhill) (omega arith) (omega arith));
+      inconsistent = or-two least most _ _ _ (rw now at was.inconsistent) two.inconsistent;
+    })
 
 pub returns : goal.returns
-returns c = let i = c.loop-i.invariant in
-    let k = c.part-rhs.ensures in
-    record { downhill = rw (← k) (tab-filled _ _ _ _ _ i.3 i.2 c.requires.direction (omega arith) (omega arith)); inconsistent = rw (← k) (turns_done _ _ _ _ _ (omega arith) (omega arith) i.4) }
+returns c =
+    let k : ℕ = length c.args.free.now.rows.now in
+    let all : min (2 * c.loop-h.h) k ≡ k = omega arith in
+    let part : 1056 + k - 1056 ≡ k = omega arith in
+    let was = rw (all, part) at c.loop-h.invariant in
+    record { downhill = tab-filled _ _ _ _ _ was.downhill (omega arith) c.requires.direction (omega arith) (omega arith); inconsistent = was.inconsistent }

@@ -1,9 +1,15 @@
-use Rattle.loops.proofs.Common.{◌-◌, ◌≤◌, ◌≡◌, ◌++◌, length, drop}
+use Rattle.std.proofs.Common.{ℕ, List, min, ◌≡◌, ◌*◌, ◌++◌, length, drop}
 use Rattle.exact_pass.specs.Private as private
 use Rattle.exact_pass.proofs.system.residual.Given as goal
 
-abbrev pub invariant-loop-i : goal.invariant-loop-i
-invariant-loop-i l = (l.i ≤ l.k) × (l.k ≡ length l.free) × (length l.y ≡ length l.initial.y) × (l.y ≡ private.downhill l.w l.scale l.free l.rhs l.z l.i ++ drop l.i l.initial.y) × (l.inconsistent ≡ private.inconsistent l.w l.scale l.free l.rhs l.z l.i)
+-- how many rows of l are tested after h pairs
+abbrev pub done : ℕ → List ℕ → ℕ
+done h l = min (2 * h) (length l)
 
-abbrev pub decreases-loop-i : goal.decreases-loop-i
-decreases-loop-i l = l.k - l.i
+abbrev pub invariant-loop-h : goal.invariant-loop-h
+invariant-loop-h l = record {
+  downhill :
+      l.y ≡ private.downhill l.free.problem.now.w.now l.free.problem.now.scale.now l.free.rows.now l.rhs l.z (done l.h l.free.rows.now)
+      ++ drop (done l.h l.free.rows.now) l.initial.y;
+  inconsistent : l.inconsistent ≡ private.inconsistent l.free.problem.now.w.now l.free.problem.now.scale.now l.free.rows.now l.rhs l.z (done l.h l.free.rows.now);
+}

@@ -1,9 +1,6 @@
-use Rattle.loops.proofs.Common.{◌-◌, ◌≤◌, ◌≡◌, length}
+use Rattle.std.proofs.Common.{◌≡◌}
 use Rattle.exact_pass.specs.Private as private
 use Rattle.exact_pass.proofs.system.residual_rows.Given as goal
 
 abbrev pub invariant-loop-j : goal.invariant-loop-j
-invariant-loop-j l = (l.j ≤ l.k) × (l.k ≡ length l.free) × (l.s ≡ private.residual_row l.first l.scale l.free l.z l.a l.j) × (l.t ≡ private.residual_row l.second l.scale l.free l.z l.b l.j)
-
-abbrev pub decreases-loop-j : goal.decreases-loop-j
-decreases-loop-j l = l.k - l.j
+invariant-loop-j l = (l.s ≡ private.residual_row l.first l.scale l.free l.z l.a l.j) × (l.t ≡ private.residual_row l.second l.scale l.free l.z l.b l.j)

@@ -1,9 +1,6 @@
-use Rattle.loops.proofs.Common.{◌-◌, ◌≤◌, ◌≡◌, length}
+use Rattle.std.proofs.Common.{◌≡◌, length}
 use Rattle.exact_pass.proofs.Systems.{columns}
 use Rattle.exact_pass.proofs.system.right_hand_side.Given as goal
 
 abbrev pub invariant-loop-j : goal.invariant-loop-j
-invariant-loop-j l = (l.j ≤ l.n) × (l.n ≡ length l.nu) × (length l.rhs ≡ length l.initial.rhs) × (l.rhs ≡ columns l.w l.u_free l.states l.nu l.free (length l.free) l.j)
-
-abbrev pub decreases-loop-j : goal.decreases-loop-j
-decreases-loop-j l = l.n - l.j
+invariant-loop-j l = l.rhs ≡ columns l.free.problem.now.w.now l.free.problem.now.u_free.now l.states l.nu l.free.rows.now (length l.free.rows.now) l.j
