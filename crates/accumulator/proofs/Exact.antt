@@ -1,6 +1,6 @@
 -- The words of an accumulator mean the exact sum of the terms that it took, and a row is its single calls. Assumes nothing.
-use Rattle.std.proofs.Common.{◌≡◌, ℕ, zero, suc, ◌+◌, ◌-◌, ◌*◌, ◌/◌, ◌%◌, ◌^◌, ◌<◌, ◌≤◌, Bool, true, false, cond, ◌&&◌, T, eqb, ltb, leb, List, [], ◌∷◌, Result, Ok, Err, ℤ, pos, negsuc, ◌+ℤ◌, ◌*ℤ◌, neg_ℤ, nat_abs, sym, refl, ap, ◌∙◌, subst, le_trans, le_refl, lt_of_le_of_lt, mul-le-mul_right, mod-lt, mod-eq_of_lt, mul_comm, div-lt_iff_lt-mul, mul-le-mul, div-add-mod', zero-mul, arith, ltb→lt, pow_mono, ltb-false, ltb-true, le-ltb, lt-ltb, leb-true}
-use native.Mathlib.Nat.{pow-succ', pow-zero, mod-eq-sub-mod, mul-mod_left, add-mul-mod_self_right, mod-add-div, div-le_of_le-mul}
+use Rattle.std.proofs.Common.{◌≡◌, ℕ, zero, suc, ◌+◌, ◌-◌, ◌*◌, ◌/◌, ◌%◌, ◌^◌, ◌<◌, ◌≤◌, Bool, true, false, cond, ◌&&◌, T, eqb, ltb, leb, List, [], ◌∷◌, Result, Ok, Err, ℤ, pos, negsuc, ◌+ℤ◌, ◌*ℤ◌, neg_ℤ, nat_abs, sym, refl, ap, ◌∙◌, subst, le_trans, le_refl, lt_of_le_of_lt, mul-le-mul_right, mod-lt, mod-eq_of_lt, mul-le-mul, div-add-mod', zero-mul, arith, ltb→lt, pow_mono, ltb-false, ltb-true, le-ltb, lt-ltb, leb-true}
+use native.Mathlib.Nat.{mod-eq-sub-mod, mul-mod_left, add-mul-mod_self_right, div-le_of_le-mul}
 use lib.IntN.{sub_ℕ}
 use lib.Ieee.{Float, nan, inf, fin, binary64, fits, up, down}
 use lib.Ieee.Fits.{and_r}
@@ -13,9 +13,9 @@ use Rattle.accumulator.specs.declared.Accumulator.{Accumulator}
 use Rattle.refusals.specs.declared.Refusal.{Refusal}
 use Rattle.refusals.specs.declared.Refusal.TheVariants.{NotFinite, ExactFull}
 use Rattle.std.specs.Result.{is_ok, result_unwrap_or}
-use Rattle.accumulator.specs.Accumulators.{value_in, digits_in, base, value, words, size, half, meaning, residue, signed, units, free_term, product_term, added, EMPTY, with_free, with_product, add_free, add_product, shorter, both_finite, row_sum, row}
+use Rattle.accumulator.specs.Accumulators.{value, words, size, half, meaning, residue, signed, units, free_term, product_term, added, EMPTY, with_free, with_product, add_free, add_product, shorter, both_finite, row_sum, row}
 use Rattle.accumulator.specs.Meaning.{Term, free, product, Held, AllHeld, term, after, sum, Exact, singles, RowIsSingles}
-use Rattle.accumulator.proofs.Values.{size_is, size_pos}
+use Rattle.accumulator.proofs.Values.{value-words, size_pos}
 use Rattle.accumulator.proofs.Calls.{taken}
 
 -- ---- whole numbers as differences: z is a - b
@@ -76,20 +76,9 @@ congruent-add x y v w f g =
 
 -- ---- the number of a number's words
 
-digits_value : (b : ℕ) → 0 < b → (n u : ℕ) → u < b ^ n → value_in b (digits_in b n u) ≡ u
-unfolding value_in digits_in
-digits_value b B zero u h = let g : u < 1 = rw (pow-zero b) at h in omega (arith, g)
-digits_value b B (suc n) u h =
-    let g : u < b * b ^ n = rw (pow-succ' b n) at h in
-    let f : u / b < b ^ n = (div-lt_iff_lt-mul B).1 (rw (mul_comm (b ^ n) b) g) in
-    rw (digits_value b B n (u / b) f) (mod-add-div u b)
-
-words-value : (u : ℕ) → u < size → value (words u) ≡ u
-words-value u h = digits_value base (omega arith) 67 u (rw size_is at h)
-
 added-value : (l : List ℕ) (t : ℤ) → value (added l t) ≡ (value l + residue t) % size
 unfolding added
-added-value l t = words-value ((value l + residue t) % size) (mod-lt (value l + residue t) size_pos)
+added-value l t = value-words ((value l + residue t) % size) ∙ mod-eq_of_lt (mod-lt (value l + residue t) size_pos)
 
 -- ---- magnitudes
 
@@ -204,13 +193,13 @@ empty-state : State EMPTY (pos 0)
 unfolding EMPTY
 empty-state =
     record {
-      like = record { p = 0; q = 0; is = refl-zero; small = subst (λ (x : ℕ). x < size) (sym (words-value 0 size_pos)) size_pos };
+      like = record { p = 0; q = 0; is = refl-zero; small = subst (λ (x : ℕ). x < size) (sym (value-words 0 ∙ mod-eq_of_lt size_pos)) size_pos };
       near = nought ((0 + one false) * largest_term);
       few = nought 32;
     }
   where
     refl-zero : 0 + 0 * size ≡ value (words 0) + 0 * size
-    refl-zero = ap (λ (x : ℕ). x + 0 * size) (sym (words-value 0 size_pos))
+    refl-zero = ap (λ (x : ℕ). x + 0 * size) (sym (value-words 0 ∙ mod-eq_of_lt size_pos))
 
 state_of : (l : List Term) → AllHeld l → State (after l) (sum l)
 unfolding after sum

@@ -1,8 +1,8 @@
 -- The bit patterns of the finite values of binary64 as whole numbers of 2 ^ -1074. Assumes nothing.
-use Rattle.std.proofs.Common.{◌≡◌, ℕ, suc, ◌+◌, ◌-◌, ◌*◌, ◌/◌, ◌%◌, ◌^◌, ◌<◌, ◌≤◌, Bool, true, false, cond, not, T, eqb, leb, ℤ, sym, refl, ap, ◌∙◌, subst, true≢false, lt_of_not-le, zero-add, mul-div_cancel, arith, le→leb, eqb→eq, leb→le, leb-true, leb-false}
-use lib.Dec.{not_T}
+use Rattle.std.proofs.Common.{◌≡◌, ℕ, suc, ◌+◌, ◌-◌, ◌*◌, ◌/◌, ◌%◌, ◌^◌, ◌<◌, ◌≤◌, Bool, true, false, cond, not, T, eqb, leb, ℤ, sym, refl, ap, ◌∙◌, subst, true≢false, lt_of_not-le, zero-add, mul-div_cancel, arith, leb-true, leb-false}
+use borrow.Author.Tests.{lt-leb, le-leb, ne_eqb}
 use lib.Ieee.{Float, nan, inf, fin, binary64, up, down, odd, of_fields, of_bits, to_bits, is_nan, fits}
-use lib.Ieee.Bits.{is_true, is_false, cond_no, of_bits-to_bits, to_bits-lt}
+use lib.Ieee.Bits.{of_bits-to_bits, to_bits-lt}
 use lib.Ieee.Exact.{HasValue, odd_sign}
 use lib.Ieee.Fits.{down_pos}
 use Rattle.floats.specs.Helpers.{is_finite}
@@ -25,13 +25,10 @@ alike : (s s' : Bool) (x x' t t' : ℕ) → s ≡ s' → x ≡ x' → t ≡ t' �
 alike s s' x x' t t' p q r = cc
 
 low_bit : (m : ℕ) → m < sign_bit → leb sign_bit (0 + m) ≡ false
-low_bit m h = is_false (leb sign_bit (0 + m)) (not_T (leb sign_bit (0 + m)) (λ u. below (leb→le sign_bit (0 + m) u)))
-  where
-    below : sign_bit ≤ 0 + m → ⊥
-    below u = omega (arith, u, h)
+low_bit m h = lt-leb sign_bit (0 + m) (omega (arith, h))
 
 high_bit : (m : ℕ) → leb sign_bit (sign_bit + m) ≡ true
-high_bit m = is_true (leb sign_bit (sign_bit + m)) (le→leb sign_bit (sign_bit + m) (omega arith))
+high_bit m = le-leb sign_bit (sign_bit + m) (omega arith)
 
 fields_of : (s : Bool) (m : ℕ) → m < sign_bit → pattern s m ≡ of_fields binary64 s (m / hidden_bit) (m % hidden_bit)
 unfolding of_bits
@@ -42,12 +39,9 @@ at_zero : (s : Bool) (t : ℕ) → of_fields binary64 s 0 t ≡ odd 53 s t 0 107
 unfolding of_fields
 at_zero s t = refl
 
-differ : (x : ℕ) → suc x < 2047 → suc x ≡ 2047 → ⊥
-differ x h e = omega (arith, h, e)
-
 under_ones : (s : Bool) (x t : ℕ) → suc x < 2047 → of_fields binary64 s (suc x) t ≡ odd 53 s (hidden_bit + t) x 1074
 unfolding of_fields
-under_ones s x t h = cond_no (eqb (suc x) 2047) (cond (eqb t 0) (inf s) nan) (odd 53 s (hidden_bit + t) x 1074) (not_T (eqb (suc x) 2047) (λ u. differ x h (eqb→eq (suc x) 2047 u)))
+under_ones s x t h = rw (ne_eqb (suc x) 2047 (λ e. omega (arith, e, h))) refl
 
 at_ones : (s : Bool) (t : ℕ) → is_fin (of_fields binary64 s 2047 t) ≡ false
 unfolding of_fields

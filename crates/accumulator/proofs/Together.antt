@@ -1,6 +1,6 @@
 -- Terms added to the words from one on, or taken from them, one word after the other. Assumes nothing.
-use Rattle.std.proofs.Common.{◌≡◌, ℕ, zero, suc, ◌+◌, ◌*◌, ◌%◌, ◌^◌, ◌<◌, Bool, false, List, [], ◌∷◌, length, get_or, set, take, sym, ap, ◌∙◌, subst, mul_comm, pow-suc, pow-add, add-one, arith}
-use native.Mathlib.Nat.{pow-zero}
+use Rattle.std.proofs.Common.{◌≡◌, ℕ, zero, suc, ◌+◌, ◌*◌, ◌%◌, ◌^◌, ◌<◌, Bool, false, List, [], ◌∷◌, length, get_or, set, take, sym, ap, ◌∙◌, subst, pow-add, add-one, arith}
+use native.Mathlib.Nat.{pow-zero, pow-succ'}
 use Rattle.std.specs.Int.{from_bool}
 use Rattle.accumulator.specs.Accumulators.{value_in, base, value, words, size}
 use Rattle.accumulator.specs.Steps.{Moved, Words, Carried}
@@ -11,12 +11,12 @@ use Rattle.accumulator.proofs.Values.{none-carried, word-carried, settled, size_
 up : (b x v u y p : ℕ) → v ≡ u + y * p → x + b * v ≡ x + b * u + y * (b * p)
 up b x v u y p h = let g : b * v ≡ b * (u + y * p) = ap (λ (z : ℕ). b * z) h in omega (arith, g)
 
-more-digits : (b : ℕ) (l : List ℕ) (i : ℕ) → i < length l → value_in b (take (suc i) l) ≡ value_in b (take i l) + get_or l i 0 * b ^ i
+pub more-digits : (b : ℕ) (l : List ℕ) (i : ℕ) → i < length l → value_in b (take (suc i) l) ≡ value_in b (take i l) + get_or l i 0 * b ^ i
 unfolding value_in
 more-digits b [] i h = absurd (omega (arith, h))
 more-digits b (x ∷ l) zero h = let p : b ^ 0 ≡ 1 = pow-zero b in rw p (omega arith)
 more-digits b (x ∷ l) (suc i) h =
-    let p : b ^ suc i ≡ b * b ^ i = pow-suc b i ∙ mul_comm (b ^ i) b in
+    let p : b ^ suc i ≡ b * b ^ i = pow-succ' b i in
     rw p (up b x (value_in b (take (suc i) l)) (value_in b (take i l)) (get_or l i 0) (b ^ i) (more-digits b l i (omega (arith, h))))
 
 -- ---- the loop: i terms are moved to the words from the word k on

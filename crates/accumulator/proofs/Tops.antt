@@ -37,10 +37,10 @@ half_is : half ≡ 9223372036854775808 * base ^ 66
 unfolding half
 half_is = refl
 
-negative : (l : List ℕ) → Words l → 9223372036854775808 ≤ get_or l 66 0 → half ≤ value l
+pub negative : (l : List ℕ) → Words l → 9223372036854775808 ≤ get_or l 66 0 → half ≤ value l
 negative l w h = rw half_is (le_trans (mul-le-mul_right (base ^ 66) h) (top_reaches base 66 l w.all))
 
-not_negative : (l : List ℕ) → Words l → get_or l 66 0 < 9223372036854775808 → value l < half
+pub not_negative : (l : List ℕ) → Words l → get_or l 66 0 < 9223372036854775808 → value l < half
 not_negative l w h =
     let g : get_or l 66 0 + 1 ≤ 9223372036854775808 = omega (arith, h) in
     rw half_is (lt_of_lt_of_le (top_bounds base 66 l w.all (λ i. w.each i)) (mul-le-mul_right (base ^ 66) g))

@@ -1,17 +1,15 @@
 -- Numbers in words: what a stored word does to the number, and that a number below size has one list of 67 words. Assumes nothing.
-use Rattle.std.proofs.Common.{◌≡◌, ℕ, zero, suc, ◌+◌, ◌-◌, ◌*◌, ◌/◌, ◌%◌, ◌^◌, ◌<◌, ◌≤◌, Bool, true, false, List, [], ◌∷◌, length, get_or, set, sym, refl, ap, ◌∙◌, subst, mod-lt, mod-eq_of_lt, mul_comm, mul-le-mul_left, pow-suc, div-add-mod', zero-add, add-one, arith, pow_pos, length-set}
-use native.Mathlib.Nat.{pow-zero, div-eq_of_lt, zero-mod, add-mul-mod_self_left, add-mul-mod_self_right, add-mul-div_left}
+use Rattle.std.proofs.Common.{◌≡◌, ℕ, zero, suc, ◌+◌, ◌-◌, ◌*◌, ◌/◌, ◌%◌, ◌^◌, ◌<◌, ◌≤◌, Bool, true, false, List, [], ◌∷◌, length, get_or, set, sym, refl, ap, ◌∙◌, subst, mod-lt, mod-eq_of_lt, mul-le-mul_left, pow-suc, div-add-mod', zero-add, add-one, arith, pow_pos, length-set}
+use lib.Arith.{mod-mul}
+use native.Mathlib.Nat.{one-le-pow, mod-one, pow-succ', pow-zero, div-eq_of_lt, zero-mod, add-mul-mod_self_left, add-mul-mod_self_right, add-mul-div_left}
 use Rattle.accumulator.specs.Accumulators.{value_in, digits_in, base, value, words, size, residue, signed, added}
 use Rattle.std.specs.Int.{from_bool}
 use Rattle.accumulator.specs.Steps.{Moved, Words, Carried}
 
 -- ---- a word stored, over any base b
 
-more : (b i : ℕ) → b ^ suc i ≡ b * b ^ i
-more b i = pow-suc b i ∙ mul_comm (b ^ i) b
-
 pub one_more : (b i : ℕ) → b ^ (i + 1) ≡ b * b ^ i
-one_more b i = ap (λ (j : ℕ). b ^ j) (add-one i) ∙ more b i
+one_more b i = ap (λ (j : ℕ). b ^ j) (add-one i) ∙ pow-succ' b i
 
 -- the step of the induction: what holds of the tail, times b
 up : (b x v u o w p : ℕ) → v + o * p ≡ u + w * p → x + b * v + o * (b * p) ≡ x + b * u + w * (b * p)
@@ -25,7 +23,7 @@ unfolding value_in
 stored b [] i w h = absurd (omega (arith, h))
 stored b (x ∷ l) zero w h = let p : b ^ 0 ≡ 1 = pow-zero b in rw p (zeroth b x w (value_in b l))
 stored b (x ∷ l) (suc i) w h =
-    let p : b ^ suc i ≡ b * b ^ i = more b i in
+    let p : b ^ suc i ≡ b * b ^ i = pow-succ' b i in
     rw p (up b x (value_in b (set l i w)) (value_in b l) (get_or l i 0) w (b ^ i) (stored b l i w (omega (arith, h))))
 
 -- ---- terms moved to the number of 67 words, or from it: t says which, and what is carried is moved in turn
@@ -97,7 +95,7 @@ value-lt b (w ∷ l) h =
     let p = b ^ length l in
     let a : v + 1 ≤ p = omega (arith, value-lt b l (λ i. h (suc i))) in
     let m : b * (v + 1) ≤ b * p = mul-le-mul_left b a in
-    rw (more b (length l)) (omega (arith, m, h 0))
+    rw (pow-succ' b (length l)) (omega (arith, m, h 0))
 
 digits-back : (b : ℕ) → 0 < b → (l : List ℕ) → ((i : ℕ) → get_or l i 0 < b) → digits_in b (length l) (value_in b l) ≡ l
 unfolding value_in digits_in
@@ -119,6 +117,20 @@ pub settled : (l : List ℕ) (n r q : ℕ) → Words l → value l + q * size �
 settled l n r q h e =
     let m : n % size ≡ value l = sym (add-mul-mod_self_right n r size) ∙ ap (λ (x : ℕ). x % size) (sym e) ∙ add-mul-mod_self_right (value l) q size ∙ mod-eq_of_lt (below-size l h) in
     sym (ap words m ∙ back l h)
+
+-- ---- a number of 67 words is that number modulo size
+
+value-digits : (b : ℕ) → 0 < b → (n u : ℕ) → value_in b (digits_in b n u) ≡ u % b ^ n
+unfolding value_in digits_in
+value-digits b h zero u = sym (ap (λ (p : ℕ). u % p) (pow-zero b) ∙ mod-one u)
+value-digits b h (suc n) u =
+    let e = value-digits b h n (u / b) in
+    let m : u % (b ^ n * b) ≡ (u / b % b ^ n) * b + u % b = mod-mul u (one-le-pow n b h) h in
+    let p : u % b ^ suc n ≡ u % (b ^ n * b) = ap (λ (q : ℕ). u % q) (pow-suc b n) in
+    rw e (omega (arith, m, p))
+
+pub value-words : (u : ℕ) → value (words u) ≡ u % size
+value-words u = value-digits base (omega arith) 67 u ∙ ap (λ (p : ℕ). u % p) (sym size_is)
 
 -- ---- what the code leaves is the definition's sum
 

@@ -1,6 +1,6 @@
 -- Worked sums, values by their bit patterns, as one table that the checker computes. A call that is refused leaves all as it was.
-use Rattle.std.specs.Prelude.{◌≡◌, ℕ, Bool, true, false, ◌&&◌, List, [], ◌∷◌, ◌++◌, map, replicate, ℤ, pos, negsuc, eqb, refl, Result, Ok, Err, Float}
-use Rattle.std.specs.Result.{result_unwrap_or}
+use Rattle.std.specs.Prelude.{◌≡◌, ℕ, Bool, true, false, ◌&&◌, List, [], ◌∷◌, ◌++◌, map, replicate, ℤ, pos, negsuc, eqb, refl, Result, Float}
+use Rattle.std.specs.Result.{result_unwrap_or, result_err}
 use Rattle.std.specs.Bool.{beq}
 use Rattle.std.specs.Float.{binary64}
 use Rattle.std.specs.Float.Ieee.{of_bits, lt}
@@ -9,7 +9,7 @@ use Rattle.loops.specs.Lists.{same}
 use Rattle.floats.specs.Helpers.{is_finite}
 use Rattle.accumulator.specs.declared.Accumulator.{Accumulator}
 use Rattle.refusals.specs.declared.Refusal.{Refusal}
-use Rattle.refusals.specs.Numbers as refusals
+use Rattle.refusals.specs.Calls.{or_zero}
 use Rattle.accumulator.specs.Accumulators.{value_in, digits_in, size, half, meaning, residue, sign_of, units, free_term, product_term, added, EMPTY, with_free, with_product, add_free, add_product, shorter, both_finite, row_sum, row}
 
 -- ---- calls, by bit patterns, and runs of equal numbers
@@ -49,11 +49,6 @@ unfolding add_free add_product with_free with_product added free_term product_te
 answer a (free u) = add_free a (of_bits binary64 u)
 answer a (product w v) = add_product a (of_bits binary64 w) (of_bits binary64 v)
 
--- the number of an answer, 0 where the call is taken
-abbrev number : Result Accumulator Refusal → ℕ
-number (Ok a) = 0
-number (Err r) = refusals.number r
-
 -- ---- a case: calls from EMPTY and the number that each gets, or a whole row and its number; then products, free, sign and words
 
 data Case : Type 0 where
@@ -64,7 +59,7 @@ after : Accumulator → List Call → List ℕ → (Accumulator → Bool) → Bo
 after a [] [] f = f a
 after a [] (k ∷ ks) f = false
 after a (c ∷ cs) [] f = false
-after a (c ∷ cs) (k ∷ ks) f = let x = answer a c in eqb (number x) k && after (result_unwrap_or x a) cs ks f
+after a (c ∷ cs) (k ∷ ks) f = let x = answer a c in eqb (or_zero (result_err x)) k && after (result_unwrap_or x a) cs ks f
 
 floats : List ℕ → List Float
 floats l = map (of_bits binary64) l
@@ -72,7 +67,7 @@ floats l = map (of_bits binary64) l
 passes : Case → Bool
 unfolding EMPTY digits_in row row_sum shorter both_finite every turns with_free with_product added free_term product_term units residue size value_in is_finite lt of_bits
 passes (sums cs ks n f s l) = after EMPTY (calls cs) (numbers ks) (λ a. left a n f s (numbers l))
-passes (rows u w v k n f s l) = let x = row (of_bits binary64 u) (floats w) (floats v) in eqb (number x) k && left (result_unwrap_or x EMPTY) n f s (numbers l)
+passes (rows u w v k n f s l) = let x = row (of_bits binary64 u) (floats w) (floats v) in eqb (or_zero (result_err x)) k && left (result_unwrap_or x EMPTY) n f s (numbers l)
 
 each : List Case → Bool
 each [] = true

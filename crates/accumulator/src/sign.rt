@@ -14,6 +14,7 @@ fn is_zero(words: &[u64; WORDS]) -> bool
 
 impl Accumulator {
     // The sign of the exact sum: -1, 0 or 1. Below 0 the top bit is set; above 0 any other may be the only one.
+    // It stays a number, as signum gives one in Rust: the C interface passes it on, and would turn an Ordering back.
     pub fn sign(self) -> i8
         ensures { result ≡ acc.sign_of (acc.meaning self.words) }
     {

@@ -12,7 +12,8 @@ const LEADING: u64 = 0x10_0000_0000_0000;
 
 const SIGN: u64 = 0x8000_0000_0000_0000;
 
-// A finite value: digits * 2^places units of 2^-1074, below 0 where negative.
+// A finite value: digits * 2^places units of 2^-1074, below 0 where negative. The sign stays beside the digits, as in a pattern: signed digits would be
+// taken apart again where words are added or taken away.
 #[derive(Clone, Copy)]
 struct Scaled {
     negative: bool,

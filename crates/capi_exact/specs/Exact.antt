@@ -5,7 +5,8 @@ use Rattle.loops.specs.Loops.{pasted}
 use Rattle.accumulator.specs.declared.Accumulator.{Accumulator}
 use Rattle.refusals.specs.declared.Refusal.{Refusal}
 use Rattle.refusals.specs.declared.Refusal.TheVariants.{Short}
-use Rattle.refusals.specs.Numbers as refusals
+use Rattle.refusals.specs.Calls.{or_zero}
+use Rattle.std.specs.Result.{result_err}
 use Rattle.accumulator.specs.Accumulators.{meaning, sign_of}
 use Rattle.flags.specs.Flags.{flag, flagged}
 
@@ -31,10 +32,6 @@ held words counts = reply (taken words counts) (Ok (state words counts))
 
 -- ---- what is left: the sum where the call is taken, and else nothing is written
 
-abbrev pub number : Result Accumulator Refusal → ℕ
-number (Ok a) = 0
-number (Err r) = refusals.number r
-
 abbrev pub words_left : Result Accumulator Refusal → List ℕ → List ℕ
 words_left (Ok a) l = pasted a.words l
 words_left (Err r) l = l
@@ -44,7 +41,7 @@ counts_left (Ok a) l = set (set l 0 a.products) 1 (flag a.free)
 counts_left (Err r) l = l
 
 pub record Left (x : Result Accumulator Refusal) (r : ℕ) (words words' counts counts' : List ℕ) : Type 0 where
-  pub number_is : r ≡ number x
+  pub number_is : r ≡ or_zero (result_err x)
   pub words_are : words' ≡ words_left x words
   pub counts_are : counts' ≡ counts_left x counts
 

@@ -1,5 +1,6 @@
 // Exact row sums by plain numbers: 67 words, and two counts, how many products they hold and whether a free motion. A
 // call that is refused writes nothing.
+// Words and counts stay two slices, as C lends them: a struct of both would be made and taken apart in each call.
 ghost use Rattle.std.specs.Prelude.{◌≡◌, ◌≤◌, length};
 ghost use Rattle.accumulator.specs.Accumulators as acc;
 ghost use Rattle.accumulator.specs.Joins as joins;
@@ -32,7 +33,6 @@ fn held(words: &[u64], counts: &[u32]) -> Result<Accumulator, Refusal>
 }
 
 // The sum left in words and counts.
-#[tactic(auto, using(crate::proofs::Sums::pasted_front))]
 fn keep(sum: Accumulator, words: &mut [u64], counts: &mut [u32])
     requires { (67 ≤ length words.old) × (2 ≤ length counts.old) }
     ensures { (words.new ≡ def.words_left (Ok sum) words.old) × (counts.new ≡ def.counts_left (Ok sum) counts.old) }

@@ -9,15 +9,19 @@ use native.Mathlib.Nat.{zero-add}
 use lib.Dec.{leb}
 use lib.IntN.{pos, neg_ℤ}
 use lib.Pow.{pow_pos}
-use lib.ListN.{length, get_or, take, drop, set, drop_of_length-le}
-use lib.Seq.{take-suc, take-suc-set, take_all, length-take-le}
+use lib.ListN.{length, get_or, take, set, length-set}
+use lib.Seq.{take_all}
+use Rattle.std.proofs.lemmas.List.{take-set, get_or-set_same}
 use borrow.Author.Tests.{le-leb, lt-leb, lt-ltb, le-ltb, leb-true, leb-false}
 use lib.Ieee.{Float, binary64, round, neg}
 use Rattle.floats.proofs.Rounding.{round-neg}
 use Rattle.std.specs.Int.{from_bool}
 use Rattle.accumulator.specs.Accumulators.{value_in, value, base, size, half, meaning}
 use Rattle.nearest.specs.ToNearest.{plus_zero, nearest}
-use Rattle.nearest.proofs.Words.{Below, under, over, more, appended, at_word, from_word, front-lt, alone}
+use Rattle.accumulator.specs.Steps.{Words}
+use Rattle.accumulator.proofs.Values.{one_more, below-size}
+use Rattle.accumulator.proofs.Tops.{negative, not_negative}
+use Rattle.accumulator.proofs.Together.{more-digits}
 
 -- ---- the loop: what is left and what was read make what is owed
 
@@ -28,18 +32,18 @@ neg-start a b = refl
 neg-step : (A W x w c c' p b : ℕ) → A + W ≡ c * p → x + w + c ≡ c' * b → A + x * p + (W + w * p) ≡ c' * (b * p)
 neg-step A W x w c c' p b h e = let g : (x + w + c) * p ≡ c' * b * p = ap (λ (y : ℕ). y * p) e in omega arith
 
-front_more : (l : List ℕ) (i : ℕ) → i < length l → value (take (suc i) l) ≡ value (take i l) + get_or l i 0 * base ^ i
-front_more l i h = ap value (take-suc l i 0 h) ∙ appended base (take i l) (get_or l i 0) ∙ ap (λ (n : ℕ). value (take i l) + get_or l i 0 * base ^ n) (length-take-le i l (omega arith))
-
 front-set : (l : List ℕ) (i x : ℕ) → i < length l → value (take (suc i) (set l i x)) ≡ value (take i l) + x * base ^ i
-front-set l i x h = ap value (take-suc-set l i x h) ∙ appended base (take i l) x ∙ ap (λ (n : ℕ). value (take i l) + x * base ^ n) (length-take-le i l (omega arith))
+front-set l i x h =
+    let g : i < length (set l i x) = omega (arith, length-set l i x) in
+    more-digits base (set l i x) i g
+    ∙ ap (λ (k : List ℕ). value k + get_or (set l i x) i 0 * base ^ i) (take-set l i x) ∙ ap (λ (y : ℕ). value (take i l) + y * base ^ i) (get_or-set_same l i x 0 h)
 
 pub neg_again : (a b : List ℕ) (i x : ℕ) (c c' : Bool) → length a ≡ 67 → length b ≡ 67 → i < 67
     → value (take i a) + value (take i b) ≡ from_bool c * base ^ i
     → x + get_or b i 0 + from_bool c ≡ 0 + from_bool c' * 2 ^ 64
     → value (take (i + 1) (set a i x)) + value (take (i + 1) b) ≡ from_bool c' * base ^ (i + 1)
 neg_again a b i x c c' f g h e k =
-    rw (add-one, front-set a i x (omega arith), front_more b i (omega arith), more base i)
+    rw (one_more base i, add-one, front-set a i x (omega arith), more-digits base b i (omega arith))
     (neg-step (value (take i a)) (value (take i b)) x (get_or b i 0) (from_bool c) (from_bool c') (base ^ i) base e (k ∙ zero-add (from_bool c' * base)))
 
 left_over : (A W p : ℕ) (c : Bool) → A + W ≡ from_bool c * p → 0 < W → A ≡ p - W
@@ -58,32 +62,12 @@ neg_done a b i c f g m e p = left_over (value a) (value b) (base ^ 67) c whole p
 
 -- ---- the highest word says the sign
 
-module _ (l : List ℕ) (B : Below base l) (long : length l ≡ 67) where
-  by_top : value l ≡ value (take 66 l) + 2 ^ (66 * 64) * get_or l 66 0
-  unfolding value_in
-  by_top =
-      at_word l 66
-      ∙ ap (λ (x : ℕ). value (take 66 l) + 2 ^ (66 * 64) * x)
-      (from_word l 66 (omega arith) ∙ alone (get_or l 66 0) base (value (drop 67 l)) (ap value (drop_of_length-le l {i = 67} (omega arith))))
-
-  below_half : get_or l 66 0 < 9223372036854775808 → value l < half
-  unfolding half
-  below_half h = subst (λ (x : ℕ). x < half) (sym by_top) (under (value (take 66 l)) (2 ^ (66 * 64)) (get_or l 66 0) 9223372036854775808 (front-lt l B 66) h)
-
-  from-half : 9223372036854775808 ≤ get_or l 66 0 → half ≤ value l
-  unfolding half
-  from-half h = subst (λ (x : ℕ). half ≤ x) (sym by_top) (over (value (take 66 l)) (2 ^ (66 * 64)) (get_or l 66 0) 9223372036854775808 h)
-
-  below-size : value l < size
-  unfolding size
-  below-size = subst (λ (x : ℕ). x < size) (sym by_top) (under (value (take 66 l)) (2 ^ (66 * 64)) (get_or l 66 0) base (front-lt l B 66) (B 66))
-
-  pub by_top_bit : (leb 9223372036854775808 (get_or l 66 0) ≡ leb half (value l)) × (value l < size)
-  by_top_bit = (go (leb 9223372036854775808 (get_or l 66 0)) refl, below-size)
-    where
-      go : (b : Bool) → leb 9223372036854775808 (get_or l 66 0) ≡ b → b ≡ leb half (value l)
-      go true e = sym (le-leb half (value l) (from-half (leb-true 9223372036854775808 (get_or l 66 0) e)))
-      go false e = sym (lt-leb half (value l) (below_half (leb-false 9223372036854775808 (get_or l 66 0) e)))
+pub by_top_bit : (l : List ℕ) → Words l → (leb 9223372036854775808 (get_or l 66 0) ≡ leb half (value l)) × (value l < size)
+by_top_bit l w = (go (leb 9223372036854775808 (get_or l 66 0)) refl, below-size l w)
+  where
+    go : (b : Bool) → leb 9223372036854775808 (get_or l 66 0) ≡ b → b ≡ leb half (value l)
+    go true e = sym (le-leb half (value l) (negative l w (leb-true 9223372036854775808 (get_or l 66 0) e)))
+    go false e = sym (lt-leb half (value l) (not_negative l w (leb-false 9223372036854775808 (get_or l 66 0) e)))
 
 -- ---- what the words mean
 

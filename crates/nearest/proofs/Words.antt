@@ -2,10 +2,10 @@
 use Prim.Native.Nat.{ℕ, zero, suc, ◌+◌, ◌-◌, ◌*◌, ◌/◌, ◌%◌, ◌^◌, ◌≤◌, ◌<◌}
 use mathlib.Core.Path.{◌≡◌, refl, sym, ap, ◌∙◌, subst}
 use mathlib.Core.Logic.{◌⊎◌, inl, inr}
-use mathlib.Core.List.{List, [], ◌∷◌, ◌++◌}
+use mathlib.Core.List.{List, [], ◌∷◌}
 use native.Mathlib.Omega.{arith}
 use native.Mathlib.Numerals.{add-one}
-use native.Mathlib.Nat.{pow-zero, pow-suc, mul_comm, mul-pos, suc-mul, mul-le-mul_left, eq-zero-or-pos, lt_of_lt_of_le, div-lt_iff_lt-mul, div-add-mod', mod-add-div', add-mul-mod_self_right}
+use native.Mathlib.Nat.{one-le-pow, pow-succ', pow-zero, pow-suc, suc-mul, mul-le-mul_left, eq-zero-or-pos, lt_of_lt_of_le, div-lt_iff_lt-mul, div-add-mod', mod-add-div', add-mul-mod_self_right}
 use lib.Arith.{digits_div, digits_mod}
 use lib.Pow.{pow_pos, pow_mono, pow-add, shr-shr, mod-pow-add}
 use lib.ListN.{length, get_or, take, drop}
@@ -18,9 +18,6 @@ Below b l = (i : ℕ) → get_or l i 0 < b
 
 -- ---- over any base b
 
-pub more : (b i : ℕ) → b ^ suc i ≡ b * b ^ i
-more b i = pow-suc b i ∙ mul_comm (b ^ i) b
-
 cut-none : (p v : ℕ) → p ≡ 1 → v ≡ 0 + p * v
 cut-none p v h = rw h (omega arith)
 
@@ -32,11 +29,7 @@ pub cut : (b : ℕ) (l : List ℕ) (i : ℕ) → value_in b l ≡ value_in b (ta
 unfolding value_in
 cut b l zero = cut-none (b ^ 0) (value_in b l) (pow-zero b)
 cut b [] (suc i) = omega arith
-cut b (x ∷ l) (suc i) = rw (more b i) (cut_step b x (value_in b l) (value_in b (take i l)) (b ^ i) (value_in b (drop i l)) (cut b l i))
-
-power_pos : (b i : ℕ) → 0 < b → 0 < b ^ i
-power_pos b zero h = rw (pow-zero b) (omega arith)
-power_pos b (suc i) h = rw (more b i) (mul-pos h (power_pos b i h))
+cut b (x ∷ l) (suc i) = rw (pow-succ' b i) (cut_step b x (value_in b l) (value_in b (take i l)) (b ^ i) (value_in b (drop i l)) (cut b l i))
 
 below_step : (b x t p : ℕ) → x < b → t < p → x + b * t < b * p
 below_step b x t p h k = let g : b * suc t ≤ b * p = mul-le-mul_left b k in omega arith
@@ -44,8 +37,8 @@ below_step b x t p h k = let g : b * suc t ≤ b * p = mul-le-mul_left b k in om
 pub front_below : (b : ℕ) (l : List ℕ) → Below b l → (i : ℕ) → value_in b (take i l) < b ^ i
 unfolding value_in
 front_below b l h zero = rw (pow-zero b) (omega arith)
-front_below b [] h (suc i) = power_pos b (suc i) (h 0)
-front_below b (x ∷ l) h (suc i) = rw (more b i) (below_step b x (value_in b (take i l)) (b ^ i) (h 0) (front_below b l (λ j. h (suc j)) i))
+front_below b [] h (suc i) = one-le-pow (suc i) b (h 0)
+front_below b (x ∷ l) h (suc i) = rw (pow-succ' b i) (below_step b x (value_in b (take i l)) (b ^ i) (h 0) (front_below b l (λ j. h (suc j)) i))
 
 turned : (t p d : ℕ) → t + p * d ≡ d * p + t
 turned t p d = omega arith
@@ -57,35 +50,6 @@ high b l h i =
 low : (b : ℕ) (l : List ℕ) → Below b l → (i : ℕ) → value_in b l % b ^ i ≡ value_in b (take i l)
 low b l h i =
     ap (λ (x : ℕ). x % b ^ i) (cut b l i ∙ turned (value_in b (take i l)) (b ^ i) (value_in b (drop i l))) ∙ digits_mod (value_in b (drop i l)) (front_below b l h i)
-
--- one more word at the top
-append-step : (b x v p w q : ℕ) → v ≡ q + w * p → x + b * v ≡ x + b * q + w * (b * p)
-append-step b x v p w q h = let g : b * v ≡ b * (q + w * p) = ap (λ (y : ℕ). b * y) h in omega arith
-
-append-none : (b w p : ℕ) → p ≡ 1 → w + b * 0 ≡ 0 + w * p
-append-none b w p h = rw h (omega arith)
-
-pub appended : (b : ℕ) (l : List ℕ) (w : ℕ) → value_in b (l ++ (w ∷ [])) ≡ value_in b l + w * b ^ length l
-unfolding value_in
-appended b [] w = append-none b w (b ^ 0) (pow-zero b)
-appended b (x ∷ l) w = rw (more b (length l)) (append-step b x (value_in b (l ++ (w ∷ []))) (b ^ length l) w (value_in b l) (appended b l w))
-
--- a number that is 0 has no other word
-zero-first : (b x v : ℕ) → x + b * v ≡ 0 → x ≡ 0
-zero-first b x v h = omega arith
-
-zero_rest : (b x v : ℕ) → 0 < b → x + b * v ≡ 0 → v ≡ 0
-zero_rest b x v p h = go (eq-zero-or-pos v)
-  where
-    go : (v ≡ 0) ⊎ (0 < v) → v ≡ 0
-    go (inl e) = e
-    go (inr q) = let g : 0 < b * v = mul-pos p q in absurd (omega arith)
-
-pub zero-words : (b : ℕ) → 0 < b → (l : List ℕ) → value_in b l ≡ 0 → (i : ℕ) → get_or l i 0 ≡ 0
-unfolding value_in
-zero-words b p [] h i = refl
-zero-words b p (x ∷ l) h zero = zero-first b x (value_in b l) h
-zero-words b p (x ∷ l) h (suc i) = zero-words b p l (zero_rest b x (value_in b l) p h) i
 
 -- ---- words of 64 digits
 

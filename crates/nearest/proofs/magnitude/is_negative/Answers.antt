@@ -3,4 +3,4 @@ use Rattle.nearest.proofs.Negation.{by_top_bit}
 use Rattle.nearest.proofs.magnitude.is_negative.Goals as goal
 
 pub returns : goal.returns
-returns c = by_top_bit _ (λ i. search rules) c.told-words
+returns c = by_top_bit _ (record { all = c.told-words; each = λ i. search rules })
