@@ -1,7 +1,6 @@
 -- Terms added to the words from one on, or taken from them, one word after the other. Assumes nothing.
 use Rattle.std.proofs.Common.{◌≡◌, ℕ, zero, suc, ◌+◌, ◌*◌, ◌%◌, ◌^◌, ◌<◌, Bool, false, List, [], ◌∷◌, length, get_or, set, take, sym, ap, ◌∙◌, subst, pow-add, add-one, arith}
 use native.Mathlib.Nat.{pow-zero, pow-succ'}
-use Rattle.std.specs.Int.{from_bool}
 use Rattle.accumulator.specs.Accumulators.{value_in, base, value, words, size}
 use Rattle.accumulator.specs.Steps.{Moved, Words, Carried}
 use Rattle.accumulator.proofs.Values.{none-carried, word-carried, settled, size_is}
@@ -28,10 +27,10 @@ none-placed t l k h = let e : 0 * base ^ k ≡ 0 * base ^ (k + 0) = omega arith 
 placed : (v x p q r : ℕ) → q * p ≡ r → (v + x * q) * p ≡ v * p + x * r
 placed v x p q r h = let e : x * (q * p) ≡ x * r = ap (λ (y : ℕ). x * y) h in omega (arith, e)
 
-pub term-placed : (t : Bool) (a terms l : List ℕ) (k i w : ℕ) (c f : Bool) → i < length terms → k + i < 67 → w < base
-    → Moved t (get_or l (k + i) 0) w (get_or terms i 0 + from_bool c) (base * from_bool f)
-    → Carried t a l (value (take i terms) * base ^ k) (from_bool c * base ^ (k + i))
-    → Carried t a (set l (k + i) w) (value (take (i + 1) terms) * base ^ k) (from_bool f * base ^ (k + (i + 1)))
+pub term-placed : (t : Bool) (a terms l : List ℕ) (k i w c f : ℕ) → i < length terms → k + i < 67 → w < base
+    → Moved t (get_or l (k + i) 0) w (get_or terms i 0 + c) (base * f)
+    → Carried t a l (value (take i terms) * base ^ k) (c * base ^ (k + i))
+    → Carried t a (set l (k + i) w) (value (take (i + 1) terms) * base ^ k) (f * base ^ (k + (i + 1)))
 term-placed t a terms l k i w c f h g b m e =
     let x = get_or terms i 0 in
     let p : base ^ i * base ^ k ≡ base ^ (k + i) = sym (pow-add base i k) ∙ ap (λ (j : ℕ). base ^ j) (omega arith) in
@@ -39,9 +38,9 @@ term-placed t a terms l k i w c f h g b m e =
     let n : value (take (i + 1) terms) * base ^ k ≡ value (take i terms) * base ^ k + x * base ^ (k + i)
     = ap (λ (v : ℕ). v * base ^ k) one ∙ placed (value (take i terms)) x (base ^ k) (base ^ i) (base ^ (k + i)) p in
     let j : k + i + 1 ≡ k + (i + 1) = omega arith in
-    subst (λ (v : ℕ). Carried t a (set l (k + i) w) v (from_bool f * base ^ (k + (i + 1)))) (sym n)
-    (subst (λ (y : ℕ). Carried t a (set l (k + i) w) (value (take i terms) * base ^ k + x * base ^ (k + i)) (from_bool f * base ^ y)) j
-    (word-carried t a l (k + i) w x (from_bool c) (from_bool f) (value (take i terms) * base ^ k) g b m e))
+    subst (λ (v : ℕ). Carried t a (set l (k + i) w) v (f * base ^ (k + (i + 1)))) (sym n)
+    (subst (λ (y : ℕ). Carried t a (set l (k + i) w) (value (take i terms) * base ^ k + x * base ^ (k + i)) (f * base ^ y)) j
+    (word-carried t a l (k + i) w x c f (value (take i terms) * base ^ k) g b m e))
 
 -- ---- all the words of another number
 

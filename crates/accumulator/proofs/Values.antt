@@ -3,7 +3,6 @@ use Rattle.std.proofs.Common.{◌≡◌, ℕ, zero, suc, ◌+◌, ◌-◌, ◌*�
 use lib.Arith.{mod-mul}
 use native.Mathlib.Nat.{one-le-pow, mod-one, pow-succ', pow-zero, div-eq_of_lt, zero-mod, add-mul-mod_self_left, add-mul-mod_self_right, add-mul-div_left}
 use Rattle.accumulator.specs.Accumulators.{value_in, digits_in, base, value, words, size, residue, signed, added}
-use Rattle.std.specs.Int.{from_bool}
 use Rattle.accumulator.specs.Steps.{Moved, Words, Carried}
 
 -- ---- a word stored, over any base b
@@ -74,9 +73,9 @@ pub size_is : size ≡ base ^ 67
 unfolding size
 size_is = refl
 
-pub none_left : (t : Bool) (a l : List ℕ) (n i : ℕ) (c : Bool) → c ≡ false → Carried t a l n (from_bool c * base ^ i) → Carried t a l n (0 * size)
+pub none_left : (t : Bool) (a l : List ℕ) (n i c : ℕ) → c ≡ 0 → Carried t a l n (c * base ^ i) → Carried t a l n (0 * size)
 none_left t a l n i c e h =
-    let none : from_bool c * base ^ i ≡ 0 * size = rw e (omega arith) in
+    let none : c * base ^ i ≡ 0 * size = rw e (omega arith) in
     subst (λ (y : ℕ). Carried t a l n y) none h
 
 pub at_top : (t : Bool) (a l : List ℕ) (n c i : ℕ) → i ≤ 67 → 67 ≤ i → Carried t a l n (c * base ^ i) → Carried t a l n (c * size)

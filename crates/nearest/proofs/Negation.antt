@@ -1,11 +1,10 @@
 -- The magnitude of a negative number in two's complement, and which numbers are negative. Assumes nothing.
 use Prim.Native.Nat.{ℕ, zero, suc, ◌+◌, ◌-◌, ◌*◌, ◌^◌, ◌≤◌, ◌<◌}
 use mathlib.Core.Path.{◌≡◌, refl, sym, ap, ◌∙◌, subst}
-use mathlib.Core.Bool.{Bool, true, false, cond}
+use mathlib.Core.Bool.{Bool, true, false, not, cond}
 use mathlib.Core.List.{List}
 use native.Mathlib.Omega.{arith}
 use native.Mathlib.Numerals.{add-one}
-use native.Mathlib.Nat.{zero-add}
 use lib.Dec.{leb}
 use lib.IntN.{pos, neg_ℤ}
 use lib.Pow.{pow_pos}
@@ -23,14 +22,17 @@ use Rattle.accumulator.proofs.Values.{one_more, below-size}
 use Rattle.accumulator.proofs.Tops.{negative, not_negative}
 use Rattle.accumulator.proofs.Together.{more-digits}
 
--- ---- the loop: what is left and what was read make what is owed
+-- ---- the loop: what is left and what was read make base ^ i, with the carry of a complement, which is there where nothing is owed
 
-pub neg-start : (a b : List ℕ) → value (take 0 a) + value (take 0 b) ≡ 0 * base ^ 0
+pub neg-start : (a b : List ℕ) → value (take 0 a) + value (take 0 b) + 1 * base ^ 0 ≡ base ^ 0
 unfolding value_in
 neg-start a b = refl
 
-neg-step : (A W x w c c' p b : ℕ) → A + W ≡ c * p → x + w + c ≡ c' * b → A + x * p + (W + w * p) ≡ c' * (b * p)
-neg-step A W x w c c' p b h e = let g : (x + w + c) * p ≡ c' * b * p = ap (λ (y : ℕ). y * p) e in omega arith
+neg-step : (A W x w p b : ℕ) (c c' : Bool) → A + W + from_bool (not c) * p ≡ p → x + w + from_bool c ≡ 0 + from_bool c' * b → A + x * p + (W + w * p) + from_bool (not c') * (b * p) ≡ b * p
+neg-step A W x w p b false false h e = let g : (x + w + 0) * p ≡ (0 + 0 * b) * p = ap (λ (y : ℕ). y * p) e in omega arith
+neg-step A W x w p b false true h e = let g : (x + w + 0) * p ≡ (0 + 1 * b) * p = ap (λ (y : ℕ). y * p) e in omega arith
+neg-step A W x w p b true false h e = absurd (omega arith)
+neg-step A W x w p b true true h e = let g : (x + w + 1) * p ≡ (0 + 1 * b) * p = ap (λ (y : ℕ). y * p) e in omega arith
 
 front-set : (l : List ℕ) (i x : ℕ) → i < length l → value (take (suc i) (set l i x)) ≡ value (take i l) + x * base ^ i
 front-set l i x h =
@@ -39,31 +41,34 @@ front-set l i x h =
     ∙ ap (λ (k : List ℕ). value k + get_or (set l i x) i 0 * base ^ i) (take-set l i x) ∙ ap (λ (y : ℕ). value (take i l) + y * base ^ i) (get_or-set_same l i x 0 h)
 
 pub neg_again : (a b : List ℕ) (i x : ℕ) (c c' : Bool) → length a ≡ 67 → length b ≡ 67 → i < 67
-    → value (take i a) + value (take i b) ≡ from_bool c * base ^ i
+    → value (take i a) + value (take i b) + from_bool (not c) * base ^ i ≡ base ^ i
     → x + get_or b i 0 + from_bool c ≡ 0 + from_bool c' * 2 ^ 64
-    → value (take (i + 1) (set a i x)) + value (take (i + 1) b) ≡ from_bool c' * base ^ (i + 1)
+    → value (take (i + 1) (set a i x)) + value (take (i + 1) b) + from_bool (not c') * base ^ (i + 1) ≡ base ^ (i + 1)
 neg_again a b i x c c' f g h e k =
     rw (one_more base i, add-one, front-set a i x (omega arith), more-digits base b i (omega arith))
-    (neg-step (value (take i a)) (value (take i b)) x (get_or b i 0) (from_bool c) (from_bool c') (base ^ i) base e (k ∙ zero-add (from_bool c' * base)))
+    (neg-step (value (take i a)) (value (take i b)) x (get_or b i 0) (base ^ i) base c c' e k)
 
-left_over : (A W p : ℕ) (c : Bool) → A + W ≡ from_bool c * p → 0 < W → A ≡ p - W
-left_over A W p true h w = omega arith
-left_over A W p false h w = absurd (omega arith)
+left_over : (A W c p : ℕ) → A + W + c * p ≡ p → 0 < W → A ≡ p - W
+left_over A W zero p h w = omega arith
+left_over A W (suc c) p h w = absurd (omega arith)
 
-pub neg_done : (a b : List ℕ) (i : ℕ) (c : Bool) → length a ≡ 67 → length b ≡ 67 → i ≡ 67
-    → value (take i a) + value (take i b) ≡ from_bool c * base ^ i → 0 < value b → value a ≡ size - value b
+pub neg_done : (a b : List ℕ) (i c : ℕ) → length a ≡ 67 → length b ≡ 67 → i ≤ 67 → 67 ≤ i
+    → value (take i a) + value (take i b) + c * base ^ i ≡ base ^ i → 0 < value b → value a ≡ size - value b
 unfolding size
-neg_done a b i c f g m e p = left_over (value a) (value b) (base ^ 67) c whole p
+neg_done a b i c f g l m e p = left_over (value a) (value b) c (base ^ 67) whole p
   where
-    whole : value a + value b ≡ from_bool c * base ^ 67
+    at-end : i ≡ 67
+    at-end = omega arith
+
+    whole : value a + value b + c * base ^ 67 ≡ base ^ 67
     whole =
-        sym (ap (λ (x : List ℕ). value x + value (take 67 b)) (take_all 67 a (omega arith)) ∙ ap (λ (x : List ℕ). value a + value x) (take_all 67 b (omega arith)))
-        ∙ subst (λ (n : ℕ). value (take n a) + value (take n b) ≡ from_bool c * base ^ n) m e
+        sym (ap (λ (x : List ℕ). value x + value (take 67 b) + c * base ^ 67) (take_all 67 a (omega arith)) ∙ ap (λ (x : List ℕ). value a + value x + c * base ^ 67) (take_all 67 b (omega arith)))
+        ∙ subst (λ (n : ℕ). value (take n a) + value (take n b) + c * base ^ n ≡ base ^ n) at-end e
 
 -- ---- the highest word says the sign
 
-pub by_top_bit : (l : List ℕ) → Words l → (leb 9223372036854775808 (get_or l 66 0) ≡ leb half (value l)) × (value l < size)
-by_top_bit l w = (go (leb 9223372036854775808 (get_or l 66 0)) refl, below-size l w)
+pub is_negative : (l : List ℕ) → Words l → (leb 9223372036854775808 (get_or l 66 0) ≡ leb half (value l)) × (value l < size)
+is_negative l w = (go (leb 9223372036854775808 (get_or l 66 0)) refl, below-size l w)
   where
     go : (b : Bool) → leb 9223372036854775808 (get_or l 66 0) ≡ b → b ≡ leb half (value l)
     go true e = sym (le-leb half (value l) (negative l w (leb-true 9223372036854775808 (get_or l 66 0) e)))

@@ -1,8 +1,7 @@
 use Rattle.std.proofs.Common.{◌*◌, ◌^◌}
-use Rattle.std.specs.Int.{from_bool}
 use Rattle.accumulator.specs.Accumulators as acc
 use Rattle.accumulator.specs.Steps as steps
 use Rattle.accumulator.proofs.words.carry_on.Given as goal
 
 abbrev pub invariant-loop-i : goal.invariant-loop-i
-invariant-loop-i g l = steps.Carried g.O.Operation.taken l.initial.words l.words (from_bool l.fn.carry * acc.base ^ l.from) (from_bool l.carry * acc.base ^ l.i)
+invariant-loop-i g l = steps.Carried g.O.Operation.taken l.initial.words l.words (l.fn.carry * acc.base ^ l.from) (l.carry * acc.base ^ l.i)

@@ -9,4 +9,4 @@ pub loop-i-preserved : goal.loop-i-preserved
 loop-i-preserved c = (search rules, neg_again _ _ _ _ _ _ c.loop-i.invariant.0 c.told-words (omega arith) c.loop-i.invariant.1 c.borrowing_sub.ensures)
 
 pub returns : goal.returns
-returns c = neg_done _ _ _ _ c.loop-i.invariant.0 c.told-words (omega arith) c.loop-i.invariant.1 c.requires
+returns c = neg_done _ _ _ _ c.loop-i.invariant.0 c.told-words (omega arith) (omega arith) c.loop-i.invariant.1 c.requires
