@@ -39,9 +39,6 @@ front-words (suc n) [] h i = none_word
 front-words (suc n) (x ∷ l) h zero = h zero
 front-words (suc n) (x ∷ l) h (suc i) = front-words n l (λ j. h (suc j)) i
 
-pub front-short : (n : ℕ) (l : List Float) → n ≤ length l → n ≤ 32 → length (take n l) ≤ 32
-front-short n l h k = omega (arith, length-take n l)
-
 pub front-few : (n : ℕ) (l : List ℕ) → length l ≤ 32 → length (take n l) ≤ 32
 front-few n l h = omega (arith, length-take n l)
 

@@ -1,22 +1,11 @@
 -- The test of a join's sums says what each sum comes to.
-use Prim.Native.Nat.{ℕ, ◌+◌, ◌-◌, ◌≤◌}
-use mathlib.Core.Path.{◌≡◌, refl}
-use mathlib.Core.Bool.{Bool, true, false}
-use native.Mathlib.Omega.{arith}
-use lib.Dec.{leb}
-use borrow.Author.Tests.{le-leb, lt-leb, leb-true, leb-false}
+use Prim.Native.Nat.{ℕ, ◌+◌, ◌≤◌}
+use mathlib.Core.Path.{◌≡◌}
+use mathlib.Core.Bool.{true}
+use borrow.Author.Tests.{le-leb, leb-true}
 use Rattle.loops.proofs.Every.{both_true}
 use Rattle.report.specs.declared.SolveReport.{SolveReport}
 use Rattle.report.specs.Joins.{most, sum_fits, sums_fit, all_sums_fit, Summable, AllSummable}
-
--- the code tests y against what x leaves
-pub room-left : (x y : ℕ) → x ≤ most → leb y (most - x) ≡ sum_fits x y
-unfolding sum_fits
-room-left x y h = go (leb (x + y) most) refl
-  where
-    go : (b : Bool) → leb (x + y) most ≡ b → leb y (most - x) ≡ b
-    go true e = le-leb y (most - x) (omega (arith, leb-true (x + y) most e))
-    go false e = lt-leb y (most - x) (omega (arith, leb-false (x + y) most e))
 
 fits : (x y : ℕ) → sum_fits x y ≡ true → x + y ≤ most
 unfolding sum_fits
