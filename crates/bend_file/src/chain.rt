@@ -13,7 +13,8 @@ use refusals::Refusal;
 // The most steps of a pull.
 pub const MAX_STEPS: usize = 40;
 
-// The steps of a chained bend file, newest first: how many, and where the trailer of each ends, with 0 past them.
+// The steps of a chained bend file, newest first: how many, and where the trailer of each ends, with 0 past them. The
+// array and its count stand side by side since C is given the whole array, and memory is fixed.
 #[derive(Clone, Copy)]
 pub struct Chain {
     pub count: usize,
@@ -57,6 +58,7 @@ fn find(file: &[u8], step: usize) -> Result<Option<Values>, Refusal>
 // past them stays, and so does everything where the file is refused or has no such step. `w` has at least 1,024 values,
 // `motion` 2,048 and each other buffer 32; shorter ones get 10 at once. None: the file has no such step, which is no
 // refusal.
+// The buffers stay apart, as C lends them.
 pub fn read_step(
     file: &[u8],
     step: usize,

@@ -39,7 +39,8 @@ impl<'a> Lent<'a> {
         requires inside { private.Inside file.now at }
         requires room { private.Room at.rows at.coords (private.held self.old) }
         ensures shape { result ≡ read.shape (private.problem file.now at) }
-        ensures buffers { private.held self.new ≡ read.with_problem (private.problem file.now at) (private.held self.old) }
+        ensures buffers { private.held self.new
+            ≡ read.with_problem (private.problem file.now at) (private.held self.old) }
         ensures same { private.Same self.old self.new }
     {
         let Values {

@@ -25,6 +25,7 @@ pub struct Shape {
 // Reads a bend file. With n rows, W is the first n * n values of `w`, row by row; u_free, lo, hi, scale and nu are the
 // first n of theirs; motion is the first coords * n of `motion`. What lies past them stays, and so does everything
 // where the file is refused.
+// The buffers stay apart, as a caller has them: one that had to put them into a struct would be asked for more.
 pub fn read(
     file: &[u8],
     w: &mut [f64; 1024],

@@ -14,6 +14,7 @@ fn bytes_at<const N: usize>(file: &[u8], at: usize) -> [u8; N]
     bytes
 }
 
+// What the two have in common is `bytes_at`: a type of its own for each width keeps the bound of what is read.
 pub fn u16_at(file: &[u8], at: usize) -> u16
     requires { at + 2 ≤ length file.now }
     ensures { result ≡ little.u16 file.now at }

@@ -54,4 +54,6 @@ several steps = leb 1 steps && leb steps 40
 
 -- 15 before all steps, each step's 3 and 4, then 10 where the output has no room for the file; none where none applies
 unfoldable pub refusal : List Step → ℕ → Option Refusal
-refusal l room = cond (not (several (length l))) (Some Steps) (option_or (steps_refusal l) (cond (leb (length (file l)) room) None (Some Short)))
+refusal l room =
+    cond (not (several (length l))) (Some Steps)
+    (option_or (steps_refusal l) (cond (leb (length (file l)) room) None (Some Short)))

@@ -77,7 +77,8 @@ fn file(rt: &impl Print, bytes: &[u8]) -> io::Result<()> {
     Ok(())
 }
 
-// Reads a file until the buffer is full, the file ends or a read fails, and closes it.
+// Reads a file until the buffer is full, the file ends or a read fails, and closes it. It stays a loop of reads: the
+// library's `fs::read` allocates, and gives nothing of a file whose reading fails later.
 fn take<R: Read + Drop>(mut file: R, buffer: &mut [u8]) -> usize
     ensures { result ≤ length buffer.new }
 {
