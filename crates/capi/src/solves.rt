@@ -6,6 +6,7 @@ use boxed::{BoxOutcome, BoxReport, Cause};
 use flags::flag;
 use refusals::Refusal;
 
+// A cause as the C interface numbers it, which no conversion of the solver's own knows.
 fn cause_number(c: Cause) -> usize
     ensures { result ≡ plain.cause_number c }
 {

@@ -1,19 +1,16 @@
 -- Demand 3 of the C interface: what one call leaves is what the next one reads, so a list of calls is a list of tallied solves.
-use Prim.Native.Nat.{ℕ, zero, suc, ◌≤◌}
+use Prim.Native.Nat.{ℕ, ◌≤◌}
 use mathlib.Core.Path.{◌≡◌, refl, sym, ◌∙◌, ap, subst}
-use mathlib.Core.Bool.{Bool, true, false, cond}
+use mathlib.Core.Bool.{Bool, true, false}
 use mathlib.Core.List.{List, [], ◌∷◌}
 use native.Mathlib.Omega.{arith}
 use native.Mathlib.Nat.{not-suc-le-zero}
-use lib.Dec.{eqb}
-use lib.ListN.{length, set, take, length-set}
+use lib.ListN.{length, set, length-set}
 use lib.Ieee.{Float}
-use borrow.Author.Tests.{le-leb, ne_eqb}
+use borrow.Author.Tests.{le-leb}
 use Rattle.floats.specs.Ops.{at}
 use Rattle.report.specs.declared.SolveReport.{SolveReport}
-use Rattle.box_rows.specs.Rows.{size}
-use Rattle.boxed.specs.Solve.{Outcome, refused, solved, infeasible, answer_of, used, reply, SWEEP_CAP}
-use Rattle.boxed.proofs.Finishing.{solve_uses}
+use Rattle.boxed.specs.Solve.{Outcome, refused, solved, infeasible, answer_of}
 use Rattle.flags.specs.Flags.{flag, flagged}
 use Rattle.std.specs.Prelude.{Result, Ok, Err}
 use Rattle.boxed.specs.declared.BoxOutcome.{BoxOutcome}
@@ -21,7 +18,6 @@ use Rattle.refusals.specs.declared.Refusal.{Refusal}
 use Rattle.tally.specs.Tally.{Call, Tallied, tallied, joined_to, with}
 use Rattle.tallied.specs.Joining.{Entered}
 use Rattle.capi.specs.Reports as report
-use Rattle.capi.specs.Solves as plain
 use Rattle.capi.specs.Tallies as tallies
 use Rattle.demand3.specs.Called.{Told, told_of, Workspace, Made}
 use Rattle.demand3.specs.CalledFromC.{Buffers, held, Long, Lent, Answer, MadeFromC, taken, solves, unless, Tells, AtOnce, OneTells, EachTells, ListOfSolves, FromC, DemandFromC}

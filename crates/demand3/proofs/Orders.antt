@@ -2,14 +2,14 @@
 -- sweeps each are the most of which that is so.
 use Prim.Native.Nat.{ℕ, suc, ◌+◌, ◌*◌, ◌≤◌, ◌<◌, zero-le}
 use mathlib.Core.Path.{◌≡◌, refl, sym, ◌∙◌, ap}
-use mathlib.Core.Bool.{Bool, true, false, cond, ◌&&◌, ◌||◌, and-true, and_assoc}
+use mathlib.Core.Bool.{Bool, false, ◌&&◌, ◌||◌, and-true, and_assoc}
 use mathlib.Core.List.{List, [], ◌∷◌, map, Permᴰ}
 use native.Mathlib.Omega.{arith}
 use lib.Dec.{ltb, eqb}
 use lib.Arith.{lt_of_le-ne}
 use lib.ListN.{length}
 use lib.Ieee.{Float}
-use borrow.Author.Tests.{le-ltb, ltb-false, ne_eqb, eqb-true, eqb-false}
+use borrow.Author.Tests.{le-ltb, ltb-false, ne_eqb, eqb-false}
 use Rattle.std.specs.Prelude.{Ok}
 use Rattle.report.specs.Joins.{NOTHING, both, most, and, AllSummable}
 use Rattle.report.specs.declared.SolveReport.{SolveReport}

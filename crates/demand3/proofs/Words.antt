@@ -1,12 +1,10 @@
 -- The claim's own words against the solver's definitions: a magnitude, a row's sum and natural residual by the places of the matrix, a row that acts, and the rows listed.
 use Prim.Native.Nat.{ℕ, zero, suc, ◌+◌, ◌*◌, ◌≤◌, ◌<◌}
 use mathlib.Core.Path.{◌≡◌, refl, sym, ◌∙◌, ap}
-use mathlib.Core.Logic.{inl}
 use mathlib.Core.Bool.{Bool, true, false, not, cond, ◌||◌, true≢false}
 use mathlib.Core.List.{List, [], ◌∷◌}
 use native.Mathlib.Omega.{arith}
 use native.Mathlib.Nat.{mul-pos, zero-mul, zero-lt-suc, not-suc-le-zero, le_of_suc-le-suc, le_of_eq, le_refl}
-use native.Mathlib.Numerals.{add-one}
 use lib.IntN.{ℤ}
 use lib.ListN.{length, get_or, drop, drop_of_length-le}
 use lib.Ieee.{Float, nan, inf, fin, binary64, up, down, of_bits, neg, lt, le, eq, ne, level}

@@ -14,13 +14,14 @@ fn by_value(
 
 // A report of so many increments, sweeps and passes.
 fn report(increments: u32, sweeps: u32, passes: u32, residual: f64) -> SolveReport {
-    let mut r = SolveReport::NOTHING;
-    r.increments = increments;
-    r.sweeps = sweeps;
-    r.exact_passes = passes;
-    r.exact = false;
-    r.residual = residual;
-    r
+    SolveReport {
+        increments,
+        sweeps,
+        exact_passes: passes,
+        exact: false,
+        residual,
+        ..SolveReport::NOTHING
+    }
 }
 
 fn print(rt: &impl Print, joined: Result<SolveReport, Refusal>) -> io::Result<()> {

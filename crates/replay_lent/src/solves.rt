@@ -110,9 +110,10 @@ fn solve(
 
 // A tally that holds no solve more.
 fn full(tally: SolveReport) -> SolveReport {
-    let mut most = tally;
-    most.increments = 4294967295;
-    most
+    SolveReport {
+        increments: u32::MAX,
+        ..tally
+    }
 }
 
 pub fn replay(rt: &impl Print) -> io::Result<()> {

@@ -7,7 +7,7 @@ use lib.Dec.{ltb, eqb}
 use lib.ListN.{length}
 use lib.Ieee.{Float}
 use borrow.Author.Tests.{ltb-false, eqb-true, not-false}
-use Rattle.std.specs.Prelude.{Option, Some, None, Result, Ok, Err}
+use Rattle.std.specs.Prelude.{Option, Some, None, Result, Err}
 use Rattle.box_rows.specs.Rows as box
 use Rattle.boxed.specs.Solve.{Watch, Left, first, refusal, reply, solve_reply}
 use Rattle.boxed.specs.declared.BoxOutcome.{BoxOutcome}
