@@ -2,33 +2,35 @@
 // stands in the call's own scratch while it runs. specs/Triangle.antt defines it.
 #![tactic(auto)]
 
-ghost use Rattle.std.specs.Prelude.{◌≡◌, ◌*◌, ◌≤◌, length};
+ghost use Rattle.std.specs.Prelude.{◌≡◌, ◌*◌, ◌≤◌, IfOk, length};
 ghost use Rattle.std.specs.Result.{result_err};
 ghost use Rattle.boxed.specs.Solve as solve;
 ghost use Rattle.triangle.specs.Triangle as triangle;
 
 use boxed::{BoxOutcome, BoxSolver};
+use mirror::Triangle;
 use refusals::Refusal;
 
 mod mirror;
 
 // What is tested before the full solve's own rules: more than 32 rows or too much motion, and then a triangle that has
 // not n (n + 1) / 2 values.
-fn measured(t: usize, n: usize, motion: usize) -> Result<(), Refusal>
-    ensures { result_err result ≡ triangle.measured t n motion }
+fn measured<'a>(t: &'a [f64], n: usize, motion: usize) -> Result<Triangle<'a>, Refusal>
+    ensures refused { result_err result ≡ triangle.measured (length t.now) n motion }
+    ensures triangle { IfOk result (λ q. (q.values.now ≡ t.now) × (q.n ≡ n)) }
 {
     if boxed::too_large(n, motion) {
         return Err(Refusal::TooLarge);
     }
-    if t != mirror::row_start(n) {
+    if t.len() != mirror::row_start(n) {
         return Err(Refusal::Triangle);
     }
-    Ok(())
+    Ok(Triangle { values: t, n })
 }
 
-// A triangle of the right length, mirrored at the front of w.
-fn solve_in(
-    t: &[f64],
+// The full solve of the mirrored matrix, in scratch of K values.
+fn solve_in<const K: usize>(
+    t: &Triangle,
     u_free: &[f64],
     lo: &[f64],
     hi: &[f64],
@@ -39,67 +41,23 @@ fn solve_in(
     states: &mut [u8],
     rows: &mut [usize],
     workspace: &mut [f64],
-    w: &mut [f64],
 ) -> Result<BoxOutcome, Refusal>
-    requires { (length u_free.now ≤ 32) × (length t.now ≡ triangle.row_start (length u_free.now))
-        × (length u_free.now * length u_free.now ≤ length w.old) }
+    requires rows { t.now.n ≡ length u_free.now }
+    requires scratch { t.now.n * t.now.n ≤ K }
+    requires small { K ≤ 1024 }
     ensures { solve.Left
         (solve.solve_reply
-        (triangle.problem t.now u_free.now lo.now hi.now scale.now)
+        (triangle.problem t.now.values.now u_free.now lo.now hi.now scale.now)
         (solve.watch motion.now tolerance)
         nu.old states.old rows.old (length workspace.old))
         result nu.new states.new rows.new
         workspace.old workspace.new }
 {
-    let n = u_free.len();
-    mirror::mirror(t, n, &mut w[..n * n]);
+    let mut w = [0.0f64; K];
+    let matrix = &mut w[..t.n * t.n];
+    t.mirror(matrix);
     BoxSolver::solve(
-        &w[..n * n],
-        u_free,
-        lo,
-        hi,
-        scale,
-        motion,
-        tolerance,
-        nu,
-        states,
-        rows,
-        workspace,
-    )
-}
-
-// The scratch is no larger than need be: clearing 1,024 values takes longer than a solve of one row.
-fn solve_rows(
-    t: &[f64],
-    u_free: &[f64],
-    lo: &[f64],
-    hi: &[f64],
-    scale: &[f64],
-    motion: &[f64],
-    tolerance: f64,
-    nu: &mut [f64],
-    states: &mut [u8],
-    rows: &mut [usize],
-    workspace: &mut [f64],
-) -> Result<BoxOutcome, Refusal>
-    requires { (length u_free.now ≤ 32) × (length t.now ≡ triangle.row_start (length u_free.now)) }
-    ensures { solve.Left
-        (solve.solve_reply
-        (triangle.problem t.now u_free.now lo.now hi.now scale.now)
-        (solve.watch motion.now tolerance)
-        nu.old states.old rows.old (length workspace.old))
-        result nu.new states.new rows.new
-        workspace.old workspace.new }
-{
-    if u_free.len() <= 8 {
-        let mut w = [0.0f64; 64];
-        return solve_in(
-            t, u_free, lo, hi, scale, motion, tolerance, nu, states, rows, workspace, &mut w,
-        );
-    }
-    let mut w = [0.0f64; 1024];
-    solve_in(
-        t, u_free, lo, hi, scale, motion, tolerance, nu, states, rows, workspace, &mut w,
+        matrix, u_free, lo, hi, scale, motion, tolerance, nu, states, rows, workspace,
     )
 }
 
@@ -122,7 +80,7 @@ pub fn refusal(
         motion.now nu.now states.now rows.now room }
 {
     let n = u_free.len();
-    measured(t.len(), n, motion.len())?;
+    measured(t, n, motion.len())?;
     let w = [0.0f64; 1024];
     BoxSolver::refusal(
         &w[..n * n],
@@ -161,8 +119,14 @@ pub fn solve(
         result nu.new states.new rows.new
         workspace.old workspace.new }
 {
-    measured(t.len(), u_free.len(), motion.len())?;
-    solve_rows(
-        t, u_free, lo, hi, scale, motion, tolerance, nu, states, rows, workspace,
+    let t = measured(t, u_free.len(), motion.len())?;
+    // The scratch is no larger than need be: clearing 1,024 values takes longer than a solve of one row.
+    if t.n <= 8 {
+        return solve_in::<64>(
+            &t, u_free, lo, hi, scale, motion, tolerance, nu, states, rows, workspace,
+        );
+    }
+    solve_in::<1024>(
+        &t, u_free, lo, hi, scale, motion, tolerance, nu, states, rows, workspace,
     )
 }

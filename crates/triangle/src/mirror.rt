@@ -1,7 +1,15 @@
 // The mirrored matrix of a lower triangle by rows, row by row.
-ghost use Rattle.std.specs.Prelude.{◌≡◌, ◌+◌, ◌*◌, ◌≤◌, ◌<◌, length, set};
-ghost use Rattle.floats.specs.Ops as ops;
+ghost use Rattle.std.specs.Prelude.{◌≡◌, ◌+◌, ◌*◌, ◌≤◌, ◌<◌, length};
 ghost use Rattle.triangle.specs.Triangle as triangle;
+
+// A lower triangle of at most 32 rows, row by row.
+#[derive(Clone, Copy)]
+pub struct Triangle<'a> {
+    pub values: &'a [f64],
+    pub n: usize,
+    pub ghost few: { n ≤ 32 },
+    pub ghost long: { length values.now ≡ triangle.row_start n },
+}
 
 // Where row i of a triangle begins; at n, the length of a triangle of n rows.
 pub fn row_start(i: usize) -> usize
@@ -11,55 +19,37 @@ pub fn row_start(i: usize) -> usize
     i * (i + 1) / 2
 }
 
-fn at(t: &[f64], place: usize) -> f64
-    requires { place < length t.now }
-    ensures { result ≡ ops.at t.now place }
-{
-    t[place]
-}
-
-fn put(v: &mut [f64], j: usize, x: f64)
-    requires { j < length v.old }
-    ensures { v.new ≡ set v.old j x }
-{
-    v[j] = x;
-}
-
 // The place of the next column's value: along the triangle's row up to the diagonal, and then a row further down in each
 // step.
 fn next(place: usize, i: usize, j: usize) -> usize
     requires { (i < 32) × (j < 32) × (place ≡ triangle.place i j) }
     ensures { result ≡ triangle.place i (j + 1) }
 {
-    if j < i {
-        return place + 1;
-    }
-    place + j + 1
+    if j < i { place + 1 } else { place + j + 1 }
 }
 
-fn mirror_row(t: &[f64], n: usize, i: usize, out: &mut [f64])
-    requires { (n ≤ 32) × (length t.now ≡ triangle.row_start n) × (i < n) × (length out.old ≡ n) }
-    ensures { out.new ≡ triangle.mirror_row t.now n i }
-{
-    let mut place = row_start(i);
-    let mut j = 0;
-    while j < n {
-        put(out, j, at(t, place));
-        place = next(place, i, j);
-        j += 1;
+impl<'a> Triangle<'a> {
+    // Row i of the mirrored matrix.
+    fn row(&self, i: usize, out: &mut [f64])
+        requires inside { i < self.now.n }
+        requires long { length out.old ≡ self.now.n }
+        ensures { out.new ≡ triangle.mirror_row self.now.values.now self.now.n i }
+    {
+        let mut place = row_start(i);
+        for j in 0..self.n {
+            out[j] = self.values[place];
+            place = next(place, i, j);
+        }
     }
-}
 
-// The matrix in w, in rows of n.
-pub fn mirror(t: &[f64], n: usize, w: &mut [f64])
-    requires { (n ≤ 32) × (length t.now ≡ triangle.row_start n) × (length w.old ≡ n * n) }
-    ensures { w.new ≡ triangle.mirrored n t.now }
-{
-    let mut i = 0;
-    while i < n {
-        let a = i * n;
-        let e = a + n;
-        mirror_row(t, n, i, &mut w[a..e]);
-        i += 1;
+    // The matrix in w, in rows of n.
+    pub fn mirror(&self, w: &mut [f64])
+        requires { length w.old ≡ self.now.n * self.now.n }
+        ensures { w.new ≡ triangle.mirrored self.now.n self.now.values.now }
+    {
+        let n = self.n;
+        for i in 0..n {
+            self.row(i, &mut w[i * n..(i + 1) * n]);
+        }
     }
 }
