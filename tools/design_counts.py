@@ -63,7 +63,7 @@ def count():
             names = parameters(header)
             if any(all(w in names for w in group) for group in LISTS):
                 places[5].append(at)
-            for clause in re.findall(r"requires \{ ([\w.]+)", header):
+            for clause in re.findall(r"requires (?:\w+ )?\{ ([\w.]+)", header):
                 requires.setdefault((where.split("/")[0], clause), []).append(at)
             if re.search(r"\bfn\(|dyn |Box<", header + body):
                 places[7].append(at)
