@@ -18,7 +18,7 @@ ROOT = os.path.dirname(os.path.dirname(os.path.abspath(__file__)))
 ARCHIVE = os.path.join(ROOT, "target", "staticlib", "libpiskorlu.a")
 
 # Functions that call themselves, and how many calls stand open at most: one for each digit of a 64-bit number in decimal, and in hexadecimal with a last one for none.
-DEPTHS = {"printer::write::decimal": 20, "printer::write::hex": 17}
+DEPTHS = {"printer::page::Page::decimal": 20, "printer::page::Page::hex": 17}
 
 # The C library's functions that the archive calls: they take no stack to speak of. 256 bytes are allowed for each, many times what glibc's and musl's take.
 LIBRARY = {"memcpy": 256, "memset": 256, "memmove": 256, "memcmp": 256, "bcmp": 256}

@@ -82,6 +82,7 @@ impl Values {
 
 // What bendsolve writes for a file, at the front of a lent buffer; how long it is. A buffer of less than 2,048 bytes
 // gets nothing, and 0 is returned: it is never given a part of an answer.
+// The length beside the buffer is what `piskorlu_bend` gives C.
 pub fn of_file(file: &[u8], out: &mut [u8]) -> usize
     ensures { def.Answered file.now result out.old out.new }
 {

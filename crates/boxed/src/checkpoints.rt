@@ -34,13 +34,13 @@ fn attempt(
         result nu.new states.new c rows.new work.new }
 {
     let e = exact_pass::WORKSPACE + nu.len();
-    work[exact_pass::WORKSPACE..e].copy_from_slice(nu);
+    crate::store(nu, &mut work[exact_pass::WORKSPACE..e]);
     let ended = match exact_pass::pass_of(p, states, nu, rows, work) {
         Exact::Found => return Some(Ended::Exact),
         Exact::Failed => None,
         Exact::Infeasible(k) => Some(Ended::Infeasible(Cause::Pass, k)),
     };
-    nu.copy_from_slice(&work[exact_pass::WORKSPACE..e]);
+    crate::store(&work[exact_pass::WORKSPACE..e], nu);
     ended
 }
 

@@ -101,6 +101,16 @@ pub struct Watch<'a> {
     pub tolerance: f64,
 }
 
+// A copy of `from` in `to`. By a loop: `copy_from_slice` calls memmove, and C is asked for memcpy and memset alone.
+fn store(from: &[f64], to: &mut [f64])
+    requires { length to.old ≡ length from.now }
+    ensures { to.new ≡ from.now }
+{
+    for i in 0..from.len() {
+        to[i] = from[i];
+    }
+}
+
 // The solve of a call that is not refused: multipliers and states are one for each row, the row list has a place for
 // each, and the workspace is not too short.
 fn solve_rows(
@@ -134,6 +144,7 @@ impl BoxSolver {
     // From the multipliers in nu, those that solve the problem, in their place, with a state for each row; or the rows
     // that fight at the front of the row list; or why the call is refused, and nothing is changed. The first 2,304
     // values of the workspace are free after a call that is not refused.
+    // The lists stay apart: document 01 has separate lent slices, and C lends them so.
     pub fn solve(
         w: &[f64],
         u_free: &[f64],

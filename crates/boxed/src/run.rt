@@ -9,6 +9,7 @@ use box_rows::problem::BoxProblem;
 
 // One more sweep, after those counted, and its tests: growth first, then an exact pass where one is due, then the tests
 // of motion, residual and ray. Where one of them ends the solve, those after it are not made.
+// Its slices are lent one by one: each step takes other ones, or parts of them, so that a struct would be taken apart.
 fn turn(
     p: &BoxProblem,
     watch: &Watch,

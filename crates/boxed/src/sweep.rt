@@ -10,7 +10,7 @@ pub fn sweep(p: &BoxProblem, states: &[u8], nu: &mut [f64], before: &mut [f64]) 
     requires { private.SweepLists (lent.of p.now) states.now nu.old before.old }
     ensures { private.Swept (lent.of p.now) states.now nu.old nu.new before.new result }
 {
-    before.copy_from_slice(nu);
+    crate::store(nu, before);
     let mut stopped = 0;
     for i in 0..p.n() {
         if states[i] != box_rows::IDLE {

@@ -33,6 +33,7 @@ fn write(outcome: usize, r: BoxReport, listed: usize, counts: &mut [usize])
 }
 
 // An answer left in the lent slices: 0, or the number of a refusal and nothing written.
+// C is answered a number: here a refusal becomes one.
 pub fn leave(answer: Result<BoxOutcome, Refusal>, counts: &mut [usize], residual: &mut [f64]) -> u32
     requires { (8 ≤ length counts.old) × (1 ≤ length residual.old) }
     ensures { (result ≡ plain.number answer) × (counts.new ≡ plain.counts_left answer counts.old)

@@ -13,6 +13,7 @@ mod lines;
 mod page;
 
 // The output for document 01's number.
+// A number, since a `Refusal` in its place would ask more of callers.
 pub fn refused(number: u32, out: &mut [u8]) -> usize
     ensures { Wrote out.old 0 out.new result (print.refused number) }
 {

@@ -101,6 +101,8 @@ fn joined_by(tally: SolveReport, answer: Result<BoxOutcome, Refusal>, none: bool
 // report joined to it, not converged and not exact where a multiplier is left NaN. The answer has the report as the
 // solve by itself gives it. A solve that is refused by itself is refused so; any other is refused on a full tally. A
 // refused solve joins nothing and changes nothing.
+// The lists stay apart, as in `BoxSolver::solve`: C lends them so.
+#[inline(always)]
 pub fn tallied_solve(
     tally: SolveReport,
     sent: Sent,

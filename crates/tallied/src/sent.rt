@@ -19,6 +19,7 @@ impl<'a> Sent<'a> {
     ghost use Rattle.tallied.specs.Joining as joining;
 
     // How the solve by itself is refused, or that it is taken. `room` is the length of the workspace.
+    #[inline(always)]
     #[tactic(auto, unfolding(triangle::specs::Triangle::refusal_of))]
     pub fn refusal(
         self,
@@ -46,7 +47,8 @@ impl<'a> Sent<'a> {
         }
     }
 
-    // The solve by itself.
+    // The solve by itself. Where the form is known, as in a call for C, the other's path and its stack fall away.
+    #[inline(always)]
     #[tactic(auto, unfolding(tally::specs::Tally::alone, triangle::specs::Triangle::refusal_of, triangle::specs::Triangle::triangle_reply, boxed::specs::Solve::solve_reply))]
     pub fn solve(
         self,

@@ -98,6 +98,7 @@ pub fn refusal(
 
 // BoxSolver::solve of the mirrored matrix of t, a lower triangle by rows: its answer, and what it leaves in every slice;
 // or, in the place of a matrix that is not square, a triangle that has not n (n + 1) / 2 values, and nothing is changed.
+// The lists stay apart, as in `BoxSolver::solve`: C lends them so.
 pub fn solve(
     t: &[f64],
     u_free: &[f64],
