@@ -15,6 +15,22 @@ pub struct FreeRows<'a> {
     pub ghost below: { Below (length problem.now.u_free.now) rows.now },
 }
 
+impl<'a> FreeRows<'a> {
+    ghost use Rattle.std.specs.Prelude.{get_or, ◌<◌};
+    ghost use Rattle.box_rows.specs.Rows as box;
+
+    // The row of W of the k-th of them.
+    pub fn row(&self, k: usize) -> &'a [f64]
+        requires { k < length self.now.rows.now }
+        ensures row { result.now
+            ≡ box.row self.now.problem.now.w.now (length self.now.problem.now.u_free.now)
+            (get_or self.now.rows.now k 0) }
+        ensures long { length result.now ≡ length self.now.problem.now.u_free.now }
+    {
+        crate::row(self.problem, self.rows[k] as usize)
+    }
+}
+
 // Their numbers, rising.
 #[tactic(auto, using(crate::proofs::Rows::gathering))]
 pub fn free_rows(states: &[u8]) -> ArrayVec<u8, MAX_ROWS>

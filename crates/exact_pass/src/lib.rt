@@ -2,7 +2,7 @@
 // loop body, and the modules are its parts.
 #![tactic(auto)]
 
-ghost use Rattle.std.specs.Prelude.{◌≡◌, ◌+◌, ◌≤◌, length};
+ghost use Rattle.std.specs.Prelude.{◌≡◌, ◌+◌, ◌<◌, ◌≤◌, length};
 ghost use Rattle.box_rows.specs.Lent.{of};
 ghost use Rattle.box_rows.specs.Rows as box;
 ghost use Rattle.exact_pass.specs.Private as private;
@@ -87,6 +87,16 @@ fn store(from: &[f64], to: &mut [f64], a: usize)
     for i in 0..from.len() {
         to[a + i] = from[i];
     }
+}
+
+// Row a of W.
+fn row<'a>(p: &BoxProblem<'a>, a: usize) -> &'a [f64]
+    requires { a < length p.now.u_free.now }
+    ensures row { result.now ≡ box.row p.now.w.now (length p.now.u_free.now) a }
+    ensures long { length result.now ≡ length p.now.u_free.now }
+{
+    let n = p.n();
+    &p.w[a * n..(a + 1) * n]
 }
 
 // Whether there are a state and a value for each row of the problem, and a row list long enough.

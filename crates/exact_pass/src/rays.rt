@@ -90,7 +90,7 @@ fn quadratic(p: &BoxProblem, y: &[f64], l: &[usize]) -> f64
 {
     let mut q = 0.0;
     for i in 0..l.len() {
-        q = quadratic_row(p.row(l[i]), y[l[i]], y, l, q);
+        q = quadratic_row(crate::row(p, l[i]), y[l[i]], y, l, q);
     }
     q
 }

@@ -42,9 +42,8 @@ fn bound_column(free: &FreeRows, state: u8, j: usize, v: f64, rhs: &mut [f64])
     if state == INSIDE {
         return;
     }
-    let p = free.problem;
     for i in 0..free.rows.len() {
-        rhs[i] = rhs[i] - p.row(free.rows[i] as usize)[j] * v;
+        rhs[i] = rhs[i] - free.row(i)[j] * v;
     }
 }
 
@@ -86,11 +85,9 @@ pub fn matrix(free: &FreeRows, m: &mut [f64])
         ≡ pass.matrix free.now.problem.now.w.now free.now.problem.now.scale.now free.now.rows.now
         (length free.now.rows.now) }
 {
-    let p = free.problem;
     let k = free.rows.len();
     for i in 0..k {
-        let row = p.row(free.rows[i] as usize);
-        matrix_row(row, p.scale, free.rows, &mut m[i * k..i * k + k]);
+        matrix_row(free.row(i), free.problem.scale, free.rows, &mut m[i * k..i * k + k]);
     }
 }
 
@@ -148,8 +145,8 @@ fn two_rows(free: &FreeRows, rhs: &[f64], z: &[f64], i: usize, e: usize, y: &mut
     let p = free.problem;
     let a = free.rows[i] as usize;
     let b = free.rows[e] as usize;
-    let first = p.row(a);
-    let second = p.row(b);
+    let first = free.row(i);
+    let second = free.row(e);
     let r = residual_rows(first, second, p.scale, free.rows, z, rhs[i], rhs[e]);
     y[i] = -r.first;
     y[e] = -r.second;
