@@ -1,12 +1,8 @@
 -- The laws by which the goals of a loop close that makes turns, fills a table or updates a list in place.
-use Rattle.std.proofs.Common.{ℕ, ◌+◌, ◌-◌, ◌≡◌, ◌≤◌, ◌<◌, ◌++◌, List, refl, arith, length, set, take, drop}
-use borrow.Rule.Slice.PartMut.{put_mid}
-use lib.Ieee.{Float}
-use lib.Seq.{take-append_seam, drop_at, drop-drop, length-take-le}
+use Rattle.std.proofs.Common.{ℕ, ◌+◌, ◌≡◌, ◌<◌, ◌++◌, List, length, set, drop}
 use Rattle.loops.specs.Loops.{tab}
 use Rattle.loops.proofs.Turns.{turns-from, turns_again, turns_done, between-from, between_again, between_done}
 use Rattle.loops.proofs.Fill.{tab-start, tab_again, tab_done}
-use Rattle.exact_pass.specs.Private.{Copied}
 
 pub ruleset turning = (turns-from, turns_again, turns_done)
 
