@@ -1,8 +1,7 @@
 -- Words of private contracts, here and in the crates above: what they are lent. No promise of a public call stands
 -- on them. Definitions only.
-use Rattle.std.specs.Prelude.{ℕ, ◌+◌, ◌*◌, ◌≤◌, ◌<◌, ◌≡◌, Bool, cond, ◌&&◌, leb, Some, List, eqb, length, Float}
+use Rattle.std.specs.Prelude.{ℕ, ◌+◌, ◌*◌, ◌≤◌, ◌≡◌, Bool, cond, ◌&&◌, leb, Some, List, eqb, length, Float}
 use Rattle.std.specs.Float.Ieee.{lt}
-use Rattle.loops.specs.Loops.{counted, noted}
 use Rattle.floats.specs.Ops.{at, 0ᶠ}
 use Rattle.floats.specs.Helpers.{larger}
 use Rattle.floats.specs.declared.Clamped.{Clamped}
@@ -20,26 +19,6 @@ pub record Updated (row : Row) (r : Clamped) : Type 0 where
 unfoldable pub nearer : ℕ → RowState → Float → Blocking → Blocking
 nearer a s ratio r =
     cond (lt ratio r.alpha) (record { alpha = larger ratio 0ᶠ; block = Some (record { row = a; state = s }) }) r
-
--- what A says of the lists, and that i is one of n rows
-pub record AtRow (A : Type 0) (n i : ℕ) : Type 0 where
-  pub lists : A
-  pub row : i < n
-
--- the same, and that k counts some of the rows before row i
-pub record CountedRow (A : Type 0) (n i k : ℕ) : Type 0 where
-  pub lists : A
-  pub row : i < n
-  pub count : k ≤ i
-
--- k and the row list l after row i, where b tells whether it is noted
-pub record Noted (b : Bool) (i k : ℕ) (l : List ℕ) (k' : ℕ) (l' : List ℕ) : Type 0 where
-  pub count : k' ≡ counted b k
-  pub listed : l' ≡ noted b l k i
-
--- w is a matrix of n rows and columns, few enough
-abbrev pub Square : List Float → ℕ → Type 0
-Square w n = (n ≤ MAX_ROWS) × (length w ≡ n * n)
 
 -- the lists of a problem of n rows
 abbrev pub Sized : ℕ → List Float → List Float → List Float → List Float → Type 0
