@@ -1,11 +1,13 @@
 -- The rows of a box problem, by document 01 and boxed.rs: the problem, a row's state, its update, its natural
 -- residual, its sum, and its part in an exact pass and in a ray. Definitions only.
-use Rattle.std.specs.Prelude.{ℕ, ◌+◌, ◌*◌, Bool, false, not, cond, Some, ◌&&◌, ◌||◌, List, [], ◌∷◌, Option, eqb, get_or, length, Float}
+use Rattle.std.specs.Prelude.{ℕ, ◌+◌, ◌*◌, ◌≤◌, ◌≡◌, Bool, false, not, cond, Some, ◌&&◌, ◌||◌, List, [], ◌∷◌, Option, eqb, leb, get_or, length, Float}
 use Rattle.std.specs.Float.Ieee.{lt, le, eq}
 use Rattle.loops.specs.Loops.{tab}
 use Rattle.floats.specs.Ops.{◌⊕◌, ◌⊖◌, ◌⊗◌, ◌⊘◌, at, 0ᶠ, 1e-9, ∞, −∞}
 use Rattle.floats.specs.Helpers.{clamp, side, abs, larger, nan_test, is_finite}
 use Rattle.floats.specs.declared.Side.{Side}
+use Rattle.floats.specs.declared.Clamped.{Clamped}
+use Rattle.box_rows.specs.declared.Row.{Row}
 use Rattle.box_rows.specs.declared.Blocking.{Blocking}
 use Rattle.box_rows.specs.declared.RowState.{RowState}
 use Rattle.box_rows.specs.declared.RowState.TheVariants.{AtLo, AtHi}
@@ -28,6 +30,16 @@ problem w u_free lo hi scale = record { w = w; u_free = u_free; lo = lo; hi = hi
 -- n
 abbrev pub size : Problem → ℕ
 size p = length p.u_free
+
+-- the lists of a problem of n rows
+abbrev pub Sized : ℕ → List Float → List Float → List Float → List Float → Type 0
+Sized n w lo hi scale = (n ≤ MAX_ROWS) × (length w ≡ n * n) × (length lo ≡ n) × (length hi ≡ n) × (length scale ≡ n)
+
+-- whether the lists of a problem fit one another
+abbrev pub sized : Problem → Bool
+sized p =
+    leb (size p) MAX_ROWS && eqb (length p.w) (size p * size p) && eqb (length p.lo) (size p)
+    && eqb (length p.hi) (size p) && eqb (length p.scale) (size p)
 
 -- row i of a matrix in rows of n entries: that of column j is the value at place i·n + j
 unfoldable pub row : List Float → ℕ → ℕ → List Float
@@ -89,10 +101,21 @@ update v u d lo hi = clamp (v ⊖ u ⊘ d) lo hi
 unfoldable pub update_side : Float → Float → Float → Float → Float → Option Side
 update_side v u d lo hi = side (v ⊖ u ⊘ d) lo hi
 
+-- both, of a row by its numbers: where a row's update puts its multiplier, and the side at which it is stopped
+pub record Updated (row : Row) (r : Clamped) : Type 0 where
+  pub value : r.value ≡ update row.nu row.u row.diagonal row.lo row.hi
+  pub side : r.side ≡ update_side row.nu row.u row.diagonal row.lo row.hi
+
 unfoldable pub natural_residual : Float → Float → Float → Float → Float → Float → Float
 natural_residual v u d lo hi s = abs (v ⊖ update v u d lo hi) ⊘ s
 
--- row i's own, at the multipliers nu
+-- row i of a problem by its numbers, at the multipliers nu
+abbrev pub row_at : Problem → List Float → ℕ → Row
+row_at p nu i =
+    let r = row p.w (size p) i in
+    record { nu = at nu i; u = row_sum r (at p.u_free i) nu; diagonal = at r i; lo = at p.lo i; hi = at p.hi i }
+
+-- its natural residual
 unfoldable pub residual_at : Problem → List Float → ℕ → Float
 residual_at p nu i =
     let r = row p.w (size p) i in

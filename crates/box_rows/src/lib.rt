@@ -2,10 +2,11 @@
 // row sum, and its part in an exact pass and in a ray. Each call is total by nature.
 #![tactic(auto)]
 
-ghost use Rattle.std.specs.Prelude.{◌≡◌};
+ghost use Rattle.std.specs.Prelude.{◌≡◌, unwrap_or};
 ghost use Rattle.box_rows.specs.Rows as box;
 ghost use Rattle.box_rows.specs.Private as private;
 ghost use Rattle.box_rows.specs.States as states;
+ghost use Rattle.box_rows.specs.declared.Blocking.{Blocking};
 
 pub mod problem;
 
@@ -73,7 +74,7 @@ pub struct Blocking {
 // Where a row's update puts its multiplier, and the side at which it is stopped.
 #[tactic(auto, unfolding(crate::specs::Rows::update, crate::specs::Rows::update_side))]
 pub fn update(row: Row) -> Clamped
-    ensures { private.Updated row result }
+    ensures { box.Updated row result }
 {
     floats::clamp(row.nu - row.u / row.diagonal, row.lo, row.hi)
 }
@@ -146,32 +147,33 @@ pub fn pushed(state: u8, u: f64) -> bool
     }
 }
 
-// The row blocks the step in that state, if its ratio is the smaller.
+// The row blocks the step in that state, if its ratio is below alpha.
 #[tactic(auto, unfolding(crate::specs::Private::nearer))]
-fn nearer(row: usize, state: RowState, ratio: f64, r: Blocking) -> Blocking
-    ensures { result ≡ private.nearer row state ratio r }
+fn nearer(row: usize, state: RowState, ratio: f64, alpha: f64) -> Option<Blocking>
+    ensures { (r : Blocking) → r.alpha ≡ alpha → unwrap_or result r ≡ private.nearer row state ratio r }
 {
-    if ratio < r.alpha {
-        return Blocking {
+    if ratio < alpha {
+        return Some(Blocking {
             alpha: floats::larger(ratio, 0.0),
             block: Some(Block { row, state }),
-        };
+        });
     }
-    r
+    None
 }
 
-// The ratio test of row a at v, which moves by y: r is that of the rows before it.
+// The ratio test of row a at v, which moves by y, where the rows before it let the step go as far as alpha: what the
+// row makes of it, if it blocks the step sooner.
 #[tactic(auto, unfolding(crate::specs::Rows::ratio_row, crate::specs::Private::nearer))]
-pub fn ratio_row(a: usize, v: f64, y: f64, lo: f64, hi: f64, r: Blocking) -> Blocking
-    ensures { result ≡ box.ratio_row a v y lo hi r }
+pub fn ratio_row(a: usize, v: f64, y: f64, lo: f64, hi: f64, alpha: f64) -> Option<Blocking>
+    ensures { (r : Blocking) → r.alpha ≡ alpha → unwrap_or result r ≡ box.ratio_row a v y lo hi r }
 {
     if y > 0.0 {
-        return nearer(a, RowState::AtHi, (hi - v) / y, r);
+        return nearer(a, RowState::AtHi, (hi - v) / y, alpha);
     }
     if y < 0.0 {
-        return nearer(a, RowState::AtLo, (lo - v) / y, r);
+        return nearer(a, RowState::AtLo, (lo - v) / y, alpha);
     }
-    r
+    None
 }
 
 // How far a row of scale s moves along y, over its scale.
@@ -183,11 +185,12 @@ pub fn size_of(y: f64, s: f64) -> f64
 }
 
 // Whether a multiplier may grow without end along y.
+#[tactic(auto, unfolding(crate::specs::Rows::grows))]
 pub fn grows(y: f64, lo: f64, hi: f64) -> bool
     ensures { result ≡ box.grows y lo hi }
 {
-    let up = (y > 0.0) & (hi == 1.0 / 0.0);
-    let down = (y < 0.0) & (lo == -1.0 / 0.0);
+    let up = (y > 0.0) & (hi == f64::INFINITY);
+    let down = (y < 0.0) & (lo == f64::NEG_INFINITY);
     up | down
 }
 

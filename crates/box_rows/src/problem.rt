@@ -1,7 +1,7 @@
 // The problem that a solve is lent.
 ghost use Rattle.std.specs.Prelude.{◌≡◌, ◌<◌, IsTrue, MatchOption, not, length};
 ghost use Rattle.box_rows.specs.Rows as box;
-ghost use Rattle.box_rows.specs.Private.{Sized};
+ghost use Rattle.box_rows.specs.Rows.{Sized};
 
 use crate::{Row, natural_residual, row_sum};
 
@@ -17,7 +17,6 @@ pub struct BoxProblem<'a> {
 }
 
 impl<'a> BoxProblem<'a> {
-    ghost use Rattle.box_rows.specs.Private as private;
     ghost use Rattle.box_rows.specs.Lent as lent;
 
     // The problem of the lists, if they fit one another.
@@ -29,7 +28,7 @@ impl<'a> BoxProblem<'a> {
         scale: &'a [f64],
     ) -> Option<BoxProblem<'a>>
         ensures { let p = box.problem w.now u_free.now lo.now hi.now scale.now in
-            MatchOption result (IsTrue (not (private.sized p))) (λ q. lent.of q ≡ p) }
+            MatchOption result (IsTrue (not (box.sized p))) (λ q. lent.of q ≡ p) }
     {
         let n = u_free.len();
         let few = n <= crate::MAX_ROWS;
@@ -51,40 +50,63 @@ impl<'a> BoxProblem<'a> {
     {
         self.u_free.len()
     }
+}
 
-    // Row i of W.
-    pub fn row(&self, i: usize) -> &'a [f64]
-        requires { i < length self.now.u_free.now }
-        ensures row { result.now ≡ box.row self.now.w.now (length self.now.u_free.now) i }
-        ensures long { length result.now ≡ length self.now.u_free.now }
+// Row i of a problem.
+#[derive(Clone, Copy)]
+pub struct ProblemRow<'p, 'a> {
+    pub problem: &'p BoxProblem<'a>,
+    pub i: usize,
+    pub ghost inside: { i < length problem.now.u_free.now },
+}
+
+impl<'p, 'a> ProblemRow<'p, 'a> {
+    // Its entries in W.
+    pub fn entries(&self) -> &'a [f64]
+        ensures row { result.now
+            ≡ box.row self.now.problem.now.w.now (length self.now.problem.now.u_free.now) self.now.i }
+        ensures long { length result.now ≡ length self.now.problem.now.u_free.now }
     {
-        let n = self.n();
-        &self.w[i * n..(i + 1) * n]
+        let p = self.problem;
+        let n = p.n();
+        &p.w[self.i * n..(self.i + 1) * n]
     }
+}
 
-    // Row i by its numbers, at the multipliers nu.
-    pub fn row_at(&self, i: usize, nu: &[f64]) -> Row
-        requires inside { i < length self.now.u_free.now }
-        requires multipliers { length nu.now ≡ length self.now.u_free.now }
-        ensures { result ≡ private.row_at (lent.of self.now) nu.now i }
+// Row i of a problem, at the multipliers nu.
+#[derive(Clone, Copy)]
+pub struct RowAt<'p, 'a, 'n> {
+    pub problem: &'p BoxProblem<'a>,
+    pub nu: &'n [f64],
+    pub i: usize,
+    pub ghost inside: { i < length problem.now.u_free.now },
+    pub ghost multipliers: { length nu.now ≡ length problem.now.u_free.now },
+}
+
+impl<'p, 'a, 'n> RowAt<'p, 'a, 'n> {
+    ghost use Rattle.box_rows.specs.Lent as lent;
+
+    // The row by its numbers.
+    pub fn numbers(&self) -> Row
+        ensures { result ≡ box.row_at (lent.of self.now.problem.now) self.now.nu.now self.now.i }
     {
-        let row = self.row(i);
+        let p = self.problem;
+        let i = self.i;
+        let row = ProblemRow { problem: p, i }.entries();
         Row {
-            nu: nu[i],
+            nu: self.nu[i],
             // as many multipliers as entries, so that the sum's loop has one end
-            u: row_sum(row, self.u_free[i], &nu[..row.len()]),
+            u: row_sum(row, p.u_free[i], &self.nu[..row.len()]),
             diagonal: row[i],
-            lo: self.lo[i],
-            hi: self.hi[i],
+            lo: p.lo[i],
+            hi: p.hi[i],
         }
     }
 
     // How far its update would move its multiplier, over its scale.
-    pub fn residual_at(&self, i: usize, nu: &[f64]) -> f64
-        requires inside { i < length self.now.u_free.now }
-        requires multipliers { length nu.now ≡ length self.now.u_free.now }
-        ensures { result ≡ box.residual_at (lent.of self.now) nu.now i }
+    pub fn residual(&self) -> f64
+        ensures { result ≡ box.residual_at (lent.of self.now.problem.now) self.now.nu.now self.now.i }
     {
-        natural_residual(self.row_at(i, nu), self.scale[i])
+        natural_residual(self.numbers(), self.problem.scale[self.i])
     }
 }

@@ -12,7 +12,7 @@ use borrow.Author.Tests.{eqb-true, ltb-false, not-false}
 use Rattle.loops.specs.Loops.{every}
 use Rattle.loops.proofs.Every.{both_true}
 use Rattle.box_rows.specs.Rows.{Problem, MAX_ROWS, size}
-use Rattle.box_rows.specs.Private.{Sized}
+use Rattle.box_rows.specs.Rows.{Sized}
 use Rattle.refusals.specs.declared.Refusal.{Refusal}
 use Rattle.refusals.specs.declared.Refusal.TheVariants.{TooLarge, NotSquare, Unequal, Scale, Motion, Short}
 use Rattle.std.specs.Prelude.{None}

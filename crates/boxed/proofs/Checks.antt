@@ -14,7 +14,7 @@ use borrow.Rule.Slice.PartMut.{put_mid, post_of, same_len_mid, drop_put}
 use Rattle.std.specs.Prelude.{Option, Some, None}
 use Rattle.std.specs.List.{list_any}
 use Rattle.box_rows.specs.Rows as box
-use Rattle.box_rows.specs.Private.{Sized}
+use Rattle.box_rows.specs.Rows.{Sized}
 use Rattle.box_rows.proofs.Matrix.{later}
 use Rattle.exact_pass.specs.Pass.{Trial, Pass, moved, found, failed, infeasible, exact_pass}
 use Rattle.exact_pass.specs.Promise.{WORKSPACE, fits, reply, Passed, Left}

@@ -10,7 +10,7 @@ use Rattle.floats.proofs.Box.{stops-past}
 use Rattle.loops.specs.Loops.{turns}
 use Rattle.box_rows.specs.Rows as box
 use Rattle.box_rows.specs.declared.Row.{Row}
-use Rattle.box_rows.specs.Private.{Updated, row_at}
+use Rattle.box_rows.specs.Rows.{Updated, row_at}
 use Rattle.boxed.specs.Sweep as sweep
 use Rattle.boxed.proofs.Rows.{row-idle, row-acts}
 

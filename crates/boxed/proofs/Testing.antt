@@ -18,7 +18,7 @@ use Rattle.boxed.specs.Sweep as sweep
 use Rattle.boxed.specs.Private as private
 use Rattle.boxed.specs.Solve as solve
 use Rattle.boxed.specs.Solve.{iterate, Watch, going}
-use Rattle.box_rows.specs.Private.{Sized}
+use Rattle.box_rows.specs.Rows.{Sized}
 use Rattle.boxed.specs.Private.{Ran, TestLists}
 use Rattle.boxed.specs.declared.Cause.{Cause}
 use Rattle.boxed.specs.declared.Cause.TheVariants as cause

@@ -3,17 +3,15 @@ use Rattle.loops.proofs.Common.{ℕ, suc, ◌+◌, ◌-◌, ◌≤◌, ◌<◌, 
 use Rattle.std.specs.Option.{is_some}
 use Rattle.std.specs.Prelude.{Option, Some, None}
 use Rattle.loops.specs.Loops.{turns}
-use Rattle.loops.specs.Gathering.{Gathering}
 use Rattle.loops.proofs.Turns.{stays}
 use Rattle.box_rows.specs.Rows as box
 use Rattle.exact_pass.specs.Promise.{Front}
 use Rattle.boxed.specs.Sweep as sweep
-use Rattle.boxed.specs.Private as private
 use Rattle.boxed.specs.Solve as solve
 use Rattle.boxed.specs.Solve.{Run, going, ended, exact, converged, conflict, Iterate, iterate, Watch}
 use Rattle.boxed.specs.Private.{BEFORE, SOLVE_END, TurnLent, Swept, Ran, Worked, Counted}
 use Rattle.boxed.proofs.Checks.{keeping, Keeps, keeps}
-use Rattle.boxed.proofs.Testing.{none_counted, some_counted, none_fight, some_fight}
+use Rattle.boxed.proofs.Testing.{none_fight, some_fight}
 use Rattle.boxed.specs.declared.Cause.TheVariants as cause
 use Rattle.boxed.specs.declared.Counts.{Counts}
 use Rattle.boxed.specs.declared.Ended.{Ended}
@@ -44,10 +42,10 @@ module _ (l₀ : List ℕ) (nu : List Float) (st : List ℕ) (c : Counts) (l : L
     ended_stays cap p m (going s) h i = absurd (cc)
     ended_stays cap p m (ended b s) h i = refl
 
--- ---- one sweep: nu₁ are the multipliers after it, s rows are stopped, and k are grown
+-- ---- one sweep: nu₁ are the multipliers after it, s rows are stopped, and `grown` tells how many are grown
 
-module _ (cap : ℕ) (m : Watch) (i : ℕ) {p : box.Problem} {nu : List Float} {st : List ℕ} {n : Counts} {rows : List ℕ} {work nu₁ old : List Float} {s k : ℕ} {rows₁ : List ℕ} (few : box.size p ≤ box.MAX_ROWS) (lent : TurnLent p st nu rows work n)
-    (swept : Swept p st nu nu₁ old s) (grew : Gathering (private.grown_at nu₁ p.scale) rows (length nu₁) k rows₁) (long : length nu₁ ≡ length nu) where
+module _ (cap : ℕ) (m : Watch) (i : ℕ) {p : box.Problem} {nu : List Float} {st : List ℕ} {n : Counts} {rows : List ℕ} {work nu₁ old : List Float} {s : ℕ} {grown : Option ℕ} {rows₁ : List ℕ} (few : box.size p ≤ box.MAX_ROWS) (lent : TurnLent p st nu rows work n)
+    (swept : Swept p st nu nu₁ old s) (grew : Front (sweep.grown nu₁ p.scale (length nu₁)) rows grown rows₁) (long : length nu₁ ≡ length nu) where
   abbrev c : Counts
   c = solve.counts (n.sweeps + 1) n.passes s
 
@@ -65,14 +63,6 @@ module _ (cap : ℕ) (m : Watch) (i : ℕ) {p : box.Problem} {nu : List Float} {
   unfolding solve.turn
   turn_is = rw (long ∙ lent.check.lent.lists.multipliers, add-one n.sweeps, swept.stopped, swept.multipliers)
 
-  none_front : k ≡ 0 → Front fighting rows None rows₁
-  unfolding private.is_grown
-  none_front h = record { count = none_counted fighting (sym grew.count ∙ h); front = grew.front }
-
-  some_front : (k ≡ 0 → ⊥) → Front fighting rows (Some k) rows₁
-  unfolding private.is_grown
-  some_front h = record { count = some_counted fighting k grew.count h; front = grew.front }
-
   -- the workspace after the sweep: the multipliers before it are past what a pass uses
   abbrev work₁ : List Float
   work₁ = keeping BEFORE (length nu) work old
@@ -80,9 +70,9 @@ module _ (cap : ℕ) (m : Watch) (i : ℕ) {p : box.Problem} {nu : List Float} {
   kept : (w : List Float) → drop BEFORE w ≡ drop BEFORE work₁ → Keeps BEFORE (length nu) work old w
   kept w = keeps BEFORE (length nu) work old w (omega (arith, few, lent.check.lent.lists.multipliers)) lent.check.lent.workspace (ap length swept.before)
 
-  pub turn-grown : (k ≡ 0 → ⊥) → TurnCounted (Some (Infeasible cause.Growth k)) nu₁ st c rows₁ work₁
-  turn-grown h =
-      let r : Ran after rows (Some (Infeasible cause.Growth k)) nu₁ st c rows₁ = some_fight cause.Growth nu₁ st rows rows₁ fighting k (some_front h) c in
+  pub turn-grown : (k : ℕ) → grown ≡ Some k → TurnCounted (Some (Infeasible cause.Growth k)) nu₁ st c rows₁ work₁
+  turn-grown k h =
+      let r : Ran after rows (Some (Infeasible cause.Growth k)) nu₁ st c rows₁ = some_fight cause.Growth nu₁ st rows rows₁ fighting k (rw h at grew) c in
       record {
         worked = record {
           ran = rw (turn_is, checked-ended rows nu₁ st c rows₁ (Infeasible cause.Growth k) cap p after r, tested-ended rows nu₁ st c rows₁ (Infeasible cause.Growth k) p m nu after r) r;
@@ -92,11 +82,11 @@ module _ (cap : ℕ) (m : Watch) (i : ℕ) {p : box.Problem} {nu : List Float} {
         passes = omega arith;
       }
 
-  none-grown : k ≡ 0 → (after ≡ going (iterate nu₁ st c)) × (rows₁ ≡ rows)
-  none-grown h = goes_on rows nu₁ st c rows₁ after (none_fight cause.Growth nu₁ st rows rows₁ fighting (none_front h) c)
+  none-grown : grown ≡ None → (after ≡ going (iterate nu₁ st c)) × (rows₁ ≡ rows)
+  none-grown h = goes_on rows nu₁ st c rows₁ after (none_fight cause.Growth nu₁ st rows rows₁ fighting (rw h at grew) c)
 
   -- no row is grown, and the check has come to this
-  module _ (none : k ≡ 0) {e : Option Ended} {nu₂ : List Float} {st₂ : List ℕ} {c₂ : Counts} {rows₂ : List ℕ} {work₂ : List Float}
+  module _ (none : grown ≡ None) {e : Option Ended} {nu₂ : List Float} {st₂ : List ℕ} {c₂ : Counts} {rows₂ : List ℕ} {work₂ : List Float}
       (checked : Counted BEFORE (solve.checked cap p (going (iterate nu₁ st c))) rows₁ work₁ (n.sweeps + 1) (n.passes + 1) e nu₂ st₂ c₂ rows₂ work₂) where
     turn_on : solve.turn cap p m i (going (iterate nu st n)) ≡ solve.tested p m nu (solve.checked cap p (going (iterate nu₁ st c)))
     turn_on = turn_is ∙ ap (λ (r : Run). solve.tested p m nu (solve.checked cap p r)) (none-grown none).0

@@ -1,14 +1,13 @@
 // Growth: the rows whose multiplier is past a million scales, Idle rows included.
 ghost use Rattle.std.specs.Prelude.{◌≡◌, ◌≤◌, length};
-ghost use Rattle.loops.specs.Gathering.{Gathering};
-ghost use Rattle.boxed.specs.Private as private;
+ghost use Rattle.exact_pass.specs.Promise.{Front};
+ghost use Rattle.boxed.specs.Sweep as sweep;
 
-// Puts their numbers at the front of `rows`, in rising order, and answers how many there are.
-pub fn grown(nu: &[f64], scale: &[f64], rows: &mut [usize]) -> usize
+// Puts their numbers at the front of `rows`, in rising order, and answers how many there are, if there are any.
+pub fn grown(nu: &[f64], scale: &[f64], rows: &mut [usize]) -> Option<usize>
     requires scales { length scale.now ≡ length nu.now }
     requires listed { length nu.now ≤ length rows.old }
-    ensures { Gathering (private.grown_at nu.now scale.now) rows.old
-        (length nu.now) result rows.new }
+    ensures { Front (sweep.grown nu.now scale.now (length nu.now)) rows.old result rows.new }
 {
     let mut k = 0;
     for i in 0..nu.len() {
@@ -17,5 +16,5 @@ pub fn grown(nu: &[f64], scale: &[f64], rows: &mut [usize]) -> usize
             k += 1;
         }
     }
-    k
+    if k == 0 { None } else { Some(k) }
 }

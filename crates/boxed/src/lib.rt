@@ -186,8 +186,5 @@ impl BoxSolver {
 pub fn listed(rows: &[usize], count: usize) -> &[usize]
     ensures { result.now ≡ take count rows.now }
 {
-    if count < rows.len() {
-        return &rows[..count];
-    }
-    rows
+    rows.get(..count).unwrap_or(rows)
 }

@@ -29,9 +29,8 @@ fn turn(
     let e = crate::BEFORE + nu.len();
     counts.stopped = sweep::sweep(p, states, nu, &mut work[crate::BEFORE..e]);
     counts.sweeps += 1;
-    let grown = growth::grown(nu, p.scale, rows);
-    if grown != 0 {
-        return Some(Ended::Infeasible(Cause::Growth, grown));
+    if let Some(k) = growth::grown(nu, p.scale, rows) {
+        return Some(Ended::Infeasible(Cause::Growth, k));
     }
     let ended = checkpoints::check(p, states, nu, rows, work, counts);
     if ended.is_some() {

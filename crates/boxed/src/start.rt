@@ -5,7 +5,7 @@ ghost use Rattle.box_rows.specs.Lent as lent;
 ghost use Rattle.boxed.specs.Sweep as sweep;
 ghost use Rattle.boxed.specs.Private as private;
 
-use box_rows::problem::BoxProblem;
+use box_rows::problem::{BoxProblem, ProblemRow};
 
 // Sets the state and clamps the multiplier of every row, and answers how many rows are Idle.
 #[tactic(auto, unfolding(loops::specs::Loops::turns, crate::specs::Sweep::start))]
@@ -18,7 +18,8 @@ pub fn start(p: &BoxProblem, states: &mut [u8], nu: &mut [f64]) -> usize
 {
     let mut idle = 0;
     for i in 0..p.n() {
-        if box_rows::is_idle(p.row(i)[i]) {
+        let row = ProblemRow { problem: p, i }.entries();
+        if box_rows::is_idle(row[i]) {
             states[i] = box_rows::IDLE;
             nu[i] = floats::clamp(0.0, p.lo[i], p.hi[i]).value;
             idle += 1;

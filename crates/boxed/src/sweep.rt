@@ -2,7 +2,7 @@
 ghost use Rattle.box_rows.specs.Lent as lent;
 ghost use Rattle.boxed.specs.Private as private;
 
-use box_rows::problem::BoxProblem;
+use box_rows::problem::{BoxProblem, RowAt};
 
 // Updates the multiplier of every row that acts, and answers how many rows are stopped at a bound. `before` gets the
 // multipliers as they were.
@@ -14,7 +14,7 @@ pub fn sweep(p: &BoxProblem, states: &[u8], nu: &mut [f64], before: &mut [f64]) 
     let mut stopped = 0;
     for i in 0..p.n() {
         if states[i] != box_rows::IDLE {
-            let v = box_rows::update(p.row_at(i, nu));
+            let v = box_rows::update(RowAt { problem: p, nu, i }.numbers());
             nu[i] = v.value;
             if v.side.is_some() {
                 stopped += 1;

@@ -10,7 +10,7 @@ ghost use Rattle.boxed.specs.declared.Counts.{Counts};
 ghost use Rattle.boxed.specs.declared.Cause.TheVariants as cause;
 
 use crate::{Cause, Ended, Watch};
-use box_rows::problem::BoxProblem;
+use box_rows::problem::{BoxProblem, RowAt};
 
 // The largest natural residual over the rows that act.
 #[tactic(auto, unfolding(loops::specs::Loops::turns, crate::specs::Sweep::residual))]
@@ -21,7 +21,7 @@ pub fn residual(p: &BoxProblem, states: &[u8], nu: &[f64]) -> f64
     let mut worst = 0.0;
     for i in 0..p.n() {
         if states[i] != box_rows::IDLE {
-            worst = floats::larger(worst, p.residual_at(i, nu));
+            worst = floats::larger(worst, RowAt { problem: p, nu, i }.residual());
         }
     }
     worst

@@ -5,7 +5,7 @@ use lib.Dec.{leb}
 use borrow.Author.Tests.{le-leb, lt-leb}
 use Rattle.std.proofs.Math.Bool.{and-false}
 use Rattle.box_rows.specs.Rows as box
-use Rattle.box_rows.specs.Private.{sized}
+use Rattle.box_rows.specs.Rows.{sized}
 use Rattle.exact_pass.specs.Ray.{ray}
 use Rattle.exact_pass.specs.Promise.{fits, reply, ray_reply, Left, Front}
 use Rattle.exact_pass.specs.Private.{Ran}

@@ -4,7 +4,7 @@ ghost use Rattle.exact_pass.specs.Pass as pass;
 ghost use Rattle.exact_pass.specs.Below.{Below};
 
 use arrayvec::ArrayVec;
-use box_rows::problem::BoxProblem;
+use box_rows::problem::{BoxProblem, ProblemRow};
 use box_rows::{INSIDE, MAX_ROWS};
 
 // Some rows of a problem by their numbers, a byte each.
@@ -27,7 +27,11 @@ impl<'a> FreeRows<'a> {
             (get_or self.now.rows.now k 0) }
         ensures long { length result.now ≡ length self.now.problem.now.u_free.now }
     {
-        crate::row(self.problem, self.rows[k] as usize)
+        ProblemRow {
+            problem: self.problem,
+            i: self.rows[k] as usize,
+        }
+        .entries()
     }
 }
 

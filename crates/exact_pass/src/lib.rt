@@ -89,16 +89,6 @@ fn store(from: &[f64], to: &mut [f64], a: usize)
     }
 }
 
-// Row a of W.
-fn row<'a>(p: &BoxProblem<'a>, a: usize) -> &'a [f64]
-    requires { a < length p.now.u_free.now }
-    ensures row { result.now ≡ box.row p.now.w.now (length p.now.u_free.now) a }
-    ensures long { length result.now ≡ length p.now.u_free.now }
-{
-    let n = p.n();
-    &p.w[a * n..(a + 1) * n]
-}
-
 // Whether there are a state and a value for each row of the problem, and a row list long enough.
 fn fits(p: &BoxProblem, states: usize, values: usize, rows: usize) -> bool
     ensures { result ≡ promise.fits (of p.now) states values rows }

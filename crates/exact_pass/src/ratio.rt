@@ -18,7 +18,9 @@ pub fn ratio_test(free: &FreeRows, nu: &[f64], y: &[f64], alpha: f64) -> Blockin
     let mut r = Blocking { alpha, block: None };
     for i in 0..y.len() {
         let a = free.rows[i] as usize;
-        r = box_rows::ratio_row(a, nu[a], y[i], p.lo[a], p.hi[a], r);
+        if let Some(nearer) = box_rows::ratio_row(a, nu[a], y[i], p.lo[a], p.hi[a], r.alpha) {
+            r = nearer;
+        }
     }
     r
 }

@@ -9,7 +9,7 @@ ghost use Rattle.exact_pass.specs.Below.{Below};
 
 use crate::{DIVERGENCE, EXACT_RESIDUAL, RayRows};
 use arrayvec::ArrayVec;
-use box_rows::problem::BoxProblem;
+use box_rows::problem::{BoxProblem, ProblemRow};
 use box_rows::{IDLE, grows, size_of};
 
 // The largest size of a row that acts.
@@ -90,7 +90,8 @@ fn quadratic(p: &BoxProblem, y: &[f64], l: &[usize]) -> f64
 {
     let mut q = 0.0;
     for i in 0..l.len() {
-        q = quadratic_row(crate::row(p, l[i]), y[l[i]], y, l, q);
+        let row = ProblemRow { problem: p, i: l[i] }.entries();
+        q = quadratic_row(row, y[l[i]], y, l, q);
     }
     q
 }

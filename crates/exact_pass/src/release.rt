@@ -6,7 +6,7 @@ ghost use Rattle.exact_pass.specs.Pass as pass;
 ghost use Rattle.exact_pass.specs.Private as private;
 
 use crate::{EXACT_RESIDUAL, Exact, Worst};
-use box_rows::problem::BoxProblem;
+use box_rows::problem::{BoxProblem, RowAt};
 use box_rows::{IDLE, INSIDE, natural_residual, pushed};
 
 // Row i with the natural residual r, if that is larger.
@@ -35,7 +35,7 @@ fn release_row(p: &BoxProblem, states: &[u8], nu: &[f64], i: usize, worst: Worst
     if s == INSIDE || s == IDLE {
         return worst;
     }
-    let row = p.row_at(i, nu);
+    let row = RowAt { problem: p, nu, i }.numbers();
     if pushed(s, row.u) {
         return worse(i, natural_residual(row, p.scale[i]), worst);
     }

@@ -14,12 +14,12 @@ loop-i-preserved c =
       | then-states-i-ne-IDLE+then-is_some w ↦ (
         omega (arith, w),
         rw (w.nu-is, w.stopped-is)
-            (row_stops _ _ _ _ _ _ so_far w.if-states-i-ne-IDLE.true _ w.row_at.ensures _ w.update-v.ensures (sym w.is_some.ensures ∙ w.if-is_some.true)),
+            (row_stops _ _ _ _ _ _ so_far w.if-states-i-ne-IDLE.true _ w.numbers.ensures _ w.update-v.ensures (sym w.is_some.ensures ∙ w.if-is_some.true)),
       )
       | then-states-i-ne-IDLE+else-is_some w ↦ (
         omega (arith, w),
         rw (w.nu-is, w.stopped-is)
-            (row_moves _ _ _ _ _ _ so_far w.if-states-i-ne-IDLE.true _ w.row_at.ensures _ w.update-v.ensures (sym w.is_some.ensures ∙ w.if-is_some.false)),
+            (row_moves _ _ _ _ _ _ so_far w.if-states-i-ne-IDLE.true _ w.numbers.ensures _ w.update-v.ensures (sym w.is_some.ensures ∙ w.if-is_some.false)),
       )
       | else-states-i-ne-IDLE w ↦ (omega (arith, w), rw (w.nu-is, w.stopped-is) (row_stays _ _ _ _ _ _ so_far w.if-states-i-ne-IDLE.false))
     ]
