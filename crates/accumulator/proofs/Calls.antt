@@ -16,6 +16,15 @@ pub empty-is : record { words = replicate 67 0; products = 0; free = false } ≡
 unfolding EMPTY digits_in
 empty-is = refl
 
+-- no product is held after the free motion
+pub none-counted : (u : Float) (a : Accumulator) → Ok a ≡ add_free EMPTY u → a.products ≡ 0
+unfolding add_free with_free EMPTY
+none-counted u a h = go (is_finite u) h
+  where
+    go : (b : Bool) → Ok a ≡ cond b (Ok (with_free EMPTY u)) (Err NotFinite) → a.products ≡ 0
+    go true e = cc
+    go false e = cc
+
 -- none is left of one list or the other
 pub ended : (a : Accumulator) (w nu : List Float) → length w ≡ 0 → Ok a ≡ products a w nu
 unfolding products

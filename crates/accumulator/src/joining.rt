@@ -1,5 +1,5 @@
 // Two accumulators joined into one.
-ghost use Rattle.std.specs.Prelude.{◌≡◌};
+ghost use Rattle.std.specs.Prelude.{◌≡◌, MatchResult};
 ghost use Rattle.accumulator.specs.Joins as joins;
 
 use crate::{Accumulator, MOST_PRODUCTS, words};
@@ -17,19 +17,25 @@ impl Accumulator {
 
     // This accumulator and `other` together: the words add modulo 2^4288, the products add, and a free motion of either is the total's. Refused where that
     // would be more than 32 products or a second free motion.
-    #[tactic(auto, using(crate::proofs::Together::all_placed), unfolding(crate::specs::Joins::joinable, crate::specs::Joins::joined, crate::specs::Joins::join))]
-    pub fn join(self, other: Accumulator) -> Result<Accumulator, Refusal>
+    pub fn join(mut self, other: Accumulator) -> Result<Accumulator, Refusal>
         ensures { result ≡ joins.join self other }
     {
-        if !self.joinable(other) {
+        self.take_other(&other)?;
+        Ok(self)
+    }
+
+    // The same in place: this accumulator is the total, and is as it was where the join is refused.
+    #[tactic(auto, using(crate::proofs::Together::all_placed), unfolding(crate::specs::Joins::joinable, crate::specs::Joins::joined, crate::specs::Joins::join))]
+    pub fn take_other(&mut self, other: &Accumulator) -> Result<(), Refusal>
+        ensures { MatchResult result (λ _. Ok self.new ≡ joins.join self.old other.now)
+            (λ r. (Err r ≡ joins.join self.old other.now) × (self.new ≡ self.old)) }
+    {
+        if !self.joinable(*other) {
             return Err(Refusal::ExactFull);
         }
-        let mut words = self.words;
-        words::add_terms::<words::Plus>(&mut words, 0, &other.words);
-        Ok(Accumulator {
-            words,
-            products: self.products + other.products,
-            free: self.free || other.free,
-        })
+        words::add_terms::<words::Plus>(&mut self.words, 0, &other.words);
+        self.products += other.products;
+        self.free = self.free || other.free;
+        Ok(())
     }
 }

@@ -2,7 +2,7 @@
 // contract is an equation with a definition of specs/. The solver does not use it: its row sums stay rounded.
 #![tactic(auto)]
 
-ghost use Rattle.std.specs.Prelude.{◌≡◌, MatchResult};
+ghost use Rattle.std.specs.Prelude.{◌≡◌, ◌+◌, ◌<◌, MatchResult};
 ghost use Rattle.accumulator.specs.Accumulators as acc;
 
 mod joining;
@@ -54,11 +54,11 @@ impl Accumulator {
         Ok(self)
     }
 
-    // The same in place: a row by the calls above would copy 67 words for each product.
+    // The same in place, for a row, since the calls above copy 67 words each: the accumulator is as it was where the term is refused.
     #[tactic(auto, unfolding(crate::specs::Accumulators::add_free, crate::specs::Accumulators::with_free))]
-    fn take_free(&mut self, u: f64) -> Result<(), Refusal>
+    pub fn take_free(&mut self, u: f64) -> Result<(), Refusal>
         ensures { MatchResult result (λ _. Ok self.new ≡ acc.add_free self.old u)
-            (λ r. Err r ≡ acc.add_free self.old u) }
+            (λ r. (Err r ≡ acc.add_free self.old u) × (self.new ≡ self.old)) }
     {
         if self.free {
             return Err(Refusal::ExactFull);
@@ -71,14 +71,24 @@ impl Accumulator {
         Ok(())
     }
 
-    #[tactic(auto, unfolding(crate::specs::Accumulators::add_product, crate::specs::Accumulators::with_product))]
-    fn take_product(&mut self, w: f64, nu: f64) -> Result<(), Refusal>
+    #[tactic(auto, unfolding(crate::specs::Accumulators::add_product))]
+    pub fn take_product(&mut self, w: f64, nu: f64) -> Result<(), Refusal>
         ensures { MatchResult result (λ _. Ok self.new ≡ acc.add_product self.old w nu)
-            (λ r. Err r ≡ acc.add_product self.old w nu) }
+            (λ r. (Err r ≡ acc.add_product self.old w nu) × (self.new ≡ self.old)) }
     {
         if self.products >= MOST_PRODUCTS {
             return Err(Refusal::ExactFull);
         }
+        self.put_product(w, nu)
+    }
+
+    // A product where there is room for it, as a row knows from its lists' lengths.
+    #[tactic(auto, unfolding(crate::specs::Accumulators::add_product, crate::specs::Accumulators::with_product))]
+    fn put_product(&mut self, w: f64, nu: f64) -> Result<(), Refusal>
+        requires { self.old.products < 32 }
+        ensures { MatchResult result (λ _. (Ok self.new ≡ acc.add_product self.old w nu) × (self.new.products ≡ self.old.products + 1))
+            (λ r. (Err r ≡ acc.add_product self.old w nu) × (self.new ≡ self.old)) }
+    {
         if !floats::is_finite(w) || !floats::is_finite(nu) {
             return Err(Refusal::NotFinite);
         }

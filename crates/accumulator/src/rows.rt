@@ -16,7 +16,7 @@ pub fn row(u: f64, w: &[f64], nu: &[f64]) -> Result<Accumulator, Refusal>
     let mut sum = Accumulator::EMPTY;
     sum.take_free(u)?;
     for (entry, multiplier) in w.iter().zip(nu) {
-        sum.take_product(*entry, *multiplier)?;
+        sum.put_product(*entry, *multiplier)?;
     }
     Ok(sum)
 }
