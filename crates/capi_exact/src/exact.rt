@@ -44,6 +44,7 @@ fn keep(sum: Accumulator, words: &mut [u64], counts: &mut [u32])
 }
 
 // What a call answers: 0, and the sum is left; or the number of its refusal.
+// C is answered a number: here a refusal becomes one.
 fn leave(answer: Result<Accumulator, Refusal>, words: &mut [u64], counts: &mut [u32]) -> u32
     requires { (67 ≤ length words.old) × (2 ≤ length counts.old) }
     ensures { def.Left answer result words.old words.new counts.old counts.new }
