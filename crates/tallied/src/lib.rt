@@ -23,15 +23,18 @@ pub struct Tallied {
     pub answer: Result<BoxOutcome, Refusal>,
 }
 
-// Whether the tally might not hold one solve more: 200 sweeps, 9 passes and 32 rows stopped at most.
+// The most exact passes of a solve: one at each checkpoint, and one after the last sweep.
+const PASSES: u32 = boxed::CHECKPOINTS.len() as u32 + 1;
+
+// Whether the tally might not hold one solve more, of as many sweeps, passes and rows stopped as there may be.
 #[tactic(auto, unfolding(tally::specs::Tally::full))]
 pub fn full(tally: SolveReport) -> bool
     ensures { result ≡ def.full tally }
 {
-    tally.increments == 4294967295
-        || tally.sweeps > 4294967095
-        || tally.exact_passes > 4294967286
-        || tally.stopped > 4294967263
+    tally.increments == u32::MAX
+        || tally.sweeps > u32::MAX - boxed::SWEEP_CAP
+        || tally.exact_passes > u32::MAX - PASSES
+        || tally.stopped > u32::MAX - box_rows::MAX_ROWS as u32
 }
 
 // Whether no multiplier is NaN.
