@@ -27,46 +27,54 @@ pub fn residual(p: &BoxProblem, states: &[u8], nu: &[f64]) -> f64
     worst
 }
 
-// How far a coordinate moved, of which `row` has the motion for a unit multiplier of each row.
-#[tactic(auto, unfolding(loops::specs::Loops::turns, crate::specs::Private::coordinate))]
-fn coordinate(row: &[f64], nu: &[f64], before: &[f64]) -> f64
-    requires row { length row.now ≡ length nu.now }
-    requires before { length before.now ≡ length nu.now }
-    ensures { result ≡ private.coordinate row.now nu.now before.now (length nu.now) }
-{
-    let mut s = 0.0;
-    for i in 0..nu.len() {
-        s = s + row[i] * (nu[i] - before[i]);
-    }
-    s
+// What a sweep changed: the multipliers after it and before it.
+#[derive(Clone, Copy)]
+struct Change<'a> {
+    nu: &'a [f64],
+    before: &'a [f64],
+    ghost paired: { length before.now ≡ length nu.now },
 }
 
-// The most that a coordinate moved.
-#[tactic(auto, unfolding(loops::specs::Loops::turns, crate::specs::Sweep::moved, crate::specs::Private::coordinate))]
-fn moved(motion: &[f64], nu: &[f64], before: &[f64]) -> f64
-    requires some { 0 < length nu.now }
-    requires before { length before.now ≡ length nu.now }
-    ensures { result ≡ sweep.moved motion.now nu.now before.now
-        (length motion.now / length nu.now) }
-{
-    let n = nu.len();
-    let mut worst = 0.0;
-    for c in 0..motion.len() / n {
-        let s = coordinate(&motion[c * n..(c + 1) * n], nu, before);
-        worst = floats::larger(worst, floats::abs(s));
-    }
-    worst
-}
+impl<'a> Change<'a> {
+    ghost use Rattle.boxed.specs.Sweep as sweep;
 
-// Writes into y the direction in which the multipliers moved.
-fn change(nu: &[f64], before: &[f64], y: &mut [f64])
-    requires before { length before.now ≡ length nu.now }
-    requires direction { length y.old ≡ length nu.now }
-    ensures { y.new ≡ private.change nu.now before.now
-        (length nu.now) }
-{
-    for i in 0..y.len() {
-        y[i] = nu[i] - before[i];
+    // How far a coordinate moved, of which `row` has the motion for a unit multiplier of each row.
+    #[tactic(auto, unfolding(loops::specs::Loops::turns, crate::specs::Private::coordinate))]
+    fn coordinate(&self, row: &[f64]) -> f64
+        requires { length row.now ≡ length self.now.nu.now }
+        ensures { result ≡ private.coordinate row.now self.now.nu.now self.now.before.now (length self.now.nu.now) }
+    {
+        let mut s = 0.0;
+        for i in 0..row.len() {
+            s = s + row[i] * (self.nu[i] - self.before[i]);
+        }
+        s
+    }
+
+    // The most that a coordinate moved.
+    #[tactic(auto, unfolding(loops::specs::Loops::turns, crate::specs::Sweep::moved, crate::specs::Private::coordinate))]
+    fn moved(&self, motion: &[f64]) -> f64
+        requires { 0 < length self.now.nu.now }
+        ensures { result ≡ sweep.moved motion.now self.now.nu.now self.now.before.now
+            (length motion.now / length self.now.nu.now) }
+    {
+        let n = self.nu.len();
+        let mut worst = 0.0;
+        for c in 0..motion.len() / n {
+            let s = self.coordinate(&motion[c * n..(c + 1) * n]);
+            worst = floats::larger(worst, floats::abs(s));
+        }
+        worst
+    }
+
+    // Writes into y the direction in which the multipliers moved.
+    fn direction(&self, y: &mut [f64])
+        requires { length y.old ≡ length self.now.nu.now }
+        ensures { y.new ≡ private.change self.now.nu.now self.now.before.now (length self.now.nu.now) }
+    {
+        for i in 0..y.len() {
+            y[i] = self.nu[i] - self.before[i];
+        }
     }
 }
 
@@ -88,7 +96,7 @@ fn ray_test(
 {
     let n = nu.len();
     let mut y = [0.0f64; box_rows::MAX_ROWS];
-    change(nu, before, &mut y[..n]);
+    Change { nu, before }.direction(&mut y[..n]);
     let k = exact_pass::ray_of(p, states, &y[..n], rows)?;
     Some(Ended::Infeasible(Cause::Sweep, k))
 }
@@ -110,7 +118,8 @@ pub fn tests(
         (solve.going (solve.iterate nu.now states.now c)))
         rows.old result nu.now states.now c rows.new }
 {
-    if moved(watch.motion, nu, before) <= watch.tolerance {
+    let change = Change { nu, before };
+    if change.moved(watch.motion) <= watch.tolerance {
         if residual(p, states, nu) <= exact_pass::EXACT_RESIDUAL {
             return Some(Ended::Converged);
         }

@@ -1,7 +1,7 @@
 use Rattle.std.proofs.Common.{arith}
 use Rattle.loops.proofs.Fill.{tab-start, tab_again}
 use Rattle.boxed.specs.Private as private
-use Rattle.boxed.proofs.tests.change.Goals as goal
+use Rattle.boxed.proofs.tests.Change.direction.Goals as goal
 
 pub loop-i-init : goal.loop-i-init
 unfolding private.change

@@ -1,6 +1,0 @@
-use Rattle.std.proofs.Common.{◌≡◌}
-use Rattle.boxed.specs.Sweep as sweep
-use Rattle.boxed.proofs.tests.moved.Given as goal
-
-abbrev pub invariant-loop-c : goal.invariant-loop-c
-invariant-loop-c l = l.worst ≡ sweep.moved l.motion l.nu l.before l.c
