@@ -45,8 +45,8 @@ impl<'a> Change<'a> {
         ensures { result ≡ private.coordinate row.now self.now.nu.now self.now.before.now (length self.now.nu.now) }
     {
         let mut s = 0.0;
-        for i in 0..row.len() {
-            s = s + row[i] * (self.nu[i] - self.before[i]);
+        for (i, entry) in row.iter().enumerate() {
+            s = s + *entry * (self.nu[i] - self.before[i]);
         }
         s
     }
@@ -72,8 +72,8 @@ impl<'a> Change<'a> {
         requires { length y.old ≡ length self.now.nu.now }
         ensures { y.new ≡ private.change self.now.nu.now self.now.before.now (length self.now.nu.now) }
     {
-        for i in 0..y.len() {
-            y[i] = self.nu[i] - self.before[i];
+        for (i, by) in y.iter_mut().enumerate() {
+            *by = self.nu[i] - self.before[i];
         }
     }
 }
