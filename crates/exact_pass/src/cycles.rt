@@ -6,18 +6,14 @@ ghost use Rattle.exact_pass.specs.Pass as pass;
 ghost use Rattle.exact_pass.specs.Private as private;
 
 use crate::{Cycle, MARKED};
+use std::num::f64_to_bits_with_nan;
 
 // Whether two multipliers are one value, every NaN as one.
+#[tactic(auto, using(floats::proofs::OneValue::same_bits))]
 fn same(x: f64, y: f64) -> bool
     ensures { result ≡ true → x ≡ y }
 {
-    if floats::is_nan(x) {
-        return floats::is_nan(y);
-    }
-    if floats::is_nan(y) {
-        return false;
-    }
-    x.to_bits() == y.to_bits()
+    f64_to_bits_with_nan(x) == f64_to_bits_with_nan(y)
 }
 
 // The same of as many multipliers each.
@@ -25,8 +21,8 @@ fn same_values(a: &[f64], b: &[f64]) -> bool
     requires { length a.now ≡ length b.now }
     ensures { result ≡ true → a.now ≡ b.now }
 {
-    for i in 0..a.len() {
-        if !same(a[i], b[i]) {
+    for (x, y) in a.iter().zip(b) {
+        if !same(*x, *y) {
             return false;
         }
     }

@@ -25,8 +25,8 @@ fn direction(inconsistent: bool, free: &FreeRows, z: &[f64], nu: &[f64], y: &mut
         return;
     }
     let scale = free.problem.scale;
-    for i in 0..z.len() {
-        let a = free.rows[i] as usize;
+    for (i, row) in free.rows.iter().enumerate() {
+        let a = *row as usize;
         y[i] = scale[a] * z[i] - nu[a];
     }
 }

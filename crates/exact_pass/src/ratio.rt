@@ -16,9 +16,9 @@ pub fn ratio_test(free: &FreeRows, nu: &[f64], y: &[f64], alpha: f64) -> Blockin
 {
     let p = free.problem;
     let mut r = Blocking { alpha, block: None };
-    for i in 0..y.len() {
-        let a = free.rows[i] as usize;
-        if let Some(nearer) = box_rows::ratio_row(a, nu[a], y[i], p.lo[a], p.hi[a], r.alpha) {
+    for (row, by) in free.rows.iter().zip(y) {
+        let a = *row as usize;
+        if let Some(nearer) = box_rows::ratio_row(a, nu[a], *by, p.lo[a], p.hi[a], r.alpha) {
             r = nearer;
         }
     }
@@ -32,8 +32,8 @@ pub fn advance(free: &[u8], y: &[f64], alpha: f64, nu: &mut [f64])
     requires direction { length y.now ≡ length free.now }
     ensures { nu.new ≡ pass.advance free.now y.now alpha nu.old (length free.now) }
 {
-    for i in 0..y.len() {
-        let a = free[i] as usize;
-        nu[a] = nu[a] + alpha * y[i];
+    for (row, by) in free.iter().zip(y) {
+        let a = *row as usize;
+        nu[a] = nu[a] + alpha * *by;
     }
 }

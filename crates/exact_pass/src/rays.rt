@@ -61,8 +61,8 @@ fn linear(u_free: &[f64], y: &[f64], l: &[usize]) -> f64
     ensures { result ≡ private.linear u_free.now y.now l.now (length l.now) }
 {
     let mut s = 0.0;
-    for i in 0..l.len() {
-        s = s + u_free[l[i]] * y[l[i]];
+    for row in l {
+        s = s + u_free[*row] * y[*row];
     }
     s
 }
@@ -75,8 +75,8 @@ fn quadratic_row(row: &[f64], v: f64, y: &[f64], l: &[usize], quad: f64) -> f64
     ensures { result ≡ private.quadratic_row row.now v y.now l.now quad (length l.now) }
 {
     let mut q = quad;
-    for j in 0..l.len() {
-        q = q + v * row[l[j]] * y[l[j]];
+    for column in l {
+        q = q + v * row[*column] * y[*column];
     }
     q
 }
@@ -89,9 +89,13 @@ fn quadratic(p: &BoxProblem, y: &[f64], l: &[usize]) -> f64
     ensures { result ≡ private.quadratic p.now.w.now (length y.now) y.now l.now (length l.now) }
 {
     let mut q = 0.0;
-    for i in 0..l.len() {
-        let row = ProblemRow { problem: p, i: l[i] }.entries();
-        q = quadratic_row(row, y[l[i]], y, l, q);
+    for row in l {
+        let entries = ProblemRow {
+            problem: p,
+            i: *row,
+        }
+        .entries();
+        q = quadratic_row(entries, y[*row], y, l, q);
     }
     q
 }

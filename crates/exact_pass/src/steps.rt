@@ -19,8 +19,8 @@ fn scatter(free: &[u8], y: &[f64], d: &mut [f64])
     requires direction { length y.now ≡ length free.now }
     ensures { d.new ≡ pass.scattered free.now y.now d.old (length free.now) }
 {
-    for i in 0..y.len() {
-        d[free[i] as usize] = y[i];
+    for (row, by) in free.iter().zip(y) {
+        d[*row as usize] = *by;
     }
 }
 

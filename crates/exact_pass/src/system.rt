@@ -23,8 +23,8 @@ fn right_hand_start(u_free: &[f64], free: &[u8], rhs: &mut [f64])
         ≡ tab (λ (i : ℕ). neg (at u_free.now (get_or free.now i 0)))
         (length free.now) }
 {
-    for i in 0..free.len() {
-        rhs[i] = -u_free[free[i] as usize];
+    for (i, row) in free.iter().enumerate() {
+        rhs[i] = -u_free[*row as usize];
     }
 }
 
@@ -71,8 +71,8 @@ fn matrix_row(row: &[f64], scale: &[f64], free: &[u8], out: &mut [f64])
     requires place { length out.old ≡ length free.now }
     ensures { out.new ≡ private.matrix_row row.now scale.now free.now (length free.now) }
 {
-    for j in 0..free.len() {
-        let b = free[j] as usize;
+    for (j, column) in free.iter().enumerate() {
+        let b = *column as usize;
         out[j] = row[b] * scale[b];
     }
 }
@@ -87,7 +87,12 @@ pub fn matrix(free: &FreeRows, m: &mut [f64])
 {
     let k = free.rows.len();
     for i in 0..k {
-        matrix_row(free.row(i), free.problem.scale, free.rows, &mut m[i * k..i * k + k]);
+        matrix_row(
+            free.row(i),
+            free.problem.scale,
+            free.rows,
+            &mut m[i * k..i * k + k],
+        );
     }
 }
 
@@ -111,8 +116,9 @@ fn residual_rows(
 {
     let mut s = -a;
     let mut t = -b;
-    for j in 0..free.len() {
-        let c = free[j] as usize;
+    // By enumerate: with zip, which asks two lists for their ends, a solve of 32 rows took a hundredth longer.
+    for (j, row) in free.iter().enumerate() {
+        let c = *row as usize;
         s = s + first[c] * scale[c] * z[j];
         t = t + second[c] * scale[c] * z[j];
     }

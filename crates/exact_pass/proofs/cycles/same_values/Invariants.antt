@@ -1,6 +1,9 @@
-use Rattle.std.proofs.Common.{ℕ, ◌<◌, ◌≡◌, get_or}
-use lib.Ieee.{nan}
+use Rattle.std.proofs.Common.{◌≡◌, length}
 use Rattle.exact_pass.proofs.cycles.same_values.Given as goal
 
-abbrev pub invariant-loop-i : goal.invariant-loop-i
-invariant-loop-i l = (k : ℕ) → k < l.i → get_or l.a k nan ≡ get_or l.b k nan
+-- what is left is as long, and the lists are the same if it is
+abbrev pub invariant-loop-x : goal.invariant-loop-x
+invariant-loop-x l = record {
+  long : length l.x-iterator.a.rest.now ≡ length l.x-iterator.b.rest.now;
+  same : l.x-iterator.a.rest.now ≡ l.x-iterator.b.rest.now → l.a ≡ l.b;
+}

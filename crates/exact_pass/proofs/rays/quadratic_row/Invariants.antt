@@ -2,5 +2,5 @@ use Rattle.std.proofs.Common.{◌≡◌}
 use Rattle.exact_pass.specs.Private as private
 use Rattle.exact_pass.proofs.rays.quadratic_row.Given as goal
 
-abbrev pub invariant-loop-j : goal.invariant-loop-j
-invariant-loop-j l = l.q ≡ private.quadratic_row l.row l.v l.y l.l l.quad l.j
+abbrev pub invariant-loop-column : goal.invariant-loop-column
+invariant-loop-column l = l.q ≡ private.quadratic_row l.row l.v l.y l.l l.quad l.column-index
