@@ -60,6 +60,7 @@ impl Values {
         let n = shape.rows;
         let mut start = self.nu;
         let nu = &mut start[..n];
+        // Fixed memory: the scratch is as long as the largest problem needs.
         let mut states = [0u8; 32];
         let mut rows = [0usize; 32];
         let mut workspace = [0.0f64; 2304];

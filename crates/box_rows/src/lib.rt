@@ -1,5 +1,6 @@
 // One row of a box problem, by its numbers: its update, its natural residual, the state that its multiplier shows, its
 // row sum, and its part in an exact pass and in a ray. Each call is total by nature.
+// Bounds stay two numbers, as in clamp: the lists hold them apart, so that a pair would be made for a single call.
 #![tactic(auto)]
 
 ghost use Rattle.std.specs.Prelude.{◌≡◌, unwrap_or};
@@ -125,6 +126,7 @@ pub fn is_idle(d: f64) -> bool
 }
 
 // The multiplier of a row in a state: a row on a bound has that bound.
+// The state is a byte, as C lends it and with any value: a RowState would ask more of callers.
 pub fn placed(lo: f64, hi: f64, state: u8, v: f64) -> f64
     ensures { result ≡ box.placed lo hi state v }
 {
@@ -135,7 +137,7 @@ pub fn placed(lo: f64, hi: f64, state: u8, v: f64) -> f64
     }
 }
 
-// Whether a row on a bound is pushed inside: u is its row sum.
+// Whether a row on a bound is pushed inside: u is its row sum. The state is a byte, as in `placed`.
 #[tactic(auto, unfolding(crate::specs::Rows::pushed))]
 pub fn pushed(state: u8, u: f64) -> bool
     ensures { result ≡ box.pushed state u }

@@ -19,6 +19,7 @@ fn is_checkpoint(k: u32) -> bool
 
 // How a pass that starts from the multipliers ends the solve, if it does. They are kept in the workspace past the
 // pass's own part: they stay as they are unless it finds the solution.
+// The slices are lent one by one: parts of two are copied here, so that a struct of the four would be taken apart.
 fn attempt(
     p: &BoxProblem,
     states: &mut [u8],

@@ -23,6 +23,7 @@ pub fn nothing(idle: u32) -> BoxReport
 }
 
 // Sets the state of every row that acts to the one that its multiplier shows.
+// States and multipliers stay apart, here and in the answer: the states are written, and the multipliers only read.
 #[tactic(auto, unfolding(loops::specs::Loops::turns, crate::specs::Sweep::classified))]
 fn classify(p: &BoxProblem, nu: &[f64], states: &mut [u8])
     requires { private.Lists (lent.of p.now) states.old nu.now }

@@ -51,6 +51,7 @@ fn too_short(workspace: usize, states: usize, rows: usize, n: usize) -> bool
 
 impl BoxSolver {
     // How `solve` refuses such a call, or that it takes it. `workspace` is the length of the workspace.
+    // The lists stay apart, as in `solve`: C lends them so.
     #[tactic(auto, unfolding(crate::specs::Solve::refusal, crate::specs::Private::good_scale))]
     pub fn refusal(
         w: &[f64],

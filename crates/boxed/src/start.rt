@@ -8,6 +8,7 @@ ghost use Rattle.boxed.specs.Private as private;
 use box_rows::problem::{BoxProblem, ProblemRow};
 
 // Sets the state and clamps the multiplier of every row, and answers how many rows are Idle.
+// States and multipliers stay apart, as the caller lends them: a struct of both would be made for this call alone.
 #[tactic(auto, unfolding(loops::specs::Loops::turns, crate::specs::Sweep::start))]
 pub fn start(p: &BoxProblem, states: &mut [u8], nu: &mut [f64]) -> usize
     requires { private.Lists (lent.of p.now) states.old nu.old }

@@ -95,6 +95,7 @@ fn ray_test(
         rows.old result nu.now states.now c rows.new }
 {
     let n = nu.len();
+    // Fixed memory: the scratch is as long as the largest problem needs, and its front is in use.
     let mut y = [0.0f64; box_rows::MAX_ROWS];
     Change { nu, before }.direction(&mut y[..n]);
     let k = exact_pass::ray_of(p, states, &y[..n], rows)?;

@@ -19,6 +19,7 @@ impl<'a> Sent<'a> {
     ghost use Rattle.tallied.specs.Joining as joining;
 
     // How the solve by itself is refused, or that it is taken. `room` is the length of the workspace.
+    // The lists stay apart, here and in `solve`, as in `BoxSolver::solve`: C lends them so.
     #[inline(always)]
     #[tactic(auto, unfolding(triangle::specs::Triangle::refusal_of))]
     pub fn refusal(

@@ -28,7 +28,8 @@ fn measured<'a>(t: &'a [f64], n: usize, motion: usize) -> Result<Triangle<'a>, R
     Ok(Triangle { values: t, n })
 }
 
-// The full solve of the mirrored matrix, in scratch of K values.
+// The full solve of the mirrored matrix, in scratch of K values: fixed memory, of which the front is in use. The lists
+// stay apart, here and in `refusal`, as in `BoxSolver::solve`.
 fn solve_in<const K: usize>(
     t: &Triangle,
     u_free: &[f64],
