@@ -45,10 +45,10 @@ module _ (a : List Float) (m n i : ℕ) (low : i < m) (holds : m * n ≤ length 
   known-run rank b y r e h g =
       rw (← add-one i) (e ∙ gathered_ext (sub binary64) (at b i) _ (i + 1) _ rank (omega arith) λ t l u. rw (row_at t (omega arith)))
 
-  pub turn-run : (rank : ℕ) (y r : List Float) (u0 utu : Float)
+  pub turn_run : (rank : ℕ) (y r : List Float) (u0 utu : Float)
       → r ≡ reflector.reflect i (λ (t : ℕ). t) u0 (λ (t : ℕ). at (row n i a) t) utu rank (length y) y → length y ≡ n → rank ≤ n
       → r ≡ reflector.reflect i (λ (t : ℕ). t) u0 (λ (t : ℕ). at a (i * n + t)) utu rank n y
-  turn-run rank y r u0 utu e l h = e ∙ rw l (reflect_ext i (λ t. t) (λ t. t) u0 _ _ utu rank n y h (λ t g u. refl) (λ t g u. row_at t u))
+  turn_run rank y r u0 utu e l h = e ∙ rw l (reflect_ext i (λ t. t) (λ t. t) u0 _ _ utu rank n y h (λ t g u. refl) (λ t g u. row_at t u))
 
 -- ---- a row at place p, changed: l is what stands there now
 
@@ -121,6 +121,6 @@ reflect_row-run a right m n rank i k u0 utu r e h f g l w =
     let z : k * n + n - k * n ≡ n = omega arith in
     let s : k * n + n ≤ length a = omega (arith, row-end m n k h) in
     let x : r ≡ reflector.reflect i (λ t. t) u0 (λ t. at right (i * n + t)) utu rank n (take n (drop (k * n) a)) =
-    turn-run right rank n i g w rank (take n (drop (k * n) a)) r u0 utu (rw z at e) (part-length a (k * n) n s) l in
+    turn_run right rank n i g w rank (take n (drop (k * n) a)) r u0 utu (rw z at e) (part-length a (k * n) n s) l in
     let y = reflect_placed a (k * n) n s i u0 (λ t. at right (i * n + t)) utu rank (omega arith) l in
     rw (z, x) (sym y ∙ rw (unchanged a (k * n) n s))

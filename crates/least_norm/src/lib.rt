@@ -208,6 +208,7 @@ impl LeastNorm {
     // Writes into x the x of least norm among those that minimize ‖A x − b‖, and returns the rank of A. a holds A, m
     // rows of n entries each, row by row. a and b are overwritten. The first 1,056 values of the workspace are free
     // afterwards.
+    #[tactic(auto, unfolding(crate::specs::Promise::reply))]
     pub fn solve(
         a: &mut [f64],
         m: usize,

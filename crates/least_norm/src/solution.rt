@@ -29,6 +29,7 @@ pub fn substitute(a: &[f64], top: Size, b: &[f64], y: &mut [f64])
 }
 
 // Reflector i applied to y.
+#[tactic(auto, using(crate::proofs::Rows::turn_run), unfolding(crate::specs::Private::turn))]
 fn turn(right: &[f64], top: Size, i: usize, y: &mut [f64])
     requires { Turning right.now top y.old × (i < top.m) }
     ensures { y.new ≡ private.turn top.n top.m right.now i y.old }

@@ -12,6 +12,7 @@ pub struct Triangle<'a> {
 }
 
 // Where row i of a triangle begins; at n, the length of a triangle of n rows.
+#[tactic(auto, using(loops::proofs::Index::product), unfolding(crate::specs::Triangle::row_start))]
 pub fn row_start(i: usize) -> usize
     requires { i ≤ 32 }
     ensures { result ≡ triangle.row_start i }

@@ -5,10 +5,6 @@ use Rattle.least_norm.proofs.Runs.{answer}
 use Rattle.least_norm.proofs.Single.{one_by_one, whole-one}
 use Rattle.least_norm.proofs.LeastNorm.solve.Goals as goal
 
-pub returns-then-not-fits : goal.returns-then-not-fits
-unfolding promise.reply
-returns-then-not-fits c = search rules
-
 pub solve-requires : goal.solve-requires
 solve-requires c = grind (arith, one_by_one)
 
