@@ -66,5 +66,5 @@ pub fn leave(joined: Result<SolveReport, Refusal>, counts: &mut [u32], residual:
 pub fn taken(a: &[u32], b: &[u32], counts: &[u32], residual: &[f64]) -> bool
     ensures { result ≡ report.taken a.now b.now counts.now residual.now }
 {
-    a.len() >= 10 && b.len() >= 10 && counts.len() >= 10 && residual.len() >= 1
+    a.len() >= 10 && b.len() >= 10 && counts.len() >= 10 && !residual.is_empty()
 }

@@ -59,5 +59,5 @@ pub fn leave(answer: Result<BoxOutcome, Refusal>, counts: &mut [usize], residual
 pub fn taken(counts: &[usize], residual: &[f64]) -> bool
     ensures { result ≡ plain.taken counts.now residual.now }
 {
-    counts.len() >= 8 && residual.len() >= 1
+    counts.len() >= 8 && !residual.is_empty()
 }

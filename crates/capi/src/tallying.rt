@@ -18,7 +18,7 @@ pub fn taken(tally: &[u32], tally_residual: &[f64], counts: &[usize], residual: 
     ensures { result ≡ tallies.taken tally.now tally_residual.now
         counts.now residual.now }
 {
-    tally.len() >= 10 && tally_residual.len() >= 1 && solves::taken(counts, residual)
+    tally.len() >= 10 && !tally_residual.is_empty() && solves::taken(counts, residual)
 }
 
 // The tally that a solve left, in the lent slices, unless the solve is refused.

@@ -11,7 +11,7 @@ fn taken(rows: &[usize], coords: &[usize], counts: &[usize], written: &[usize]) 
         rows.now coords.now counts.now written.now }
 {
     let steps = rows.len();
-    steps <= coords.len() && steps <= counts.len() && 1 <= written.len()
+    steps <= coords.len() && steps <= counts.len() && !written.is_empty()
 }
 
 // The steps of a pull as one file at the front of out: 0, and written[0] is its length; or the number of a refusal, and
