@@ -1,6 +1,7 @@
 // The solver's public calls for C and Rust, by plain numbers and slices: a slice passes as a pointer and then a
 // length. include/piskorlu.h declares them. Each call is total; one that cannot be taken answers document 01's number
 // and writes nothing.
+// The lists of a call stay apart: C lends each by itself.
 #![tactic(auto)]
 
 ghost use Rattle.std.specs.Prelude.{◌≡◌, length};
@@ -89,7 +90,7 @@ pub extern "C" fn piskorlu_and(
 }
 
 // One increment's report a, gone on from there as b reports, by `continued`: 0 and the report in counts and residual,
-// or 13.
+// or 13. A call of its own beside piskorlu_and, since the C interface names each.
 #[tactic(auto, unfolding(crate::specs::Reports::taken))]
 #[unsafe(no_mangle)]
 pub extern "C" fn piskorlu_continued(

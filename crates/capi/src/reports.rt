@@ -44,8 +44,8 @@ pub fn write(r: SolveReport, counts: &mut [u32])
 }
 
 // What a join came to, left in the lent slices: 0, or the number of a refusal and nothing written.
-#[tactic(auto, unfolding(crate::specs::Reports::written))]
 // C is answered a number: here a refusal becomes one.
+#[tactic(auto, unfolding(crate::specs::Reports::written))]
 pub fn leave(joined: Result<SolveReport, Refusal>, counts: &mut [u32], residual: &mut [f64]) -> u32
     requires { (10 ≤ length counts.old) × (1 ≤ length residual.old) }
     ensures { report.Left joined result counts.old counts.new

@@ -1,5 +1,6 @@
 // The exports of capi for C and Rust: a crate is a library or a static library, not both, so that each call of the
 // library is exported here under its name, with its clauses. include/piskorlu.h declares the calls.
+// The lists of a call stay apart: C lends each by itself.
 #![tactic(auto)]
 
 ghost use Rattle.std.specs.Prelude.{◌≡◌, length};

@@ -1,4 +1,5 @@
 // A tallied solve by plain numbers.
+// The lists of a call stay apart: C lends each by itself.
 ghost use Rattle.std.specs.Prelude.{length};
 ghost use Rattle.floats.specs.Ops as ops;
 ghost use Rattle.box_rows.specs.Rows as box;

@@ -1,4 +1,5 @@
 // The writer of chained bend files, for C and Rust.
+// The lists of a call stay apart: C lends each by itself.
 ghost use Rattle.std.specs.Prelude.{◌≡◌, length};
 ghost use Rattle.bend_writer.specs.Write as write;
 ghost use Rattle.capi_chains.specs.ChainWriter as def;

@@ -1,4 +1,5 @@
 // Chained bend files, for C and Rust.
+// The lists of a call stay apart: C lends each by itself.
 ghost use Rattle.capi_chains.specs.Chains as def;
 
 // How many steps a chained bend file has, in steps[0], and where the trailer of each ends, newest first, in the first

@@ -10,6 +10,7 @@ pub fn flag(b: bool) -> u32
     u32::from(b)
 }
 
+// C passes a number: any but 0 is true.
 pub fn flagged(k: u32) -> bool
     ensures { result ≡ def.flagged k }
 {
