@@ -1,13 +1,13 @@
 -- A number from bytes, as the library reads it from a run of them.
 use Rattle.std.proofs.Common.{◌≡◌, ℕ, suc, ◌+◌, ◌-◌, ◌<◌, ◌≤◌, List, [], ◌∷◌, length, take, drop, slice_index, eqb, arith, ◌∙◌, ap, refl, Bool, true, false, ◌&&◌}
-use Rattle.std.proofs.lemmas.List.{get_or-take, get_or-drop, drop-take}
+use Rattle.std.proofs.lemmas.List.{get_or-take, get_or-drop}
 use Rattle.std.proofs.lemmas.Bool.Decides.{nat_tests}
 use Rattle.std.specs.Int.{w16, w32, w64, from_le_bytes}
 use Rattle.bend_file.specs.Little.{byte, u16, u32, u64}
 use Rattle.bend_file.specs.Trailer.{marked}
 use Rattle.std.specs.List.{ends_with}
-use lib.ListN.{length-take}
-use lib.Seq.{drop-cons}
+use lib.ListN.{length-drop}
+use lib.Seq.{drop-cons, take_all}
 
 module _ (f : List ℕ) (at : ℕ) where
   run : (n i k : ℕ) → i < n → at + i ≡ k → slice_index (take n (drop at f)) i ≡ byte f k
@@ -75,20 +75,17 @@ module _ (f : List ℕ) (end : ℕ) (h : 4 ≤ end) (within : end ≤ length f) 
       let e3 : end - 4 + 3 ≡ end - 1 = omega arith in
       four f (end - 4) (omega arith) ∙ rw (e1, e2, e3)
 
-  at-end : drop (length (take end f) - 4) (take end f) ≡ byte f (end - 4) ∷ byte f (end - 3) ∷ byte f (end - 2) ∷ byte f (end - 1) ∷ []
-  at-end =
-      let k : length (take end f) - 4 ≡ end - 4 = omega (arith, length-take end f) in
-      let e : end ≡ end - 4 + 4 = omega arith in
-      rw k (ap (λ n. drop (end - 4) (take n f)) e ∙ drop-take (end - 4) 4 f ∙ last-four)
-
-  pub mark-at-end : ends_with eqb (take end f) (0x42 ∷ 0x45 ∷ 0x4E ∷ 0x44 ∷ []) ≡ marked f end
-  unfolding marked
-  mark-at-end =
-      rw (
-        at-end,
-        flipped 0x42 (byte f (end - 4)),
-        flipped 0x45 (byte f (end - 3)),
-        flipped 0x4E (byte f (end - 2)),
-        flipped 0x44 (byte f (end - 1)),
-      )
-      (same-order (eqb (byte f (end - 4)) 0x42) (eqb (byte f (end - 3)) 0x45) (eqb (byte f (end - 2)) 0x4E) (eqb (byte f (end - 1)) 0x44))
+pub mark-at-end : (f : List ℕ) → 4 ≤ length f → ends_with eqb f (0x42 ∷ 0x45 ∷ 0x4E ∷ 0x44 ∷ []) ≡ marked f (length f)
+unfolding marked
+mark-at-end f h =
+    let end = length f in
+    let all : take 4 (drop (end - 4) f) ≡ drop (end - 4) f = take_all 4 (drop (end - 4) f) (omega (arith, length-drop (end - 4) f)) in
+    rw (
+      ← all,
+      last-four f end h (omega arith),
+      flipped 0x42 (byte f (end - 4)),
+      flipped 0x45 (byte f (end - 3)),
+      flipped 0x4E (byte f (end - 2)),
+      flipped 0x44 (byte f (end - 1)),
+    )
+    (same-order (eqb (byte f (end - 4)) 0x42) (eqb (byte f (end - 3)) 0x45) (eqb (byte f (end - 2)) 0x4E) (eqb (byte f (end - 1)) 0x44))

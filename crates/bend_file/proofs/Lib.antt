@@ -5,4 +5,5 @@ pub mod Accepted
 pub mod StepRules
 pub mod Walks
 pub mod Chained
+pub mod Front
 pub mod Picked

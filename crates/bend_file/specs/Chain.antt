@@ -58,7 +58,8 @@ step_refusal f end = cond (not (inside end)) (Some FileSize) (option_or (trailer
 
 -- ---- the walk, newest step first
 
--- where the next step ends, after those that end at `steps`; or what the file gets: where its steps end, or a refusal
+-- where the next step ends, after those that end at `steps`; or what the file gets: where its steps end, or a refusal.
+-- These are the states of a walk, and no answer: a Result whose error goes on with the walk would be no plainer
 pub data Walk : Type 0 where
   at : ℕ → List ℕ → Walk
   ended : Result (List ℕ) Refusal → Walk

@@ -46,6 +46,10 @@ pub record Small (n c : ℕ) : Type 0 where
 abbrev pub wanted : ℕ → ℕ → ℕ
 wanted n c = n * n + 5 * n + c * n + 1
 
+-- 3 and 4 together: how many values a problem of n rows and c coordinates has, where one may have so many
+abbrev pub value_count : ℕ → ℕ → Option ℕ
+value_count n c = cond (small n c) (Some (wanted n c)) None
+
 -- 4: the count rule
 unfoldable pub counted : List ℕ → ℕ → Bool
 counted f end = eqb (count f end) (wanted (rows f end) (coords f end))

@@ -28,7 +28,7 @@ pub fn steps(file: &[u8]) -> Result<Chain, Refusal>
     let mut ends = [0; MAX_STEPS];
     let mut end = file.len();
     for passed in 0..MAX_STEPS {
-        let step = step::read(file, end)?;
+        let step = step::read(&file[..end])?;
         ends[passed] = end;
         if step.link == 0 {
             return Ok(Chain {
@@ -49,7 +49,7 @@ fn find(file: &[u8], step: usize) -> Result<Option<Values>, Refusal>
     if step >= chain.count {
         return Ok(None);
     }
-    let found = step::read(file, chain.ends[step])?;
+    let found = step::read(&file[..chain.ends[step]])?;
     Ok(Some(found.values))
 }
 

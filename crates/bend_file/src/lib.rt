@@ -12,7 +12,7 @@ mod trailer;
 
 use lent::Lent;
 use refusals::Refusal;
-pub use trailer::{MAX_MOTION, MAX_ROWS};
+pub use trailer::{MAX_MOTION, MAX_ROWS, value_count};
 
 // A problem's rows, coordinates and motion tolerance. Its other values are in the lent buffers.
 #[derive(Clone, Copy)]

@@ -4,29 +4,14 @@ ghost use Rattle.bend_file.specs.Little as little;
 
 use std::num::f64_from_bits_with_nan;
 
-// The N bytes from `at` on.
-fn bytes_at<const N: usize>(file: &[u8], at: usize) -> [u8; N]
+// The N bytes from `at` on, of which a number's own type makes the number.
+pub fn bytes_at<const N: usize>(file: &[u8], at: usize) -> [u8; N]
     requires { at + N ≤ length file.now }
     ensures { result ≡ take N (drop at file.now) }
 {
     let mut bytes = [0; N];
     bytes.copy_from_slice(&file[at..at + N]);
     bytes
-}
-
-// What the two have in common is `bytes_at`: a type of its own for each width keeps the bound of what is read.
-pub fn u16_at(file: &[u8], at: usize) -> u16
-    requires { at + 2 ≤ length file.now }
-    ensures { result ≡ little.u16 file.now at }
-{
-    u16::from_le_bytes(bytes_at(file, at))
-}
-
-pub fn u32_at(file: &[u8], at: usize) -> u32
-    requires { at + 4 ≤ length file.now }
-    ensures { result ≡ little.u32 file.now at }
-{
-    u32::from_le_bytes(bytes_at(file, at))
 }
 
 // The f64 of these 8 bytes: every pattern of a NaN is read as the one NaN.

@@ -4,10 +4,11 @@ ghost use Rattle.refusals.specs.Calls.{unless};
 ghost use Rattle.bend_file.specs.Trailer as trailer;
 ghost use Rattle.bend_file.specs.Private as private;
 
-use crate::little::{u16_at, u32_at};
+use crate::little::bytes_at;
 use refusals::Refusal;
 
-// The most rows of a problem, and the most values of its motion.
+// The most rows of a problem, and the most values of its motion. The solver's crates name the same limits of their own,
+// since a reader of files stands on no solver, nor a solver on a reader.
 pub const MAX_ROWS: usize = 32;
 
 pub const MAX_MOTION: usize = 2048;
@@ -45,57 +46,53 @@ pub fn of_file(file: &[u8]) -> Result<Values, Refusal>
     if !sized(end, MAX_BYTES) {
         return Err(Refusal::FileSize);
     }
-    let values = read(file, end)?;
+    let values = read(file)?;
     if values.end() != end {
         return Err(Refusal::FileCount);
     }
     Ok(values)
 }
 
-// The fields of the trailer that ends at `end`, where it has the mark and they keep the rules of a problem's size.
-pub fn read(file: &[u8], end: usize) -> Result<Values, Refusal>
-    requires { (16 ≤ end) × (end ≤ length file.now) }
-    ensures read { result ≡ unless (trailer.trailer_refusal file.now end) (private.values file.now end) }
+// The fields of the trailer that the file ends with, where it has the mark and they keep the rules of a problem's size.
+pub fn read(file: &[u8]) -> Result<Values, Refusal>
+    requires { 16 ≤ length file.now }
+    ensures read { result
+        ≡ unless (trailer.trailer_refusal file.now (length file.now)) (private.values file.now (length file.now)) }
     ensures fits { IfOk result (λ v. (v.start < 2 ^ 32) × (v.count < 2 ^ 32)) }
 {
-    if !marked(file, end) {
+    if !file.ends_with(b"BEND") {
         return Err(Refusal::FileMark);
     }
-    let rows = usize::from(u16_at(file, end - 12));
-    let coords = usize::from(u16_at(file, end - 10));
-    if !small(rows, coords) {
-        return Err(Refusal::FileLimits);
-    }
-    let count = u32_at(file, end - 8) as usize;
-    if count != rows * rows + 5 * rows + coords * rows + 1 {
+    let end = file.len();
+    let rows = usize::from(u16::from_le_bytes(bytes_at(file, end - 12)));
+    let coords = usize::from(u16::from_le_bytes(bytes_at(file, end - 10)));
+    let wanted = value_count(rows, coords).ok_or(Refusal::FileLimits)?;
+    let count = u32::from_le_bytes(bytes_at(file, end - 8)) as usize;
+    if count != wanted {
         return Err(Refusal::FileCount);
     }
     Ok(Values {
-        start: u32_at(file, end - TRAILER) as usize,
+        start: u32::from_le_bytes(bytes_at(file, end - TRAILER)) as usize,
         rows,
         coords,
         count,
     })
 }
 
-fn marked(file: &[u8], end: usize) -> bool
-    requires { (4 ≤ end) × (end ≤ length file.now) }
-    ensures { result ≡ trailer.marked file.now end }
+// How many values a problem of so many rows and coordinates has, where one may have so many.
+pub fn value_count(rows: usize, coords: usize) -> Option<usize>
+    ensures { result ≡ trailer.value_count rows coords }
 {
-    file[..end].ends_with(b"BEND")
+    let motion = coords.checked_mul(rows)?;
+    if rows > MAX_ROWS || motion > MAX_MOTION {
+        return None;
+    }
+    Some(rows * rows + 5 * rows + motion + 1)
 }
 
-// Whether a problem may have so many rows and coordinates.
-fn small(rows: usize, coords: usize) -> bool
-    requires { coords < 65536 }
-    ensures { result ≡ trailer.small rows coords }
+// Whether so many bytes have room for a trailer and are not too many.
+pub fn sized(bytes: usize, most: usize) -> bool
+    ensures { result ≡ (leb 16 bytes && leb bytes most) }
 {
-    rows <= MAX_ROWS && coords * rows <= MAX_MOTION
-}
-
-// Whether what ends there has room for a trailer and is not too long.
-pub fn sized(end: usize, most: usize) -> bool
-    ensures { result ≡ (leb 16 end && leb end most) }
-{
-    (TRAILER..=most).contains(&end)
+    (TRAILER..=most).contains(&bytes)
 }

@@ -2,6 +2,7 @@ use mathlib.Core.Path.{sym, ◌∙◌}
 use borrow.Author.Rules.{rules}
 use Rattle.refusals.proofs.Calls.{refused}
 use Rattle.bend_file.specs.Chain as chain
+use Rattle.bend_file.proofs.Bytes.{number32}
 use Rattle.bend_file.proofs.StepRules.{subtracted, too-much, crowded, above, misplaced, right}
 use Rattle.bend_file.proofs.step.read.Goals as goal
 
@@ -22,14 +23,14 @@ returns-in_err-at c =
 pub returns-then-link-at : goal.returns-then-link-at
 returns-then-link-at c =
     let s = subtracted _ _ _ _ _ c.checked_sub.ensures c.in_ok-at.ensures.value in
-    rw (above _ _ (sym c.sized.ensures ∙ c.if-not-sized.false) _ c.in_ok-trailer.ensures.read s.0 _ _ s.1 c.u32_at-link.ensures c.if-link-at.true)
+    rw (above _ _ (sym c.sized.ensures ∙ c.if-not-sized.false) _ c.in_ok-trailer.ensures.read s.0 _ _ s.1 (c.from_le_bytes-link.ensures ∙ rw c.bytes_at.ensures (number32 c.args.file.now _)) c.if-link-at.true)
 
 pub returns-then-end : goal.returns-then-end
 returns-then-end c =
     let s = subtracted _ _ _ _ _ c.checked_sub.ensures c.in_ok-at.ensures.value in
-    rw (misplaced _ _ (sym c.sized.ensures ∙ c.if-not-sized.false) _ c.in_ok-trailer.ensures.read s.0 _ _ s.1 c.u32_at-link.ensures c.if-link-at.false _ c.end.ensures c.if-end.true)
+    rw (misplaced _ _ (sym c.sized.ensures ∙ c.if-not-sized.false) _ c.in_ok-trailer.ensures.read s.0 _ _ s.1 (c.from_le_bytes-link.ensures ∙ rw c.bytes_at.ensures (number32 c.args.file.now _)) c.if-link-at.false _ c.end.ensures c.if-end.true)
 
 pub returns : goal.returns
 returns c =
     let s = subtracted _ _ _ _ _ c.checked_sub.ensures c.in_ok-at.ensures.value in
-    right _ _ (sym c.sized.ensures ∙ c.if-not-sized.false) _ c.in_ok-trailer.ensures.read s.0 _ _ s.1 c.u32_at-link.ensures c.if-link-at.false _ c.end.ensures c.if-end.false
+    right _ _ (sym c.sized.ensures ∙ c.if-not-sized.false) _ c.in_ok-trailer.ensures.read s.0 _ _ s.1 (c.from_le_bytes-link.ensures ∙ rw c.bytes_at.ensures (number32 c.args.file.now _)) c.if-link-at.false _ c.end.ensures c.if-end.false

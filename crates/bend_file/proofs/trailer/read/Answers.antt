@@ -1,43 +1,42 @@
 use mathlib.Core.Path.{sym, ◌∙◌}
-use borrow.Author.Tests.{eq-eqb, ne_eqb}
-use Rattle.bend_file.specs.Trailer as trailer
+use native.Mathlib.Omega.{arith}
+use borrow.Author.Rules.{rules}
+use Rattle.bend_file.proofs.Bytes.{mark-at-end}
+use Rattle.bend_file.proofs.Rules.{rows-read, coords-read, count-read, start-read, unmarked, too_large, miscounted, read_whole}
 use Rattle.bend_file.proofs.trailer.read.Goals as goal
 
-pub returns-then-not-marked-clause-read : goal.returns-then-not-marked-clause-read
-unfolding trailer.trailer_refusal
-returns-then-not-marked-clause-read c = rw (sym c.marked.ensures ∙ c.if-not-marked.true)
+pub returns-then-not-ends_with-clause-read : goal.returns-then-not-ends_with-clause-read
+returns-then-not-ends_with-clause-read c =
+    let f = c.args.file.now in
+    let m = c.ends_with.ensures.value ∙ mark-at-end f (omega (arith, c.requires)) in
+    rw (unmarked f _ (sym m ∙ c.if-not-ends_with.true))
 
-pub returns-then-not-small-clause-read : goal.returns-then-not-small-clause-read
-unfolding trailer.trailer_refusal trailer.rows trailer.coords
-returns-then-not-small-clause-read c =
-    rw (
-      sym c.marked.ensures ∙ c.if-not-marked.false,
-      ← c.from-rows.ensures ∙ c.u16_at.ensures,
-      ← c.from-coords.ensures ∙ c.u16_at-2.ensures,
-      sym c.small.ensures ∙ c.if-not-small.true,
-    )
+pub returns-in_err-wanted-clause-read : goal.returns-in_err-wanted-clause-read
+returns-in_err-wanted-clause-read c =
+    let f = c.args.file.now in
+    let m = c.ends_with.ensures.value ∙ mark-at-end f (omega (arith, c.requires)) in
+    let n = c.from-rows.ensures ∙ rw (c.from_le_bytes.ensures, c.bytes_at.ensures) (rows-read f _) in
+    let k = c.from-coords.ensures ∙ rw (c.from_le_bytes-2.ensures, c.bytes_at-2.ensures) (coords-read f _) in
+    let w = rw c.value_count.ensures at c.in_err-wanted.ensures.value in
+    rw (too_large f _ (sym m ∙ c.if-not-ends_with.false) _ _ n k _ w) (search rules)
 
-pub returns-then-count-rows-clause-read : goal.returns-then-count-rows-clause-read
-unfolding trailer.trailer_refusal trailer.counted trailer.rows trailer.coords trailer.count
-returns-then-count-rows-clause-read c =
-    rw (
-      sym c.marked.ensures ∙ c.if-not-marked.false,
-      ← c.from-rows.ensures ∙ c.u16_at.ensures,
-      ← c.from-coords.ensures ∙ c.u16_at-2.ensures,
-      ← c.u32_at-count.ensures,
-      sym c.small.ensures ∙ c.if-not-small.false,
-      ne_eqb _ _ c.if-count-rows.true,
-    )
+pub returns-then-count-wanted-clause-read : goal.returns-then-count-wanted-clause-read
+returns-then-count-wanted-clause-read c =
+    let f = c.args.file.now in
+    let m = c.ends_with.ensures.value ∙ mark-at-end f (omega (arith, c.requires)) in
+    let n = c.from-rows.ensures ∙ rw (c.from_le_bytes.ensures, c.bytes_at.ensures) (rows-read f _) in
+    let k = c.from-coords.ensures ∙ rw (c.from_le_bytes-2.ensures, c.bytes_at-2.ensures) (coords-read f _) in
+    let w = rw c.value_count.ensures at c.in_ok-wanted.ensures.value in
+    let x = c.from_le_bytes-count.ensures ∙ rw c.bytes_at-3.ensures (count-read f _) in
+    rw (miscounted f _ (sym m ∙ c.if-not-ends_with.false) _ _ n k _ _ w x c.if-count-wanted.true)
 
 pub returns-clause-read : goal.returns-clause-read
-unfolding trailer.trailer_refusal trailer.counted trailer.rows trailer.coords trailer.count trailer.start
 returns-clause-read c =
-    rw (
-      sym c.marked.ensures ∙ c.if-not-marked.false,
-      ← c.from-rows.ensures ∙ c.u16_at.ensures,
-      ← c.from-coords.ensures ∙ c.u16_at-2.ensures,
-      ← c.u32_at-count.ensures,
-      ← c.u32_at.ensures,
-      sym c.small.ensures ∙ c.if-not-small.false,
-      eq-eqb _ _ c.if-count-rows.false,
-    )
+    let f = c.args.file.now in
+    let m = c.ends_with.ensures.value ∙ mark-at-end f (omega (arith, c.requires)) in
+    let n = c.from-rows.ensures ∙ rw (c.from_le_bytes.ensures, c.bytes_at.ensures) (rows-read f _) in
+    let k = c.from-coords.ensures ∙ rw (c.from_le_bytes-2.ensures, c.bytes_at-2.ensures) (coords-read f _) in
+    let w = rw c.value_count.ensures at c.in_ok-wanted.ensures.value in
+    let x = c.from_le_bytes-count.ensures ∙ rw c.bytes_at-3.ensures (count-read f _) in
+    let s = c.from_le_bytes-3.ensures ∙ rw c.bytes_at-4.ensures (start-read f _) in
+    read_whole f _ (sym m ∙ c.if-not-ends_with.false) _ _ n k _ _ w x _ c.if-count-wanted.false s
