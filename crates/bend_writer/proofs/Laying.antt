@@ -10,8 +10,9 @@ use lib.ListN.{length, get_or, set, take, drop, length-append, length-drop}
 use lib.Seq.{sets, sets-eq, drop-drop, take-suc, take_all, length-take-le}
 use Rattle.std.specs.Int.{w64, to_le_bytes}
 use Rattle.bend_writer.specs.Bytes.{bytes16, bytes32, bytes64, pattern, patterns}
-use Rattle.bend_writer.specs.Private.{Laid}
+use Rattle.bend_writer.specs.Private.{Laid, Put}
 use Rattle.bend_writer.specs.Steps.{Step, trailer, step_bytes}
+use Rattle.bend_writer.specs.declared.steps.Cursor.{Cursor}
 
 sets-append : (s t l : List ℕ) (i : ℕ) → sets l i (s ++ t) ≡ sets (sets l i s) (i + length s) t
 sets-append [] t l i = rw add-zero
@@ -112,6 +113,44 @@ unfolding step_bytes
 step-laid o a b d at i end s p q h r e =
     let whole : Laid a (at + 4) b (patterns s.values) = rw (take_all i s.values h) at q in
     then (then p whole (rw length32)) r (rw (length-append (bytes32 at) (patterns s.values), length32, length-patterns) (omega (arith, e)))
+
+-- ---- the same of a cursor
+
+pub reading_put : {c d : Cursor} {n : ℕ} {s t : List ℕ} → Put c d n s → s ≡ t → Put c d n t
+reading_put p e = rw e at p
+
+pub after : {c d e : Cursor} {n m : ℕ} {s t : List ℕ} → Put c d n s → Put d e m t → n ≡ length s → Put c e (n + m) (s ++ t)
+after p q h =
+    record {
+      laid = then p.laid q.laid (rw h at p.at);
+      at = omega (arith, p.at, q.at);
+      long = q.long ∙ p.long;
+      same = q.same ∙ p.same;
+    }
+
+module _ (values : List Float) where
+  pub put_start : (c : Cursor) → Put c c (8 * 0) (patterns (take 0 values))
+  put_start c = record { laid = values-start values c.out.now c.at; at = omega arith; long = refl; same = refl }
+
+  pub put_again : {c d e : Cursor} (i : ℕ) (v : Float) → Put c d (8 * i) (patterns (take i values)) → Put d e 8 (pattern v) → i < length values → v ≡ get_or values i nan
+      → Put c e (8 * (i + 1)) (patterns (take (i + 1) values))
+  put_again i v p q h g =
+      record {
+        laid = values_again values _ _ _ _ i _ v p.laid p.at q.laid h g;
+        at = omega (arith, p.at, q.at);
+        long = q.long ∙ p.long;
+        same = q.same ∙ p.same;
+      }
+
+pub step_put : {c d e g : Cursor} (i k : ℕ) (s : Step) → Put c d 4 (bytes32 c.at) → Put d e (8 * i) (patterns (take i s.values)) → length s.values ≤ i → i ≤ length s.values
+    → Put e g 16 (trailer s.rows s.coords k) → k ≡ length s.values → Put c g (20 + 8 * k) (step_bytes c.at s)
+step_put i k s p q h l r e =
+    record {
+      laid = step-laid _ _ _ _ _ i _ s p.laid (rw p.at at q.laid) h (rw e at r.laid) (omega (arith, p.at, q.at));
+      at = omega (arith, p.at, q.at, r.at);
+      long = r.long ∙ q.long ∙ p.long;
+      same = r.same ∙ q.same ∙ p.same;
+    }
 
 pub whole_length : (values : List Float) (from count : ℕ) → from + count ≤ length values → length (take count (drop from values)) ≡ count
 whole_length values from count h = length-take-le count (drop from values) (omega (arith, length-drop from values))

@@ -9,7 +9,7 @@ use Rattle.refusals.specs.declared.Refusal.TheVariants.{FileLimits, FileCount, S
 use Rattle.refusals.specs.Calls.{unless}
 use Rattle.refusals.proofs.Calls.{taken, refused, rule-kept, both-kept}
 use Rattle.bend_file.specs.Little.{over}
-use Rattle.bend_file.specs.Trailer.{wanted}
+use Rattle.bend_file.specs.Trailer.{small, wanted}
 use Rattle.bend_writer.specs.Private.{had, checked, Room}
 use Rattle.bend_writer.specs.Steps.{Step, file, fair, ruled, steps_refusal, several, refusal}
 use Rattle.bend_writer.specs.Write.{answer, result, left, Writes}
@@ -28,22 +28,18 @@ unfolding had
 had-none count left h = rw (lt-leb count left h)
 
 module _ (n c count : ℕ) where
-  pub many-rows : 32 < n → ruled n c count ≡ Some FileLimits
+  pub too_large : small n c ≡ false → ruled n c count ≡ Some FileLimits
   unfolding ruled fair
-  many-rows h = rw (lt-leb n 32 h)
+  too_large h = rw h
 
   pub wide : 65535 < c → ruled n c count ≡ Some FileLimits
   unfolding ruled fair
   wide h = rw (lt-leb c 65535 h, and-false)
 
-  pub much-motion : 2048 < c * n → ruled n c count ≡ Some FileLimits
-  unfolding ruled fair
-  much-motion h = rw (lt-leb (c * n) 2048 h, and-false)
-
-  module _ (few : n ≤ 32) (narrow : c ≤ 65535) (moving : c * n ≤ 2048) where
+  module _ (is-small : small n c ≡ true) (narrow : c ≤ 65535) where
     is-fair : fair n c ≡ true
     unfolding fair
-    is-fair = rw (le-leb n 32 few, le-leb (c * n) 2048 moving, le-leb c 65535 narrow)
+    is-fair = rw (is-small, le-leb c 65535 narrow)
 
     pub miscounted : (count ≡ wanted n c → ⊥) → ruled n c count ≡ Some FileCount
     unfolding ruled

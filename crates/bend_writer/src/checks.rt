@@ -8,27 +8,22 @@ ghost use Rattle.bend_writer.specs.Write as write;
 
 use crate::StepSize;
 use bend_file::chain::MAX_STEPS;
-use bend_file::{MAX_MOTION, MAX_ROWS};
+use bend_file::value_count;
 use refusals::Refusal;
 
 // The most coordinates that the trailer's two bytes hold.
 const MAX_COORDS: usize = 65535;
 
 impl StepSize {
-    // The first rule that the step breaks, where so many values are left. The rows are looked at first: past that no
-    // product is large.
+    // The first rule that the step breaks, where so many values are left.
     fn check(self, left: usize) -> Result<(), Refusal>
         ensures { result ≡ unless (def.ruled self.rows self.coords (private.had self.count left)) tt }
     {
-        if self.rows > MAX_ROWS
-            || self.coords > MAX_COORDS
-            || self.coords * self.rows > MAX_MOTION
-        {
+        let wanted = value_count(self.rows, self.coords).ok_or(Refusal::FileLimits)?;
+        if self.coords > MAX_COORDS {
             return Err(Refusal::FileLimits);
         }
-        if self.count > left
-            || self.count != self.rows * self.rows + 5 * self.rows + self.coords * self.rows + 1
-        {
+        if self.count > left || self.count != wanted {
             return Err(Refusal::FileCount);
         }
         Ok(())
