@@ -6,12 +6,10 @@ use mathlib.Core.List.{List, [], ◌∷◌, ◌++◌}
 use native.Mathlib.Omega.{arith}
 use native.Mathlib.Nat.{add-zero}
 use lib.Dec.{leb, ltb}
-use lib.Ieee.{Float, is_nan, to_bits}
 use lib.ListN.{length, set, take, drop, length-append}
 use lib.Seq.{sets, length-sets, set_out, take_at, sets-eq}
 use borrow.Author.Tests.{leb-true, leb-false, ltb-false, lt-ltb, le-ltb}
-use Rattle.printer.specs.Output.{digit, digits, decimal, hex, pattern}
-use Rattle.floats.proofs.Meaning.{only_nan}
+use Rattle.printer.specs.Output.{digit, digits, decimal, hex}
 use Rattle.printer.specs.Writing.{Wrote}
 
 sets_out : (t l : List ℕ) (i : ℕ) → length l ≤ i → sets l i t ≡ l
@@ -78,12 +76,6 @@ pub hex_more : (k x : ℕ) → 0 < k → hex (k - 1) (x / 16) ++ (digit (x % 16)
 unfolding hex
 hex_more (suc k) x h = rw (sub-one k)
 hex_more zero x h = absurd (omega arith)
-
--- ---- a value's bits
-
-pub nan-printed : (v : Float) → is_nan v ≡ true → hex 16 0x7FF8000000000000 ≡ pattern v
-unfolding pattern to_bits
-nan-printed v h = rw (only_nan v h)
 
 -- ---- for whoever prints
 

@@ -4,6 +4,7 @@ ghost use Rattle.std.specs.Prelude.{◌≤◌, length};
 use crate::digit::digit;
 use box_rows::{AT_HI, AT_LO, INSIDE};
 use boxed::Cause;
+use std::num::f64_to_bits_with_nan;
 
 // A buffer that is lent, and how much of it is written.
 #[derive(Drop)]
@@ -58,15 +59,12 @@ impl<'a> Page<'a> {
         }
     }
 
-    // The bits of v. `to_bits` is not defined at a NaN, and every NaN is printed as one.
+    // The bits of v: every NaN is printed as one.
+    #[tactic(auto, unfolding(crate::specs::Output::pattern))]
     pub fn pattern(&mut self, v: f64)
         ensures { Printed self.old self.new (print.pattern v) }
     {
-        if v.is_nan() {
-            self.hex(16, 0x7ff8_0000_0000_0000);
-        } else {
-            self.hex(16, v.to_bits());
-        }
+        self.hex(16, f64_to_bits_with_nan(v));
     }
 
     // 0 or 1.
@@ -89,6 +87,7 @@ impl<'a> Page<'a> {
     }
 
     // The letter of a state: I, L, H or Z.
+    // The state is a byte, as C lends it and with any value: a RowState would ask more of callers.
     #[tactic(auto, using(std::proofs::lemmas::Bool::Decides::nat_tests), unfolding(crate::specs::Output::letter))]
     pub fn state(&mut self, state: u8)
         ensures { Printed self.old self.new (print.letter state ∷ []) }
