@@ -82,9 +82,15 @@ pub extern "C" fn piskorlu_and(
         (joins.and (report.read a.now a_residual) (report.read b.now b_residual)))
         result counts.old counts.new residual.old residual.new }
 {
-    if !reports::taken(a, b, counts, residual) {
+    let (Some(a), Some(b)) = (a.first_chunk::<10>(), b.first_chunk::<10>()) else {
         return Refusal::Join.into();
-    }
+    };
+    let Some(counts) = counts.first_chunk_mut::<10>() else {
+        return Refusal::Join.into();
+    };
+    let Some(residual) = residual.first_mut() else {
+        return Refusal::Join.into();
+    };
     let joined = reports::read(a, a_residual).and(reports::read(b, b_residual));
     reports::leave(joined, counts, residual)
 }
@@ -107,9 +113,15 @@ pub extern "C" fn piskorlu_continued(
         (joins.continued (report.read a.now a_residual) (report.read b.now b_residual)))
         result counts.old counts.new residual.old residual.new }
 {
-    if !reports::taken(a, b, counts, residual) {
+    let (Some(a), Some(b)) = (a.first_chunk::<10>(), b.first_chunk::<10>()) else {
         return Refusal::Join.into();
-    }
+    };
+    let Some(counts) = counts.first_chunk_mut::<10>() else {
+        return Refusal::Join.into();
+    };
+    let Some(residual) = residual.first_mut() else {
+        return Refusal::Join.into();
+    };
     let joined = reports::read(a, a_residual).continued(reports::read(b, b_residual));
     reports::leave(joined, counts, residual)
 }
@@ -144,9 +156,12 @@ pub extern "C" fn piskorlu_solve(
         counts.old counts.new residual.old residual.new
         workspace.old workspace.new }
 {
-    if !solves::taken(counts, residual) {
+    let Some(counts) = counts.first_chunk_mut::<8>() else {
         return Refusal::Short.into();
-    }
+    };
+    let Some(residual) = residual.first_mut() else {
+        return Refusal::Short.into();
+    };
     let answer = BoxSolver::solve(
         w, u_free, lo, hi, scale, motion, tolerance, nu, states, rows, workspace,
     );

@@ -1,6 +1,5 @@
 // A tallied solve by plain numbers.
-// The lists of a call stay apart: C lends each by itself.
-ghost use Rattle.std.specs.Prelude.{◌≡◌, ◌≤◌, length};
+ghost use Rattle.std.specs.Prelude.{◌≡◌, ◌∷◌, [], length};
 ghost use Rattle.floats.specs.Ops as ops;
 ghost use Rattle.box_rows.specs.Rows as box;
 ghost use Rattle.boxed.specs.Solve as solve;
@@ -13,24 +12,14 @@ use crate::{reports, solves};
 use refusals::Refusal;
 use tallied::{Sent, Tallied};
 
-// Whether the slices hold ten counts and a residual of the tally, eight counts and a residual of the answer.
-#[tactic(auto, unfolding(crate::specs::Tallies::taken))]
-pub fn taken(tally: &[u32], tally_residual: &[f64], counts: &[usize], residual: &[f64]) -> bool
-    ensures { result ≡ tallies.taken tally.now tally_residual.now
-        counts.now residual.now }
-{
-    tally.len() >= 10 && !tally_residual.is_empty() && solves::taken(counts, residual)
-}
-
-// The tally that a solve left, in the lent slices, unless the solve is refused.
-pub fn keep(s: Tallied, tally: &mut [u32], tally_residual: &mut [f64])
-    requires { (10 ≤ length tally.old) × (1 ≤ length tally_residual.old) }
+// The tally that a solve left, where C lends it, unless the solve is refused.
+pub fn keep(s: Tallied, tally: &mut [u32; 10], tally_residual: &mut f64)
     ensures { (tally.new ≡ tallies.counts_kept s.answer s.tally tally.old)
-        × (tally_residual.new ≡ tallies.residual_kept s.answer s.tally tally_residual.old) }
+        × (tally_residual.new ∷ [] ≡ tallies.residual_kept s.answer s.tally (tally_residual.old ∷ [])) }
 {
     if s.answer.is_ok() {
         reports::write(s.tally, tally);
-        tally_residual[0] = s.tally.residual;
+        *tally_residual = s.tally.residual;
     }
 }
 
@@ -68,10 +57,19 @@ pub extern "C" fn piskorlu_tallied(
         counts.old counts.new residual.old residual.new
         workspace.old workspace.new }
 {
-    if !taken(tally, tally_residual, counts, residual) {
+    let Some(tally) = tally.first_chunk_mut::<10>() else {
         return Refusal::Short.into();
-    }
-    let held = reports::read(tally, tally_residual[0]);
+    };
+    let Some(tally_residual) = tally_residual.first_mut() else {
+        return Refusal::Short.into();
+    };
+    let Some(counts) = counts.first_chunk_mut::<8>() else {
+        return Refusal::Short.into();
+    };
+    let Some(residual) = residual.first_mut() else {
+        return Refusal::Short.into();
+    };
+    let held = reports::read(tally, *tally_residual);
     let sent = Sent::Whole(w);
     let s = tallied::tallied_solve(
         held, sent, u_free, lo, hi, scale, motion, tolerance, nu, states, rows, workspace,

@@ -45,9 +45,12 @@ pub extern "C" fn piskorlu_solve_triangle(
         counts.old counts.new residual.old residual.new
         workspace.old workspace.new }
 {
-    if !solves::taken(counts, residual) {
+    let Some(counts) = counts.first_chunk_mut::<8>() else {
         return Refusal::Short.into();
-    }
+    };
+    let Some(residual) = residual.first_mut() else {
+        return Refusal::Short.into();
+    };
     let answer = triangle::solve(
         t, u_free, lo, hi, scale, motion, tolerance, nu, states, rows, workspace,
     );
@@ -89,10 +92,19 @@ pub extern "C" fn piskorlu_tallied_triangle(
         counts.old counts.new residual.old residual.new
         workspace.old workspace.new }
 {
-    if !tallying::taken(tally, tally_residual, counts, residual) {
+    let Some(tally) = tally.first_chunk_mut::<10>() else {
         return Refusal::Short.into();
-    }
-    let held = reports::read(tally, tally_residual[0]);
+    };
+    let Some(tally_residual) = tally_residual.first_mut() else {
+        return Refusal::Short.into();
+    };
+    let Some(counts) = counts.first_chunk_mut::<8>() else {
+        return Refusal::Short.into();
+    };
+    let Some(residual) = residual.first_mut() else {
+        return Refusal::Short.into();
+    };
+    let held = reports::read(tally, *tally_residual);
     let sent = Sent::Triangle(t);
     let s = tallied::tallied_solve(
         held, sent, u_free, lo, hi, scale, motion, tolerance, nu, states, rows, workspace,
