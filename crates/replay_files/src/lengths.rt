@@ -6,15 +6,9 @@ use boxed::{BoxOutcome, BoxSolver};
 use refusals::Refusal;
 use std::io;
 
-fn number(answer: Result<BoxOutcome, Refusal>) -> u64 {
-    match answer {
-        Err(refusal) => u64::from(u32::from(refusal)),
-        Ok(_) => 0,
-    }
-}
-
-// The number of a call with so many values of W, rows, bounds, motion and workspace.
-fn call(w: usize, n: usize, lo: usize, motion: usize, room: usize) -> u64
+// What a call with so many values of W, rows, bounds, motion and workspace answers.
+// Fixed memory: nothing here allocates, and a call is lent the front of each array.
+fn call(w: usize, n: usize, lo: usize, motion: usize, room: usize) -> Result<BoxOutcome, Refusal>
     requires { (w ≤ 1024) × (n ≤ 33) × (lo ≤ 33) × (motion ≤ 2049) × (room ≤ 2304) }
 {
     let cells = [0.0f64; 1024];
@@ -27,7 +21,7 @@ fn call(w: usize, n: usize, lo: usize, motion: usize, room: usize) -> u64
     let mut states = [0u8; 33];
     let mut rows = [0usize; 33];
     let mut workspace = [0.0f64; 2304];
-    number(BoxSolver::solve(
+    BoxSolver::solve(
         &cells[..w],
         &u_free[..n],
         &low[..lo],
@@ -39,11 +33,15 @@ fn call(w: usize, n: usize, lo: usize, motion: usize, room: usize) -> u64
         &mut states,
         &mut rows,
         &mut workspace[..room],
-    ))
+    )
 }
 
-fn print(rt: &impl Print, number: u64) -> io::Result<()> {
-    print!(rt; " {number}")
+// Its number, 0 where the solve was taken.
+fn print(rt: &impl Print, answer: Result<BoxOutcome, Refusal>) -> io::Result<()> {
+    match answer {
+        Err(refusal) => print!(rt; " {}", u32::from(refusal)),
+        Ok(_) => print!(rt; " 0"),
+    }
 }
 
 pub fn replay(rt: &impl Print) -> io::Result<()> {

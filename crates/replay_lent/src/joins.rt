@@ -44,8 +44,8 @@ fn join(
 
 pub fn replay(rt: &impl Print) -> io::Result<()> {
     let one = report(1, 3, 2, 0.5);
-    let nan = report(2, 200, 9, 0.0 / 0.0);
-    let most = report(4294967295, 7, 7, -1.0);
+    let nan = report(2, 200, 9, f64::NAN);
+    let most = report(u32::MAX, 7, 7, -1.0);
     join(
         rt,
         SolveReport::NOTHING,

@@ -11,6 +11,7 @@ use report::SolveReport;
 use tallied::{Sent, Tallied};
 
 // `solve_into` on a tally of its own, which it hands back beside the answer.
+// The lists stay apart, as `solve_into` has them, which is lent them as C lends them.
 pub fn lend_tally(
     tally: SolveReport,
     sent: Sent,

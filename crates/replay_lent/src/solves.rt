@@ -60,6 +60,8 @@ impl fmt::Display for Left {
 }
 
 // Both forms of a solve, lo 0, hi infinite, no motion; the tally that the lent form leaves.
+// The two closures stay beside each other: a form given by its name needs a bound of twelve types, one a line, and that
+// is longer than the second closure.
 fn solve(
     rt: &impl Print,
     tally: SolveReport,
@@ -69,7 +71,7 @@ fn solve(
     work: &mut [f64],
 ) -> io::Result<SolveReport> {
     let lo = [0.0f64; 2];
-    let hi = [1.0f64 / 0.0; 2];
+    let hi = [f64::INFINITY; 2];
     let sent = Sent::Whole(w);
     let one = Left::by(|nu, states, rows| {
         tallied::tallied_solve(
@@ -116,13 +118,14 @@ fn full(tally: SolveReport) -> SolveReport {
     }
 }
 
+// Fixed memory: nothing here allocates.
 pub fn replay(rt: &impl Print) -> io::Result<()> {
     let mut workspace = [7.0f64; 2304];
     let mut short = [7.0f64; 2303];
     let unit = [1.0f64; 2];
     let none = [0.0f64; 2];
     let down = [-1.0f64; 2];
-    let nan = [0.0f64 / 0.0; 2];
+    let nan = [f64::NAN; 2];
     let apart = [2.0f64, 0.0, 0.0, 2.0];
     let against = [1.0f64, -1.0, -1.0, 1.0];
     let alike = [1.0f64; 4];
