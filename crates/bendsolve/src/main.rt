@@ -43,6 +43,7 @@ fn refuse(rt: &(impl Print + Eprint), refusal: Refusal) {
     write(rt, &out[..count]);
 }
 
+// Fixed memory: nothing here allocates.
 fn main(rt: HostRuntime) {
     let mut buffer = [0u8; 65536];
     match input::read(&mut rt.stdin(), &mut buffer) {

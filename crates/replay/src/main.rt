@@ -1,7 +1,6 @@
 // Replays the stored answers of the original, so that they are held against the port with no Rust at hand. data/README.md says how they were made.
 #![tactic(auto)]
 
-mod input;
 mod roots;
 mod systems;
 mod words;

@@ -1,5 +1,5 @@
 // Square roots: records of two values, one and its root.
-use super::{input, words};
+use super::words;
 use std::rt::Files;
 use std::{fs, io};
 
@@ -11,8 +11,8 @@ fn differs(record: &[[u8; 8]; 2]) -> bool {
 pub fn replay(rt: &(impl Files + Print)) -> io::Result<()> {
     let mut file = fs::open(rt, "sqrt.bin")?;
     let mut buffer = [0u8; 65536];
-    let got = input::read_full(&mut file, &mut buffer);
-    let (values, _) = buffer[..got].as_chunks::<8>();
+    let (bytes, _) = reading::read_full(&mut file, &mut buffer);
+    let (values, _) = bytes.as_chunks::<8>();
     let (records, _) = values.as_chunks::<2>();
     let differing = records.iter().filter(|record| differs(record)).count();
     words::report(rt, "square roots: ", records.len(), differing)

@@ -1,8 +1,9 @@
 // Least-norm systems: m, n, a, b, and what the original leaves: rank, a, b, x.
 ghost use Rattle.std.specs.Prelude.{◌≡◌, ◌+◌, ◌*◌, ◌≤◌, ◌<◌, length};
 
-use super::{input, words};
+use super::words;
 use least_norm::LeastNorm;
+use reading::read_full;
 use std::io::Read;
 use std::rt::Files;
 use std::{fs, io};
@@ -38,6 +39,7 @@ fn is_answer(rank: usize, a: &[f64], b: &[f64], x: &[f64], s: &[u8]) -> bool
 }
 
 // Whether the system at the front of s, of a's, b's and x's lengths, is answered as stored.
+// The three stay apart, as `LeastNorm::solve` is lent them.
 fn is_right(m: usize, n: usize, s: &[u8], a: &mut [f64], b: &mut [f64], x: &mut [f64]) -> bool
     requires { 1 + 16 * length a.old + 16 * length b.old + 8 * length x.old ≤ length s.now }
 {
@@ -53,6 +55,7 @@ fn is_right(m: usize, n: usize, s: &[u8], a: &mut [f64], b: &mut [f64], x: &mut 
 }
 
 // The same with m and n given.
+// Fixed memory: nothing here allocates, and the front of each array is in use.
 fn checked(m: usize, n: usize, s: &[u8]) -> bool
     requires { (m ≤ 32) × (n ≤ 32) × (1 + 16 * (m * n) + 16 * m + 8 * n ≤ length s.now) }
 {
@@ -74,7 +77,7 @@ fn size(m: usize, n: usize) -> usize
 // Whether the next system of the file is answered as stored; it is not where it cannot be read.
 fn next_is_right(file: &mut impl Read, buffer: &mut [u8]) -> bool {
     let mut head = [0u8; 2];
-    input::read_full(file, &mut head);
+    let _ = read_full(file, &mut head);
     let m = usize::from(head[0]);
     let n = usize::from(head[1]);
     if m > 32 || n > 32 {
@@ -84,8 +87,8 @@ fn next_is_right(file: &mut impl Read, buffer: &mut [u8]) -> bool {
     if buffer.len() < k {
         return false;
     }
-    let s = &mut buffer[..k];
-    input::read_full(file, s) == k && checked(m, n, s)
+    let (s, _) = read_full(file, &mut buffer[..k]);
+    s.len() == k && checked(m, n, s)
 }
 
 fn differing(file: &mut impl Read, count: u32, buffer: &mut [u8]) -> usize {
@@ -95,7 +98,7 @@ fn differing(file: &mut impl Read, count: u32, buffer: &mut [u8]) -> usize {
 pub fn replay(rt: &(impl Files + Print)) -> io::Result<()> {
     let mut file = fs::open(rt, "least_norm.bin")?;
     let mut head = [0u8; 4];
-    input::read_full(&mut file, &mut head);
+    let _ = read_full(&mut file, &mut head);
     let count = u32::from_le_bytes(head);
     let mut buffer = [0u8; 65536];
     let sum = differing(&mut file, count, &mut buffer);

@@ -1,6 +1,4 @@
 // The files in their order, each with a line for its number or its steps, and a line for each step.
-ghost use Rattle.std.specs.Prelude.{◌≤◌, length};
-
 use crate::sum;
 use bend_file::{Shape, chain};
 use refusals::Refusal;
@@ -9,12 +7,8 @@ use std::io::Read;
 use std::rt::Files;
 use std::{fs, io};
 
-// The name of file i, of three digits.
-fn name_of(i: usize) -> InlineText<9> {
-    InlineText::of(format_args!("{i:03}.chain"))
-}
-
-// Where a step ends, its rows and coordinates, and the check sum of its buffers, the parts that stay 0 among them.
+// Where a step ends, its rows and coordinates, and the check sum of its buffers, the parts that stay 0 among them. The
+// buffers stay apart, as `read_step` is lent them.
 fn step(rt: &impl Print, file: &[u8], k: usize, end: usize) -> io::Result<()> {
     let mut w = [0.0f64; 1024];
     let mut u_free = [0.0f64; 32];
@@ -77,38 +71,27 @@ fn file(rt: &impl Print, bytes: &[u8]) -> io::Result<()> {
     Ok(())
 }
 
-// Reads a file until the buffer is full, the file ends or a read fails, and closes it. It stays a loop of reads: the
-// library's `fs::read` allocates, and gives nothing of a file whose reading fails later.
-fn take<R: Read + Drop>(mut file: R, buffer: &mut [u8]) -> usize
-    ensures { result ≤ length buffer.new }
-{
-    let mut done = 0;
-    while let Ok(got) = file.read(&mut buffer[done..])
-        && got > 0
-    {
-        done += got;
-    }
-    done
-}
-
 // File i, which is open.
-fn replayed<R: Read + Drop>(
+fn replayed(
     rt: &impl Print,
-    opened: R,
+    opened: &mut impl Read,
     i: usize,
     buffer: &mut [u8],
 ) -> io::Result<()> {
-    let got = take(opened, buffer);
+    let (bytes, _) = reading::read_full(opened, buffer);
     print!(rt; "{i}")?;
-    file(rt, &buffer[..got])
+    file(rt, bytes)
 }
 
-// As many as there are, at most a thousand. The longest file is one byte longer than a chained bend file may be.
+// As many as there are, at most a thousand, with names of three digits. The longest file is one byte longer than a
+// chained bend file may be.
+// Fixed memory: nothing here allocates.
 pub fn replay(rt: &(impl Files + Print)) -> io::Result<()> {
     let mut buffer = [0u8; 1048578];
     for i in 1..1000 {
-        match fs::open(rt, name_of(i).as_str()) {
-            Ok(opened) => replayed(rt, opened, i, &mut buffer)?,
+        let name = InlineText::<9>::of(format_args!("{i:03}.chain"));
+        match fs::open(rt, name.as_str()) {
+            Ok(mut opened) => replayed(rt, &mut opened, i, &mut buffer)?,
             Err(_) => break,
         }
     }

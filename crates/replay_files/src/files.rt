@@ -4,33 +4,15 @@ use std::io::Read;
 use std::rt::Files;
 use std::{fs, io};
 
-// The name of file i, of three digits, and that of what must be printed for it.
-fn name_of_file(i: usize) -> InlineText<8> {
-    InlineText::of(format_args!("{i:03}.bend"))
-}
-
-fn name_of_answer(i: usize) -> InlineText<7> {
-    InlineText::of(format_args!("{i:03}.txt"))
-}
-
-// Reads a file until the buffer is full, the file ends or a read fails, and closes it.
-// A lent buffer in place of the Vec of `read_to_end`: nothing here allocates, so no want of memory has to be told of.
-fn take<R: Read + Drop>(mut file: R, buffer: &mut [u8]) -> &[u8] {
-    let mut done = 0;
-    while done < buffer.len() {
-        let more = file.read(&mut buffer[done..]).unwrap_or(0);
-        if more == 0 {
-            break;
-        }
-        done += more;
-    }
-    &buffer[..done]
+// The name of file i, of three digits, or of what must be printed for it.
+fn name_of(i: usize, ending: &str) -> InlineText<8> {
+    InlineText::of(format_args!("{i:03}.{ending}"))
 }
 
 // Reads what must be printed for file i; where its file cannot be opened, that is nothing.
 fn take_answer<'a>(rt: &impl Files, i: usize, buffer: &'a mut [u8]) -> &'a [u8] {
-    match fs::open(rt, name_of_answer(i).as_str()) {
-        Ok(file) => take(file, buffer),
+    match fs::open(rt, name_of(i, "txt").as_str()) {
+        Ok(mut file) => reading::read_full(&mut file, buffer).0,
         Err(_) => &[],
     }
 }
@@ -43,9 +25,10 @@ fn differs(file: &[u8], stored: &[u8]) -> bool {
 }
 
 // The same of file i, which is open.
-fn replayed<R: Read + Drop>(rt: &impl Files, file: R, i: usize, buffer: &mut [u8]) -> bool {
+fn replayed(rt: &impl Files, file: &mut impl Read, i: usize, buffer: &mut [u8]) -> bool {
     let mut stored = [0u8; answer::ROOM + 1];
-    differs(take(file, buffer), take_answer(rt, i, &mut stored))
+    let (bytes, _) = reading::read_full(file, buffer);
+    differs(bytes, take_answer(rt, i, &mut stored))
 }
 
 fn report(rt: &impl Print, count: u64, differing: u64) -> io::Result<()> {
@@ -53,16 +36,17 @@ fn report(rt: &impl Print, count: u64, differing: u64) -> io::Result<()> {
 }
 
 // As many as there are, at most a thousand. The longest file is one byte longer than a bend file may be.
+// Fixed memory: nothing here allocates.
 pub fn replay(rt: &(impl Files + Print)) -> io::Result<()> {
     let mut buffer = [0u8; 65537];
     let mut count: u64 = 0;
     let mut differing: u64 = 0;
     for i in 0..1000 {
-        let Ok(file) = fs::open(rt, name_of_file(i).as_str()) else {
+        let Ok(mut file) = fs::open(rt, name_of(i, "bend").as_str()) else {
             break;
         };
         count += 1;
-        differing += u64::from(replayed(rt, file, i, &mut buffer));
+        differing += u64::from(replayed(rt, &mut file, i, &mut buffer));
     }
     report(rt, count, differing)
 }
