@@ -1,5 +1,7 @@
 -- The steps of separate lists, and of the sizes that are gathered from them.
-use Rattle.std.proofs.Common.{◌≡◌, ℕ, zero, suc, ◌<◌, false, List, length, get_or, map, arith, Err, refl, ◌∙◌, ap}
+use Rattle.std.proofs.Common.{◌≡◌, ℕ, zero, suc, ◌<◌, ◌≤◌, false, List, length, take, get_or, map, arith, Err, refl, sym, ◌∙◌, ap}
+use Rattle.std.proofs.lemmas.List.{ext_get_or, get_or-take}
+use lib.Seq.{length-take-le}
 use lib.Ieee.{Float}
 use lib.ListN.{get_or-map}
 use borrow.Author.Tests.{lt-leb}
@@ -47,6 +49,15 @@ module _ (rows coords counts : List ℕ) (values : List Float) where
     pulled-same steps e =
         let long : length l ≡ n = rw is (tab-length (size rows coords counts) n) in
         rw (long, ← e) (tab-same _ _ n step-same)
+
+  -- the first of all sizes that are made
+  pub first-sizes : (all : List StepSize) (steps : ℕ) → all ≡ tab (size rows coords counts) 40 → steps ≤ 40 → take steps all ≡ tab (size rows coords counts) steps
+  first-sizes all steps is h =
+      let f = size rows coords counts in
+      let long : length (take steps all) ≡ steps = length-take-le steps all (omega (arith, ap length is, tab-length f 40)) in
+      ext_get_or zero_size _ _ (long ∙ sym (tab-length f steps)) λ (i : ℕ) (b : i < length (take steps all)).
+      let k : i < steps = omega (arith, b, long) in
+      get_or-take steps all i zero_size k ∙ ap (λ l. get_or l i zero_size) is ∙ tab-at f 40 i zero_size (omega arith) ∙ sym (tab-at f steps i zero_size k)
 
   pub too-many : (steps : ℕ) (out : List ℕ) → 40 < steps → Writes (lent steps rows coords counts values) (Err Steps) out out
   too-many steps out h =

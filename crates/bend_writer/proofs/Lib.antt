@@ -1,3 +1,4 @@
+pub mod Made
 pub mod Laying
 pub mod Chained
 pub mod Rules

@@ -46,12 +46,6 @@ pub fn write_steps(
     if steps > MAX_STEPS {
         return Err(Refusal::Steps);
     }
-    let mut sizes = [StepSize {
-        rows: 0,
-        coords: 0,
-        count: 0,
-    }; MAX_STEPS];
-    let sizes = &mut sizes[..steps];
-    lists::fill(sizes, rows, coords, counts);
-    write_chain(sizes, values, out)
+    let sizes = lists::sizes(rows, coords, counts);
+    write_chain(&sizes[..steps], values, out)
 }

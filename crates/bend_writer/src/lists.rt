@@ -1,9 +1,11 @@
 // The sizes of a pull's steps, from separate lists.
-ghost use Rattle.std.specs.Prelude.{◌≡◌, get_or, length};
+ghost use Rattle.std.specs.Prelude.{◌≡◌, get_or};
 ghost use Rattle.loops.specs.Loops.{tab};
 ghost use Rattle.bend_writer.specs.Private as private;
 
 use crate::StepSize;
+use bend_file::chain::MAX_STEPS;
+use std::array;
 
 // The number at place i, 0 past the end.
 fn number(list: &[usize], i: usize) -> usize
@@ -12,15 +14,13 @@ fn number(list: &[usize], i: usize) -> usize
     list.get(i).copied().unwrap_or(0)
 }
 
-// Fills a list with those of the first steps.
-pub fn fill(sizes: &mut [StepSize], rows: &[usize], coords: &[usize], counts: &[usize])
-    ensures { sizes.new ≡ tab (private.size rows.now coords.now counts.now) (length sizes.old) }
+// The sizes of as many steps as a pull may have. The lists stay apart, as C lends them.
+pub fn sizes(rows: &[usize], coords: &[usize], counts: &[usize]) -> [StepSize; MAX_STEPS]
+    ensures { result ≡ tab (private.size rows.now coords.now counts.now) 40 }
 {
-    for (i, size) in sizes.iter_mut().enumerate() {
-        *size = StepSize {
-            rows: number(rows, i),
-            coords: number(coords, i),
-            count: number(counts, i),
-        };
-    }
+    array::from_fn(|i| StepSize {
+        rows: number(rows, i),
+        coords: number(coords, i),
+        count: number(counts, i),
+    })
 }

@@ -1,5 +1,5 @@
-use lib.Seq.{length-take-le}
-use Rattle.bend_writer.proofs.Gathered.{pulled-same, too-many}
+use mathlib.Core.Path.{refl}
+use Rattle.bend_writer.proofs.Gathered.{first-sizes, pulled-same, too-many}
 use Rattle.bend_writer.proofs.write_steps.Goals as goal
 
 pub returns-then-steps-gt-MAX_STEPS : goal.returns-then-steps-gt-MAX_STEPS
@@ -7,4 +7,5 @@ returns-then-steps-gt-MAX_STEPS c = too-many _ _ _ _ _ _ c.if-steps-gt-MAX_STEPS
 
 pub returns : goal.returns
 returns c =
-    rw (pulled-same _ _ _ _ _ _ c.fill.ensures _ (length-take-le _ _ c.if-steps-gt-MAX_STEPS.false)) at c.write_chain.ensures
+    let is = first-sizes _ _ _ c.args.values.now _ _ c.sizes-sizes.ensures c.if-steps-gt-MAX_STEPS.false in
+    rw (pulled-same _ _ _ _ _ _ is _ refl) at c.write_chain.ensures
