@@ -72,7 +72,7 @@ impl<'a> Page<'a> {
     pub fn flag(&mut self, on: bool)
         ensures { Printed self.old self.new (print.flag on) }
     {
-        if on { self.put(b'1') } else { self.put(b'0') }
+        self.put(b'0' + u8::from(on));
     }
 
     #[tactic(auto, unfolding(crate::specs::Output::cause))]
