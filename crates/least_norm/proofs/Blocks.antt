@@ -6,7 +6,6 @@ use mathlib.Core.List.{List}
 use mathlib.Core.Logic.{⊎_elim, ◌⊎◌, inl, inr}
 use native.Mathlib.Omega.{arith}
 use native.Mathlib.Nat.{add-zero, add-suc, add_assoc}
-use native.Mathlib.Numerals.{add-one}
 use lib.ListN.{length}
 use lib.Ieee.{Float, nan, binary64, add}
 use Rattle.loops.specs.Loops.{between}
@@ -33,7 +32,7 @@ norms_are a n j m c k s f h t u z =
     rows_are nan (λ r t x. x ⊕ at a (r * n + c + t) ⊗ at a (r * n + c + t)) j 0 k s f (omega arith) m t h (omega arith) u
     ∙ rw z (between_ext 0ᶠ _ _ j m h λ r x l g. rw (add_assoc (r * n) c t))
 
-module _ (a : List Float) (n j m c k : ℕ) (v : List Float) (vtv : Float) (s : List Float) (room : k ≤ length s) (low : j < m) where
+module _ (a : List Float) (n j lo m c k : ℕ) (v : List Float) (vtv : Float) (s : List Float) (room : k ≤ length s) (low : lo ≤ m) where
   first : List Float
   first = updated nan (λ t. t) (λ t x. at v j ⊗ at a (j * n + c + t)) 0 k s
 
@@ -42,46 +41,46 @@ module _ (a : List Float) (n j m c k : ℕ) (v : List Float) (vtv : Float) (s : 
   first-long = updated-long nan (λ t. t) (λ t x. at v j ⊗ at a (j * n + c + t)) 0 s k (omega arith)
 
   summed : List Float
-  summed = products a n c k v first (suc j) m
+  summed = products a n c k v first (lo) m
 
-  summed_at : (t : ℕ) → t < k → at summed t ≡ between (suc j) m (at v j ⊗ at a (j * n + c + t)) (λ r x. x ⊕ at v r ⊗ at a (r * n + c + t))
+  summed_at : (t : ℕ) → t < k → at summed t ≡ between (lo) m (at v j ⊗ at a (j * n + c + t)) (λ r x. x ⊕ at v r ⊗ at a (r * n + c + t))
   unfolding summed first products updated
   summed_at t u =
-      rows_are nan (λ r t x. x ⊕ at v r ⊗ at a (r * n + c + t)) (suc j) 0 k first (omega (arith, first-long)) (omega arith) m t low (omega arith) u
+      rows_are nan (λ r t x. x ⊕ at v r ⊗ at a (r * n + c + t)) (lo) 0 k first (omega (arith, first-long)) (omega arith) m t low (omega arith) u
       ∙ rw (row_is nan (λ t x. at v j ⊗ at a (j * n + c + t)) 0 s k t room (omega arith) u)
 
-  summed-long : (d : ℕ) → suc j + d ≤ m → length (products a n c k v first (suc j) (suc j + d)) ≡ length s
+  summed-long : (d : ℕ) → lo + d ≤ m → length (products a n c k v first (lo) (lo + d)) ≡ length s
   unfolding products
   summed-long zero h = rw (add-zero, between_start) first-long
   summed-long (suc d) h =
       rw (
         add-suc,
-        between_step _ _ (suc j) (suc j + d) (omega arith),
+        between_step _ _ (lo) (lo + d) (omega arith),
         updated-long nan (λ t. t)
-            (λ t x. x ⊕ at v (suc j + d) ⊗ at a ((suc j + d) * n + c + t)) 0 (products a n c k v first (suc j) (suc j + d)) k
+            (λ t x. x ⊕ at v (lo + d) ⊗ at a ((lo + d) * n + c + t)) 0 (products a n c k v first (lo) (lo + d)) k
             (omega arith),
       )
       (summed-long d (omega arith))
 
   all-long : length summed ≡ length s
   unfolding summed
-  all-long = let q : suc j + (m - suc j) ≡ m = omega arith in rw q at (summed-long (m - suc j) (omega arith))
+  all-long = let q : lo + (m - lo) ≡ m = omega arith in rw q at (summed-long (m - lo) (omega arith))
 
   factors-at : (t : ℕ) → t < k
       → at (updated nan (λ t. t) (λ t x. 2ᶠ ⊗ x ⊘ vtv) 0 k summed) t
-      ≡ factor (j * n + (c + t)) (λ row. row * n + (c + t)) (at v j) (λ row. at v row) vtv (suc j) m a
+      ≡ factor (j * n + (c + t)) (λ row. row * n + (c + t)) (at v j) (λ row. at v row) vtv (lo) m a
   unfolding factor gathered updated
   factors-at t u =
       row_is nan (λ t x. 2ᶠ ⊗ x ⊘ vtv) 0 summed k t (omega (arith, all-long)) (omega arith) u
       ∙ rw (summed_at t u, add_assoc (j * n) c t)
-      (ap (λ (x : Float). 2ᶠ ⊗ x ⊘ vtv) (between_ext (at v j ⊗ at a (j * n + (c + t))) _ _ (suc j) m low λ r x l g. rw (add_assoc (r * n) c t)))
+      (ap (λ (x : Float). 2ᶠ ⊗ x ⊘ vtv) (between_ext (at v j ⊗ at a (j * n + (c + t))) _ _ (lo) m low λ r x l g. rw (add_assoc (r * n) c t)))
 
-pub factors_are : (a : List Float) (n j m c k : ℕ) (v : List Float) (vtv : Float) (s p q r : List Float) (i : ℕ)
-    → r ≡ updated nan (λ t. t) (λ t x. 2ᶠ ⊗ x ⊘ vtv) 0 k q → q ≡ products a n c k v p (j + 1) m
-    → p ≡ updated nan (λ t. t) (λ t x. at v j ⊗ at a (i + t)) 0 k s → i ≡ j * n + c → k ≤ length s → j < m → (t : ℕ)
-    → t < k → at r t ≡ factor (j * n + (c + t)) (λ row. row * n + (c + t)) (at v j) (λ row. at v row) vtv (suc j) m a
+pub factors_are : (a : List Float) (n j lo m c k : ℕ) (v : List Float) (vtv : Float) (s p q r : List Float) (i : ℕ)
+    → r ≡ updated nan (λ t. t) (λ t x. 2ᶠ ⊗ x ⊘ vtv) 0 k q → q ≡ products a n c k v p lo m
+    → p ≡ updated nan (λ t. t) (λ t x. at v j ⊗ at a (i + t)) 0 k s → i ≡ j * n + c → k ≤ length s → lo ≤ m → (t : ℕ)
+    → t < k → at r t ≡ factor (j * n + (c + t)) (λ row. row * n + (c + t)) (at v j) (λ row. at v row) vtv (lo) m a
 unfolding summed first
-factors_are a n j m c k v vtv s p q r i er eq ep ei f h t u = rw (er, eq, ep, ei, add-one) (factors-at a n j m c k v vtv s f h t u)
+factors_are a n j lo m c k v vtv s p q r i er eq ep ei f h t u = rw (er, eq, ep, ei) (factors-at a n j lo m c k v vtv s f h t u)
 
 -- ---- the reflected columns
 
@@ -217,10 +216,12 @@ module _ (m n j : ℕ) (v : List Float) (vtv : Float) (low : j < m) where
           (nested-long nan (λ q row. row * n + q) (λ q row x. x ⊖ share q A ⊗ at v row) j m (omega arith) c A (c + k) (omega arith) ∙ sized)
           agree
 
-pub block-is : (m n j c k : ℕ) (v : List Float) (vtv : Float) (A f R : List Float) → R ≡ less_rows n c k v f A j m
+pub block-is : (m n j lo c k : ℕ) (v : List Float) (vtv : Float) (A f R : List Float) → R ≡ less_rows n c k v f A j m
     → ((t : ℕ) → t < k
-    → at f t ≡ factor (j * n + (c + t)) (λ row. row * n + (c + t)) (at v j) (λ row. at v row) vtv (suc j) m A)
+    → at f t ≡ factor (j * n + (c + t)) (λ row. row * n + (c + t)) (at v j) (λ row. at v row) vtv lo m A)
+    → lo ≡ suc j
     → j < m → c + k ≤ n → 0 < k → length A ≡ m * n
     → R ≡ between c (c + k) A (private.reflect_column m n j (at v j) (λ row. at v row) vtv)
 unfolding less_rows share column rows
-block-is m n j c k v vtv A f R e s low fits some sized = e ∙ same m n j v vtv low c A k f fits sized s some ∙ sym (done-is m n j v vtv low c A k fits)
+block-is m n j lo c k v vtv A f R e s w low fits some sized =
+    e ∙ same m n j v vtv low c A k f fits sized (rw w at s) some ∙ sym (done-is m n j v vtv low c A k fits)

@@ -8,7 +8,7 @@ use native.Mathlib.Nat.{not-suc-le-zero}
 use native.Mathlib.Numerals.{add-one}
 use borrow.Author.Tests.{eq-eqb, ne_eqb, le-ltb}
 use lib.ListN.{length, set, replicate, take, drop, length-set, length-replicate}
-use Rattle.std.proofs.lemmas.List.{get_or-replicate}
+use Rattle.std.proofs.lemmas.List.{get_or-replicate, get_or-take}
 use lib.Seq.{length-take-le, drop-append-add, drop-drop, get_or-set_same, get_or-set_other}
 use Rattle.std.specs.Prelude.{Ok}
 use lib.Ieee.{Float, nan, binary64, add, eq}
@@ -108,6 +108,16 @@ module _ (a : List Float) (m n j : ℕ) (v v1 : List Float) (sigma beta : Float)
         first = rw (← entry j (omega arith) low) (get_or-set_same v1 j (at v1 j ⊖ beta) nan (omega (arith, long)));
         below = λ row l u. get_or-set_other v1 j row (at v1 j ⊖ beta) nan (λ e. omega arith) ∙ entry row (omega arith) u;
       }
+
+-- the part that the reflector is lent holds all of it
+pub reflects_front : (a : List Float) (m n j : ℕ) (h : Householder) (v : List Float) → private.Reflects a m n j h v → j < m
+    → private.Reflects a m n j h (take m v)
+reflects_front a m n j h v e l =
+    record {
+      parts = e.parts;
+      first = get_or-take m v j nan l ∙ e.first;
+      below = λ row g u. get_or-take m v row nan u ∙ e.below row g u;
+    }
 
 pub columns-run : (n j c d : ℕ) (f : ℕ → List Float → List Float) (a a1 a2 : List Float) → a2 ≡ between c d a1 f
     → a1 ≡ between (j + 1) c a f → j + 1 ≤ c → c ≤ d → d ≤ n → n < d + 1 → a2 ≡ between (suc j) n a f

@@ -13,6 +13,7 @@ use Rattle.least_norm.specs.declared.Householder.{Householder}
 use Rattle.least_norm.specs.declared.Pivot.{Pivot}
 use Rattle.least_norm.specs.declared.Scan.{Scan}
 use Rattle.least_norm.specs.declared.size.Size.{Size}
+use Rattle.least_norm.specs.declared.reflect.Reflector.{Reflector}
 use Rattle.least_norm.specs.LeastNorm as least
 
 -- a holds as many rows and columns
@@ -39,12 +40,16 @@ Reducing a size b perm v = (length a ≡ size.m * size.n) × (length b ≡ size.
 abbrev pub Trapezoidal : List Float → Size → List Float → Type 0
 Trapezoidal a top right = (top.m * top.n ≤ length a) × (top.m ≤ top.n) × (length right ≡ top.m * top.n)
 
--- a trapezoid at the top of a, with a value of b for each of its rows, and room in y
-abbrev pub Substituting : List Float → Size → List Float → List Float → Type 0
-Substituting a top b y = (top.m * top.n ≤ length a) × (top.m ≤ top.n) × (top.m ≤ length b) × (length y ≡ top.n)
+-- a trapezoid's size, a value of b for each of its rows, and room in y
+abbrev pub Substituting : Size → List Float → List Float → Type 0
+Substituting top b y = (top.m ≤ top.n) × (top.m ≤ length b) × (length y ≡ top.n)
 
-abbrev pub Turning : List Float → Size → List Float → Type 0
-Turning right top y = (length right ≡ top.m * top.n) × (top.m ≤ top.n) × (length y ≡ top.n)
+abbrev pub Turning : Size → List Float → Type 0
+Turning top y = (top.m ≤ top.n) × (length y ≡ top.n)
+
+-- h is a reflector of columns of such a matrix: it has every entry from its first down
+abbrev pub Down : Reflector → Size → Type 0
+Down h size = (length h.v.now ≡ size.m) × (h.rest ≡ suc h.first)
 
 -- each number below n stands at a place of perm below n
 abbrev pub Onto : ℕ → List ℕ → Type 0
@@ -98,11 +103,13 @@ row_norm2 n rank i a s = sum s (λ c. at a (i * n + c) ⊗ at a (i * n + c)) ran
 unfoldable pub kept_row : ℕ → ℕ → ℕ → List Float → List Float → List Float
 kept_row n rank i a right = updated nan (λ c. i * n + c) (λ c x. at a (i * n + c)) rank n right
 
-unfoldable pub reflect_row : ℕ → ℕ → ℕ → List Float → Float → Float → ℕ → List Float → List Float
-reflect_row n rank i right u0 utu row a = reflect (row * n + i) (λ c. row * n + c) u0 (λ c. at right (i * n + c)) utu rank n a
+-- row `row` of a reflected by u, which has its entry i and those from `rest` on
+unfoldable pub reflect_row : List Float → ℕ → ℕ → Float → ℕ → List Float → List Float
+reflect_row u i rest utu row a =
+    let n = length u in reflect (row * n + i) (λ c. row * n + c) (at u i) (λ c. at u c) utu rest n a
 
-unfoldable pub reflect_rows : ℕ → ℕ → ℕ → List Float → Float → Float → List Float → ℕ → List Float
-reflect_rows n rank i right u0 utu a rows = turns rows a (reflect_row n rank i right u0 utu)
+unfoldable pub reflect_rows : List Float → ℕ → ℕ → Float → List Float → ℕ → List Float
+reflect_rows u i rest utu a rows = turns rows a (reflect_row u i rest utu)
 
 unfoldable pub clear : ℕ → ℕ → ℕ → least.Trapezoid → least.Trapezoid
 clear n rank i s =
@@ -110,7 +117,7 @@ clear n rank i s =
     let sigma = row_norm2 n rank i s.a 0ᶠ in
     let u0 = alpha ⊖ beta alpha sigma in
     let right = kept_row n rank i s.a (set s.right (i * n + i) u0) in
-    cond (eq sigma 0ᶠ) s (least.trapezoid (reflect_rows n rank i right u0 (u0 ⊗ u0 ⊕ sigma) s.a (suc i)) right)
+    cond (eq sigma 0ᶠ) s (least.trapezoid (reflect_rows (row n i right) i rank (u0 ⊗ u0 ⊕ sigma) s.a (suc i)) right)
 
 -- the row at which clearing ends
 unfoldable pub last_cleared : ℕ → ℕ → ℕ

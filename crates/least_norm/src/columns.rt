@@ -8,32 +8,33 @@ ghost use Rattle.floats.specs.Ops.{at};
 ghost use Rattle.least_norm.specs.LeastNorm as least;
 ghost use Rattle.least_norm.specs.Blocks as blocks;
 ghost use Rattle.least_norm.specs.Private as private;
-ghost use Rattle.least_norm.specs.Private.{Matrix, Reflects};
+ghost use Rattle.least_norm.specs.Private.{Down, Matrix, Reflects};
 
-use crate::size::Size;
+use crate::reflect::Reflector;
+use crate::size::{MatrixView, Size};
 use crate::{Householder, lanes, reflect, vector};
 
 // Column j from row j down, copied to v.
 #[tactic(auto, using(crate::proofs::Laws::updates))]
-fn copy_column(a: &[f64], size: Size, j: usize, v: &mut [f64])
-    requires { Matrix a.now size × (j < size.n) × (j ≤ size.m) × (size.m ≤ length v.old) }
+fn copy_column(a: &MatrixView, j: usize, v: &mut [f64])
+    requires { (j < a.now.size.n) × (j ≤ a.now.size.m) × (a.now.size.m ≤ length v.old) }
     ensures { v.new
-        ≡ updated nan (λ (row : ℕ). row) (λ (row : ℕ) (x : Float). at a.now (row * size.n + j)) j size.m
-        v.old }
+        ≡ updated nan (λ (row : ℕ). row)
+        (λ (row : ℕ) (x : Float). at a.now.entries.now (row * a.now.size.n + j)) j a.now.size.m v.old }
 {
-    for row in j..size.m {
-        v[row] = a[size.place(row, j)];
+    for row in j..a.size.m {
+        v[row] = a.at(row, j);
     }
 }
 
 // Column j's reflector, left in v from row j down. The column's norm may be guessed to be near.
-fn householder(a: &[f64], size: Size, j: usize, v: &mut [f64], near: f64) -> Householder
-    requires { Matrix a.now size × (j < size.n) × (j < size.m) × (size.m ≤ length v.old) }
-    ensures { Reflects a.now size.m size.n j result v.new }
+fn householder(a: &MatrixView, j: usize, v: &mut [f64], near: f64) -> Householder
+    requires { (j < a.now.size.n) × (j < a.now.size.m) × (a.now.size.m ≤ length v.old) }
+    ensures { Reflects a.now.entries.now a.now.size.m a.now.size.n j result v.new }
 {
-    copy_column(a, size, j, v);
+    copy_column(a, j, v);
     let alpha = v[j];
-    let sigma = vector::dot(0.0, v, v, j + 1, size.m);
+    let sigma = vector::dot(0.0, v, v, j + 1, a.size.m);
     let beta = reflect::beta(alpha, sigma, near);
     let v0 = alpha - beta;
     v[j] = v0;
@@ -46,80 +47,68 @@ fn householder(a: &[f64], size: Size, j: usize, v: &mut [f64], near: f64) -> Hou
 // Adds to s the products of v with K columns from column c on, from row `from` down.
 fn add_products<const K: usize>(
     mut s: [f64; K],
-    a: &[f64],
-    size: Size,
+    a: &MatrixView,
     from: usize,
     c: usize,
     v: &[f64],
 ) -> [f64; K]
-    requires { Matrix a.now size × (from ≤ size.m) × (c + K ≤ size.n) × (size.m ≤ length v.now) }
-    ensures { result ≡ blocks.products a.now size.n c K v.now s.entry from size.m }
+    requires { (from ≤ a.now.size.m) × (c + K ≤ a.now.size.n) × (a.now.size.m ≤ length v.now) }
+    ensures { result ≡ blocks.products a.now.entries.now a.now.size.n c K v.now s.entry from a.now.size.m }
 {
-    for row in from..size.m {
-        s = lanes::add_scaled(s, v[row], a, size.place(row, c));
+    for row in from..a.size.m {
+        s = lanes::add_scaled(s, v[row], a.entries, a.size.place(row, c));
     }
     s
 }
 
-// The factors of K columns from column c on: 2 * (v · column) / vtv.
-fn column_factors<const K: usize>(
-    a: &[f64],
-    size: Size,
-    j: usize,
-    c: usize,
-    v: &[f64],
-    vtv: f64,
-) -> [f64; K]
-    requires { Matrix a.now size × (j < size.m) × (c + K ≤ size.n) × (size.m ≤ length v.now) }
+// The factors of K columns from column c on: 2 * (v · column) / vᵀv.
+fn column_factors<const K: usize>(a: &MatrixView, c: usize, h: &Reflector) -> [f64; K]
+    requires { (length h.now.v.now ≡ a.now.size.m) × (c + K ≤ a.now.size.n) }
     ensures { (t : ℕ) → t < K
         → at result t
-        ≡ private.factor (j * size.n + (c + t)) (λ (row : ℕ). row * size.n + (c + t)) (at v.now j)
-        (λ (row : ℕ). at v.now row) vtv (suc j) size.m a.now }
+        ≡ private.factor (h.now.first * a.now.size.n + (c + t)) (λ (row : ℕ). row * a.now.size.n + (c + t))
+        (at h.now.v.now h.now.first) (λ (row : ℕ). at h.now.v.now row) h.now.vtv h.now.rest
+        a.now.size.m a.now.entries.now }
 {
-    let first: [f64; K] = lanes::scaled(v[j], a, size.place(j, c));
-    lanes::factors(add_products(first, a, size, j + 1, c, v), vtv)
+    let first: [f64; K] = lanes::scaled(h.v[h.first], a.entries, a.size.place(h.first, c));
+    lanes::factors(add_products(first, a, h.rest, c, h.v), h.vtv)
 }
 
-// Each row from row j down less the factors f of its K entries from column c on times v's entry.
-fn less_rows<const K: usize>(a: &mut [f64], size: Size, j: usize, c: usize, v: &[f64], f: [f64; K])
-    requires { Matrix a.old size × (j < size.m) × (c + K ≤ size.n) × (size.m ≤ length v.now) }
-    ensures { a.new ≡ blocks.less_rows size.n c K v.now f.entry a.old j size.m }
+// Each row from h's first down less the factors f of its K entries from column c on times h's entry.
+fn less_rows<const K: usize>(a: &mut [f64], size: Size, c: usize, h: &Reflector, f: [f64; K])
+    requires { Matrix a.old size × (length h.now.v.now ≡ size.m) × (c + K ≤ size.n) }
+    ensures { a.new ≡ blocks.less_rows size.n c K h.now.v.now f.entry a.old h.now.first size.m }
 {
-    for row in j..size.m {
-        lanes::less_lanes(a, size.place(row, c), f, v[row]);
+    for row in h.first..size.m {
+        lanes::less_lanes(a, size.place(row, c), f, h.v[row]);
     }
 }
 
 // H applied to K columns from column c on.
-fn reflect_lanes<const K: usize>(a: &mut [f64], size: Size, j: usize, c: usize, v: &[f64], vtv: f64)
-    requires { Matrix a.old size × (j < size.m) × (c + K ≤ size.n) × (size.m ≤ length v.now) × (0 < K) }
+fn reflect_lanes<const K: usize>(a: &mut [f64], size: Size, c: usize, h: &Reflector)
+    requires { Matrix a.old size × Down h.now size × (c + K ≤ size.n) × (0 < K) }
     ensures { a.new
         ≡ between c (c + K) a.old
-        (private.reflect_column size.m size.n j (at v.now j) (λ (row : ℕ). at v.now row) vtv) }
+        (private.reflect_column size.m size.n h.now.first (at h.now.v.now h.now.first)
+        (λ (row : ℕ). at h.now.v.now row) h.now.vtv) }
 {
-    let f: [f64; K] = column_factors(a, size, j, c, v, vtv);
-    less_rows(a, size, j, c, v, f);
+    let f: [f64; K] = column_factors(&MatrixView { entries: a, size }, c, h);
+    less_rows(a, size, c, h, f);
 }
 
 // The same for K columns more, and K more, as long as there are so many. Returns the column after them.
-fn reflect_columns<const K: usize>(
-    a: &mut [f64],
-    size: Size,
-    j: usize,
-    c: usize,
-    v: &[f64],
-    vtv: f64,
-) -> usize
-    requires { Matrix a.old size × (j < size.m) × (c ≤ size.n) × (size.m ≤ length v.now) × (0 < K) }
+fn reflect_columns<const K: usize>(a: &mut [f64], size: Size, c: usize, h: &Reflector) -> usize
+    requires { Matrix a.old size × Down h.now size × (c ≤ size.n) × (0 < K) }
     ensures { (a.new
         ≡ between c result a.old
-        (private.reflect_column size.m size.n j (at v.now j) (λ (row : ℕ). at v.now row) vtv))
+        (private.reflect_column size.m size.n h.now.first (at h.now.v.now h.now.first)
+        (λ (row : ℕ). at h.now.v.now row) h.now.vtv))
         × (c ≤ result) × (result ≤ size.n) × (size.n < result + K) }
 {
     let mut next = c;
     // A `for` would count the blocks of K by a division, and find each column again from its block's number.
     while K <= size.n - next {
-        reflect_lanes::<K>(a, size, j, next, v, vtv);
+        reflect_lanes::<K>(a, size, next, h);
         next += K;
     }
     next
@@ -138,15 +127,22 @@ fn zero_below(a: &mut [f64], size: Size, j: usize)
 // Column j's reflector applied to the columns after it, four at a time and then one by one, and to b, a matrix of one
 // column. The column's norm may be guessed to be near.
 pub fn eliminate(a: &mut [f64], size: Size, j: usize, b: &mut [f64], v: &mut [f64], near: f64)
-    requires { Matrix a.old size × (j < size.m) × (j < size.n) × (length b.old ≡ size.m) × (size.m ≤ length v.old) }
+    requires { Matrix a.old size × (j < size.m) × (j < size.n) × (length b.old ≡ size.m)
+        × (size.m ≤ length v.old) }
     ensures { (p : List ℕ)
         → least.factors a.new b.new p
         ≡ least.eliminated size.m size.n j (least.factors a.old b.old p) }
 {
-    let h = householder(a, size, j, v, near);
-    let c = reflect_columns::<4>(a, size, j, j + 1, v, h.vtv);
-    reflect_columns::<1>(a, size, j, c, v, h.vtv);
-    reflect_lanes::<1>(b, Size { m: size.m, n: 1 }, j, 0, v, h.vtv);
-    a[size.place(j, j)] = h.beta;
+    let Householder { beta, vtv } = householder(&MatrixView { entries: a, size }, j, v, near);
+    let h = Reflector {
+        v: &v[..size.m],
+        first: j,
+        rest: j + 1,
+        vtv,
+    };
+    let c = reflect_columns::<4>(a, size, j + 1, &h);
+    reflect_columns::<1>(a, size, c, &h);
+    reflect_lanes::<1>(b, Size { m: size.m, n: 1 }, 0, &h);
+    a[size.place(j, j)] = beta;
     zero_below(a, size, j);
 }

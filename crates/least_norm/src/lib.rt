@@ -21,7 +21,7 @@ mod trapezoid;
 mod vector;
 
 use refusals::Refusal;
-use size::Size;
+use size::{MatrixView, Size};
 
 // A column and its squared norm.
 #[derive(Clone, Copy)]
@@ -69,7 +69,7 @@ fn reduce(
     ensures { private.standing result j (least.factors a.new b.new perm.new)
         ≡ least.reduce size.m size.n j (least.going (least.factors a.old b.old perm.old)) }
 {
-    let p = pivoting::find_pivot(a, size, j);
+    let p = pivoting::find_pivot(&MatrixView { entries: a, size }, j);
     let near = floats::sqrt_rough(p.norm);
     pivoting::bring(a, size, j, p.col, perm);
     if p.norm == 0.0 {
@@ -118,20 +118,28 @@ fn solve_ranked(
         ≡ least.solved top.n (least.factors a.old b.now perm.now) top.m }
 {
     trapezoid::clear(a, top, right);
-    solution::substitute(a, top, b, y);
-    solution::turn_back(right, top, y);
+    let t = MatrixView {
+        entries: a,
+        size: top,
+    };
+    solution::substitute(&t, b, y);
+    let reflectors = MatrixView {
+        entries: right,
+        size: top,
+    };
+    solution::turn_back(&reflectors, y);
     solution::unpermute(perm, y, x);
 }
 
 // The solution at full rank. Every entry of y and of x is written, so neither need be cleared, and there is no
 // reflector from the right.
-fn solve_full(a: &[f64], top: Size, b: &[f64], x: &mut [f64], perm: &[u8], y: &mut [f64])
-    requires { private.Substituting a.now top b.now y.old × (0 < top.n) × (top.m ≡ top.n)
-        × (length x.old ≡ top.n) × (length perm.now ≡ top.n) × private.Onto top.n perm.now }
-    ensures { least.solution top.m a.now b.now x.new
-        ≡ least.solved top.n (least.factors a.now b.now perm.now) top.m }
+fn solve_full(t: &MatrixView, b: &[f64], x: &mut [f64], perm: &[u8], y: &mut [f64])
+    requires { private.Substituting t.now.size b.now y.old × (0 < t.now.size.n) × (t.now.size.m ≡ t.now.size.n)
+        × (length x.old ≡ t.now.size.n) × (length perm.now ≡ t.now.size.n) × private.Onto t.now.size.n perm.now }
+    ensures { least.solution t.now.size.m t.now.entries.now b.now x.new
+        ≡ least.solved t.now.size.n (least.factors t.now.entries.now b.now perm.now) t.now.size.m }
 {
-    solution::substitute(a, top, b, y);
+    solution::substitute(t, b, y);
     solution::unpermute(perm, y, x);
 }
 
@@ -159,7 +167,11 @@ fn solve_at(
     }
     let top = Size { m: rank, n: size.n };
     if rank == size.n {
-        solve_full(a, top, b, x, perm, y);
+        let t = MatrixView {
+            entries: a,
+            size: top,
+        };
+        solve_full(&t, b, x, perm, y);
         return;
     }
     y.fill(0.0);
@@ -184,7 +196,7 @@ fn least_norm(
 {
     count_up(perm);
     let columns = reduce_columns(a, size, size.m.min(size.n), b, perm, v);
-    let rank = rank::leading(a, size, columns);
+    let rank = rank::leading(&MatrixView { entries: a, size }, columns);
     solve_at(a, size, b, x, workspace, perm, &mut v[..size.n], rank);
     rank
 }

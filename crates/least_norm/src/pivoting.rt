@@ -8,17 +8,17 @@ ghost use Rattle.least_norm.specs.Blocks.{squares};
 ghost use Rattle.least_norm.specs.Private as private;
 ghost use Rattle.least_norm.specs.Private.{Matrix, Scanned};
 
-use crate::size::Size;
+use crate::size::{MatrixView, Size};
 use crate::{Pivot, Scan, lanes};
 
 // The squared norms of K columns from column c on, from row j down.
-fn column_norms<const K: usize>(a: &[f64], size: Size, c: usize, j: usize) -> [f64; K]
-    requires { Matrix a.now size × (j ≤ size.m) × (c + K ≤ size.n) }
-    ensures { result ≡ squares a.now size.n c K (replicate K 0ᶠ) j size.m }
+fn column_norms<const K: usize>(a: &MatrixView, c: usize, j: usize) -> [f64; K]
+    requires { (j ≤ a.now.size.m) × (c + K ≤ a.now.size.n) }
+    ensures { result ≡ squares a.now.entries.now a.now.size.n c K (replicate K 0ᶠ) j a.now.size.m }
 {
     let mut s = [0.0; K];
-    for row in j..size.m {
-        s = lanes::add_squares(s, a, size.place(row, c));
+    for row in j..a.size.m {
+        s = lanes::add_squares(s, a.entries, a.size.place(row, c));
     }
     s
 }
@@ -51,14 +51,14 @@ fn pick_lanes<const K: usize>(c: usize, s: [f64; K], best: Pivot) -> Pivot
 }
 
 // The pivot among K columns of a more, and K more, as long as there are so many.
-fn pick<const K: usize>(a: &[f64], size: Size, j: usize, from: Scan) -> Scan
-    requires { Matrix a.now size × (j ≤ size.m) × (from.best.col < from.next) × (from.next ≤ size.n) × (0 < K) }
-    ensures { Scanned a.now size.m size.n j from.next from.best K result }
+fn pick<const K: usize>(a: &MatrixView, j: usize, from: Scan) -> Scan
+    requires { (j ≤ a.now.size.m) × (from.best.col < from.next) × (from.next ≤ a.now.size.n) × (0 < K) }
+    ensures { Scanned a.now.entries.now a.now.size.m a.now.size.n j from.next from.best K result }
 {
     let Scan { mut best, mut next } = from;
     // A `for` would count the blocks of K by a division, and find each column again from its block's number.
-    while K <= size.n - next {
-        let s: [f64; K] = column_norms(a, size, next, j);
+    while K <= a.size.n - next {
+        let s: [f64; K] = column_norms(a, next, j);
         best = pick_lanes(next, s, best);
         next += K;
     }
@@ -66,11 +66,11 @@ fn pick<const K: usize>(a: &[f64], size: Size, j: usize, from: Scan) -> Scan
 }
 
 // The column of greatest norm from row j down, from column j on; the first of equals.
-pub fn find_pivot(a: &[f64], size: Size, j: usize) -> Pivot
-    requires { Matrix a.now size × (j < size.n) × (j ≤ size.m) }
-    ensures { (result ≡ least.pivot a.now size.m size.n j) × (result.col < size.n) }
+pub fn find_pivot(a: &MatrixView, j: usize) -> Pivot
+    requires { (j < a.now.size.n) × (j ≤ a.now.size.m) }
+    ensures { (result ≡ least.pivot a.now.entries.now a.now.size.m a.now.size.n j) × (result.col < a.now.size.n) }
 {
-    let own: [f64; 1] = column_norms(a, size, j, j);
+    let own: [f64; 1] = column_norms(a, j, j);
     let first = Scan {
         best: Pivot {
             col: j,
@@ -78,8 +78,8 @@ pub fn find_pivot(a: &[f64], size: Size, j: usize) -> Pivot
         },
         next: j + 1,
     };
-    let fours = pick::<4>(a, size, j, first);
-    pick::<1>(a, size, j, fours).best
+    let fours = pick::<4>(a, j, first);
+    pick::<1>(a, j, fours).best
 }
 
 fn swap_columns(a: &mut [f64], size: Size, j: usize, c: usize)

@@ -2,27 +2,26 @@
 ghost use Rattle.std.specs.Prelude.{◌≡◌, ◌≤◌, ◌<◌};
 ghost use Rattle.least_norm.specs.LeastNorm as least;
 ghost use Rattle.least_norm.specs.Private as private;
-ghost use Rattle.least_norm.specs.Private.{Matrix};
 
-use crate::size::Size;
+use crate::size::MatrixView;
 
 #[tactic(auto, unfolding(crate::specs::Private::leads))]
-fn leads(a: &[f64], size: Size, i: usize) -> bool
-    requires { Matrix a.now size × (i < size.m) × (i < size.n) }
-    ensures { result ≡ private.leads size.n a.now i }
+fn leads(a: &MatrixView, i: usize) -> bool
+    requires { (i < a.now.size.m) × (i < a.now.size.n) }
+    ensures { result ≡ private.leads a.now.size.n a.now.entries.now i }
 {
-    let largest = floats::abs(a[0]);
-    let this = floats::abs(a[size.place(i, i)]);
+    let largest = floats::abs(a.entries[0]);
+    let this = floats::abs(a.at(i, i));
     this > 0.00000000001 * largest
 }
 
 // How many of the first k entries lead before one does not.
-pub fn leading(a: &[f64], size: Size, k: usize) -> usize
-    requires { Matrix a.now size × (k ≤ size.m) × (k ≤ size.n) }
-    ensures { (result ≡ least.leading size.n a.now k) × (result ≤ k) }
+pub fn leading(a: &MatrixView, k: usize) -> usize
+    requires { (k ≤ a.now.size.m) × (k ≤ a.now.size.n) }
+    ensures { (result ≡ least.leading a.now.size.n a.now.entries.now k) × (result ≤ k) }
 {
     for i in 0..k {
-        if !leads(a, size, i) {
+        if !leads(a, i) {
             return i;
         }
     }

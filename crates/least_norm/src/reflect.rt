@@ -1,11 +1,35 @@
-// Householder reflectors H = I - 2 v vᵀ / vᵀv.
+// Householder reflectors.
 ghost use Rattle.std.specs.Prelude.{◌≡◌, ℕ, ◌≤◌, ◌<◌, length};
 ghost use Rattle.floats.specs.Ops.{at, ◌⊕◌, ◌⊗◌};
 ghost use Rattle.floats.specs.Sqrt.{sqrt};
 ghost use Rattle.least_norm.specs.Reflector as reflector;
-ghost use Rattle.least_norm.specs.Private.{less};
 
 use crate::vector;
+
+// H = I - 2 v vᵀ / vᵀv, where v has its entry `first` and those from `rest` on: what else stands in the list counts as zero.
+#[derive(Clone, Copy)]
+pub struct Reflector<'a> {
+    pub v: &'a [f64],
+    pub first: usize,
+    pub rest: usize,
+    pub vtv: f64,
+    pub ghost inside: { (first < length v.now) × (rest ≤ length v.now) },
+}
+
+impl<'a> Reflector<'a> {
+    // H applied to z.
+    pub fn reflect(&self, z: &mut [f64])
+        requires { length z.old ≡ length self.now.v.now }
+        ensures { z.new
+            ≡ reflector.reflect self.now.first (λ (t : ℕ). t) (at self.now.v.now self.now.first)
+            (λ (t : ℕ). at self.now.v.now t) self.now.vtv self.now.rest (length z.old) z.old }
+    {
+        let v0 = self.v[self.first];
+        let f = 2.0 * vector::dot(v0 * z[self.first], self.v, z, self.rest, z.len()) / self.vtv;
+        z[self.first] = z[self.first] - f * v0;
+        vector::less_scaled(z, f, self.v, self.rest);
+    }
+}
 
 // The root of alpha² + sigma, which may be guessed to be near. Where sigma is 0, as in a square system's last step, it
 // is alpha's magnitude, unless the square leaves the range in which that is so.
@@ -29,26 +53,4 @@ pub fn beta(alpha: f64, sigma: f64, near: f64) -> f64
 {
     let root = norm(alpha, sigma, near);
     if alpha >= 0.0 { -root } else { root }
-}
-
-// x[t] -= f * y[t], for t from lo on.
-#[tactic(auto, using(crate::proofs::Laws::updates), unfolding(crate::specs::Private::less))]
-fn less_scaled(x: &mut [f64], f: f64, y: &[f64], lo: usize)
-    requires { (lo ≤ length x.old) × (length x.old ≤ length y.now) }
-    ensures { x.new ≡ less (λ (t : ℕ). t) f (λ (t : ℕ). at y.now t) lo (length x.old) x.old }
-{
-    for t in lo..x.len() {
-        x[t] = x[t] - f * y[t];
-    }
-}
-
-// H applied to z: v is u0 at place i and u's entries from place lo on, and utu is its square.
-pub fn reflect(z: &mut [f64], i: usize, u0: f64, u: &[f64], utu: f64, lo: usize)
-    requires { (i < length z.old) × (lo ≤ length z.old) × (length z.old ≡ length u.now) }
-    ensures { z.new
-        ≡ reflector.reflect i (λ (t : ℕ). t) u0 (λ (t : ℕ). at u.now t) utu lo (length z.old) z.old }
-{
-    let f = 2.0 * vector::dot(u0 * z[i], u, z, lo, z.len()) / utu;
-    z[i] = z[i] - f * u0;
-    less_scaled(z, f, u, lo);
 }

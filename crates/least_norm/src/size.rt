@@ -1,8 +1,9 @@
-// The size of a matrix that is kept row by row: the entry in row i and column c stands at i * n + c.
-ghost use Rattle.std.specs.Prelude.{◌≤◌};
+// The size of a matrix that is kept row by row, and a matrix that is read: the entry in row i and column c stands at
+// i * n + c.
+ghost use Rattle.std.specs.Prelude.{◌*◌, ◌≤◌, length};
 
-// m rows of n entries, few enough. The entries are lent beside it: a struct that held them as a `&mut` would have each
-// function that writes promise that m, n and the reference stay.
+// m rows of n entries, few enough. Entries that are written are lent beside it: a struct that held them as a `&mut` would
+// have each function that writes promise that m, n and the reference stay.
 #[derive(Clone, Copy)]
 pub struct Size {
     pub m: usize,
@@ -12,8 +13,8 @@ pub struct Size {
 }
 
 impl Size {
-    ghost use Rattle.std.specs.Prelude.{◌≡◌, ◌+◌, ◌*◌, ◌<◌, length};
-    ghost use Rattle.least_norm.specs.Private.{Place, row};
+    ghost use Rattle.std.specs.Prelude.{◌<◌};
+    ghost use Rattle.least_norm.specs.Private.{Place};
 
     // The place of row i and column c.
     pub fn place(self, i: usize, c: usize) -> usize
@@ -22,12 +23,35 @@ impl Size {
     {
         i * self.n + c
     }
+}
 
-    // Row i of a.
-    pub fn row(self, a: &[f64], i: usize) -> &[f64]
-        requires { (self.m * self.n ≤ length a.now) × (i < self.m) }
-        ensures { result.now ≡ row self.n i a.now }
+// A matrix that is read. More may stand past its entries.
+#[derive(Clone, Copy)]
+pub struct MatrixView<'a> {
+    pub entries: &'a [f64],
+    pub size: Size,
+    pub ghost holds: { size.m * size.n ≤ length entries.now },
+}
+
+impl<'a> MatrixView<'a> {
+    ghost use Rattle.std.specs.Prelude.{◌≡◌, ◌+◌, ◌*◌, ◌<◌};
+    ghost use Rattle.floats.specs.Ops.{at};
+    ghost use Rattle.least_norm.specs.Private.{row};
+
+    // The entry in row i and column c.
+    pub fn at(&self, i: usize, c: usize) -> f64
+        requires { (i < self.now.size.m) × (c < self.now.size.n) }
+        ensures { result ≡ at self.now.entries.now (i * self.now.size.n + c) }
     {
-        &a[i * self.n..(i + 1) * self.n]
+        self.entries[self.size.place(i, c)]
+    }
+
+    // Row i.
+    pub fn row(&self, i: usize) -> &'a [f64]
+        requires { i < self.now.size.m }
+        ensures { result.now ≡ row self.now.size.n i self.now.entries.now }
+    {
+        let n = self.size.n;
+        &self.entries[i * n..(i + 1) * n]
     }
 }

@@ -1,65 +1,73 @@
-// T w = c by back substitution, then the reflectors from the right, then the columns' order. `top` is the trapezoid's
-// size: as many rows as the rank.
-ghost use Rattle.std.specs.Prelude.{◌≡◌, ◌*◌, ◌≤◌, ◌<◌, length};
+// T w = c by back substitution, then the reflectors from the right, then the columns' order. `t` is the trapezoid: as
+// many rows as the rank.
+ghost use Rattle.std.specs.Prelude.{◌≡◌, ◌≤◌, ◌<◌, length};
 ghost use Rattle.least_norm.specs.LeastNorm as least;
 ghost use Rattle.least_norm.specs.Starts as starts;
 ghost use Rattle.least_norm.specs.Private as private;
 ghost use Rattle.least_norm.specs.Private.{Substituting, Turning};
 
-use crate::size::Size;
-use crate::{reflect, trapezoid, vector};
+use crate::reflect::Reflector;
+use crate::size::MatrixView;
+use crate::{trapezoid, vector};
 
 // What row i leaves of b once the entries of y after i are known.
-fn known(a: &[f64], top: Size, b: &[f64], y: &[f64], i: usize) -> f64
-    requires { Substituting a.now top b.now y.now × (i < top.m) }
-    ensures { result ≡ private.known top.n top.m a.now b.now y.now i }
+fn known(t: &MatrixView, b: &[f64], y: &[f64], i: usize) -> f64
+    requires { Substituting t.now.size b.now y.now × (i < t.now.size.m) }
+    ensures { result ≡ private.known t.now.size.n t.now.size.m t.now.entries.now b.now y.now i }
 {
-    vector::less_dot(b[i], top.row(a, i), y, i + 1, top.m)
+    vector::less_dot(b[i], t.row(i), y, i + 1, t.size.m)
 }
 
 // What stands in y past the rank stays.
 #[tactic(auto, using(crate::proofs::Laws::substitutions))]
-pub fn substitute(a: &[f64], top: Size, b: &[f64], y: &mut [f64])
-    requires { Substituting a.now top b.now y.old }
-    ensures { y.new ≡ starts.substituted y.old top.n top.m a.now b.now 0 }
+pub fn substitute(t: &MatrixView, b: &[f64], y: &mut [f64])
+    requires { Substituting t.now.size b.now y.old }
+    ensures { y.new ≡ starts.substituted y.old t.now.size.n t.now.size.m t.now.entries.now b.now 0 }
 {
-    for i in (0..top.m).rev() {
-        y[i] = known(a, top, b, y, i) / a[top.place(i, i)];
+    for i in (0..t.size.m).rev() {
+        y[i] = known(t, b, y, i) / t.at(i, i);
     }
 }
 
-// Reflector i applied to y.
+// Reflector i, which row i of `right` keeps, applied to y.
 #[tactic(auto, using(crate::proofs::Rows::turn_run), unfolding(crate::specs::Private::turn))]
-fn turn(right: &[f64], top: Size, i: usize, y: &mut [f64])
-    requires { Turning right.now top y.old × (i < top.m) }
-    ensures { y.new ≡ private.turn top.n top.m right.now i y.old }
+fn turn(right: &MatrixView, i: usize, y: &mut [f64])
+    requires { Turning right.now.size y.old × (i < right.now.size.m) }
+    ensures { y.new ≡ private.turn right.now.size.n right.now.size.m right.now.entries.now i y.old }
 {
-    let u0 = right[top.place(i, i)];
-    let utu = trapezoid::row_norm2(right, top, i, u0 * u0);
+    let u0 = right.at(i, i);
+    let utu = trapezoid::row_norm2(right, i, u0 * u0);
     if utu == 0.0 {
         return;
     }
-    reflect::reflect(y, i, u0, top.row(right, i), utu, top.m);
+    let u = Reflector {
+        v: right.row(i),
+        first: i,
+        rest: right.size.m,
+        vtv: utu,
+    };
+    u.reflect(y);
 }
 
-fn turn_each(right: &[f64], top: Size, y: &mut [f64])
-    requires { Turning right.now top y.old }
-    ensures { y.new ≡ least.turned top.n top.m right.now y.old top.m }
+fn turn_each(right: &MatrixView, y: &mut [f64])
+    requires { Turning right.now.size y.old }
+    ensures { y.new ≡ least.turned right.now.size.n right.now.size.m right.now.entries.now y.old right.now.size.m }
 {
-    for i in 0..top.m {
-        turn(right, top, i, y);
+    for i in 0..right.size.m {
+        turn(right, i, y);
     }
 }
 
 // Every reflector applied to y; at full rank there is none.
 #[tactic(auto, unfolding(crate::specs::LeastNorm::turned, crate::specs::Private::first_turned, loops::specs::Loops::turns))]
-pub fn turn_back(right: &[f64], top: Size, y: &mut [f64])
-    requires { Turning right.now top y.old }
+pub fn turn_back(right: &MatrixView, y: &mut [f64])
+    requires { Turning right.now.size y.old }
     ensures { y.new
-        ≡ least.turned top.n top.m right.now y.old (private.first_turned top.n top.m) }
+        ≡ least.turned right.now.size.n right.now.size.m right.now.entries.now y.old
+        (private.first_turned right.now.size.n right.now.size.m) }
 {
-    if top.m < top.n {
-        turn_each(right, top, y);
+    if right.size.m < right.size.n {
+        turn_each(right, y);
     }
 }
 

@@ -6,51 +6,46 @@ ghost use Rattle.least_norm.specs.LeastNorm as least;
 ghost use Rattle.least_norm.specs.Private as private;
 ghost use Rattle.least_norm.specs.Private.{Trapezoidal};
 
-use crate::size::Size;
+use crate::reflect::Reflector;
+use crate::size::{MatrixView, Size};
 use crate::{reflect, vector};
 
-// Row `row` reflected by reflector i, whose row of `right` is u.
-fn reflect_row(a: &mut [f64], top: Size, i: usize, right: &[f64], u0: f64, utu: f64, row: usize)
-    requires { Trapezoidal a.old top right.now × (i < top.m) × (row ≤ i) }
-    ensures { a.new ≡ private.reflect_row top.n top.m i right.now u0 utu row a.old }
+// Row `row` reflected.
+fn reflect_row(a: &mut [f64], u: &Reflector, row: usize)
+    requires { (row ≤ u.now.first) × (suc u.now.first * length u.now.v.now ≤ length a.old) }
+    ensures { a.new ≡ private.reflect_row u.now.v.now u.now.first u.now.rest u.now.vtv row a.old }
 {
-    let n = top.n;
-    reflect::reflect(
-        &mut a[row * n..row * n + n],
-        i,
-        u0,
-        top.row(right, i),
-        utu,
-        top.m,
-    );
+    let n = u.v.len();
+    u.reflect(&mut a[row * n..row * n + n]);
 }
 
-fn reflect_rows(a: &mut [f64], top: Size, i: usize, right: &[f64], u0: f64, utu: f64)
-    requires { Trapezoidal a.old top right.now × (i < top.m) }
-    ensures { a.new ≡ private.reflect_rows top.n top.m i right.now u0 utu a.old (suc i) }
+// Each row down to the reflector's own.
+fn reflect_rows(a: &mut [f64], u: &Reflector)
+    requires { suc u.now.first * length u.now.v.now ≤ length a.old }
+    ensures { a.new ≡ private.reflect_rows u.now.v.now u.now.first u.now.rest u.now.vtv a.old (suc u.now.first) }
 {
-    for row in 0..i + 1 {
-        reflect_row(a, top, i, right, u0, utu, row);
+    for row in 0..u.first + 1 {
+        reflect_row(a, u, row);
     }
 }
 
 // s plus the squares of row i past the rank.
-pub fn row_norm2(a: &[f64], top: Size, i: usize, s: f64) -> f64
-    requires { (top.m * top.n ≤ length a.now) × (top.m ≤ top.n) × (i < top.m) }
-    ensures { result ≡ private.row_norm2 top.n top.m i a.now s }
+pub fn row_norm2(t: &MatrixView, i: usize, s: f64) -> f64
+    requires { (t.now.size.m ≤ t.now.size.n) × (i < t.now.size.m) }
+    ensures { result ≡ private.row_norm2 t.now.size.n t.now.size.m i t.now.entries.now s }
 {
-    let row = top.row(a, i);
-    vector::dot(s, row, row, top.m, top.n)
+    let row = t.row(i);
+    vector::dot(s, row, row, t.size.m, t.size.n)
 }
 
 // Keeps in `right` row i past the rank.
 #[tactic(auto, using(crate::proofs::Laws::updates), unfolding(crate::specs::Private::kept_row))]
-fn keep_row(a: &[f64], top: Size, i: usize, right: &mut [f64])
-    requires { Trapezoidal a.now top right.old × (i < top.m) }
-    ensures { right.new ≡ private.kept_row top.n top.m i a.now right.old }
+fn keep_row(t: &MatrixView, i: usize, right: &mut [f64])
+    requires { Trapezoidal t.now.entries.now t.now.size right.old × (i < t.now.size.m) }
+    ensures { right.new ≡ private.kept_row t.now.size.n t.now.size.m i t.now.entries.now right.old }
 {
-    for c in top.m..top.n {
-        right[top.place(i, c)] = a[top.place(i, c)];
+    for c in t.size.m..t.size.n {
+        right[t.size.place(i, c)] = t.at(i, c);
     }
 }
 
@@ -61,16 +56,29 @@ fn clear_row(a: &mut [f64], top: Size, i: usize, right: &mut [f64])
     ensures { least.trapezoid a.new right.new
         ≡ private.clear top.n top.m i (least.trapezoid a.old right.old) }
 {
-    let diagonal = top.place(i, i);
-    let alpha = a[diagonal];
-    let sigma = row_norm2(a, top, i, 0.0);
+    let t = MatrixView {
+        entries: a,
+        size: top,
+    };
+    let alpha = t.at(i, i);
+    let sigma = row_norm2(&t, i, 0.0);
     if sigma == 0.0 {
         return;
     }
     let u0 = alpha - reflect::beta(alpha, sigma, 0.0);
-    right[diagonal] = u0;
-    keep_row(a, top, i, right);
-    reflect_rows(a, top, i, right, u0, u0 * u0 + sigma);
+    right[top.place(i, i)] = u0;
+    keep_row(&t, i, right);
+    let kept = MatrixView {
+        entries: right,
+        size: top,
+    };
+    let u = Reflector {
+        v: kept.row(i),
+        first: i,
+        rest: top.m,
+        vtv: u0 * u0 + sigma,
+    };
+    reflect_rows(a, &u);
 }
 
 fn clear_rows(a: &mut [f64], top: Size, right: &mut [f64])

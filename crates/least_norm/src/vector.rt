@@ -4,7 +4,7 @@
 ghost use Rattle.std.specs.Prelude.{◌≡◌, ℕ, ◌≤◌, length};
 ghost use Rattle.floats.specs.Ops.{at, ◌⊗◌};
 ghost use Rattle.floats.specs.Sums.{sum, difference};
-ghost use Rattle.least_norm.specs.Private.{Part};
+ghost use Rattle.least_norm.specs.Private.{Part, less};
 
 // s + x[lo] * y[lo] + ..
 pub fn dot(s: f64, x: &[f64], y: &[f64], lo: usize, hi: usize) -> f64
@@ -28,4 +28,15 @@ pub fn less_dot(s: f64, x: &[f64], y: &[f64], lo: usize, hi: usize) -> f64
         r = r - x[t] * y[t];
     }
     r
+}
+
+// x[t] -= f * y[t], for t from lo on.
+#[tactic(auto, using(crate::proofs::Laws::updates), unfolding(crate::specs::Private::less))]
+pub fn less_scaled(x: &mut [f64], f: f64, y: &[f64], lo: usize)
+    requires { (lo ≤ length x.old) × (length x.old ≤ length y.now) }
+    ensures { x.new ≡ less (λ (t : ℕ). t) f (λ (t : ℕ). at y.now t) lo (length x.old) x.old }
+{
+    for t in lo..x.len() {
+        x[t] = x[t] - f * y[t];
+    }
 }

@@ -6,4 +6,4 @@ use Rattle.floats.specs.Ops.{at}
 use Rattle.least_norm.proofs.columns.copy_column.Given as goal
 
 abbrev pub invariant-loop-row : goal.invariant-loop-row
-invariant-loop-row l = l.v ≡ updated nan (λ (row : ℕ). row) (λ (row : ℕ) (x : Float). at l.a (row * l.size.n + l.j)) l.j l.row l.initial.v
+invariant-loop-row l = l.v ≡ updated nan (λ (row : ℕ). row) (λ (row : ℕ) (x : Float). at l.a.entries.now (row * l.a.size.n + l.j)) l.j l.row l.initial.v

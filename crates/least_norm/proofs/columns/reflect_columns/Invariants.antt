@@ -6,7 +6,7 @@ use Rattle.least_norm.proofs.columns.reflect_columns.Given as goal
 
 abbrev pub invariant-loop-next : goal.invariant-loop-next
 invariant-loop-next g l = (l.c ≤ l.next) × (l.next ≤ l.size.n)
-    × (l.a ≡ between l.c l.next l.initial.a (reflect_column l.size.m l.size.n l.j (at l.v l.j) (λ (row : ℕ). at l.v row) l.vtv))
+    × (l.a ≡ between l.c l.next l.initial.a (reflect_column l.size.m l.size.n l.h.first (at l.h.v.now l.h.first) (λ (row : ℕ). at l.h.v.now row) l.h.vtv))
 
 abbrev pub decreases-loop-next : goal.decreases-loop-next
 decreases-loop-next g l = l.size.n - l.next

@@ -12,6 +12,6 @@ loop-next-preserved g c = (
   omega arith,
   omega arith,
   between_more _ _ _ _ _ _ _
-      (block-picked _ _ _ _ _ _ _ _ _ c.pick_lanes-best.ensures.0 c.column_norms-s.ensures c.requires.1)
+      (block-picked _ _ _ _ _ _ _ _ _ c.pick_lanes-best.ensures.0 c.column_norms-s.ensures c.requires.0)
       c.loop-next.invariant.3 c.loop-next.invariant.0 (omega arith),
 )

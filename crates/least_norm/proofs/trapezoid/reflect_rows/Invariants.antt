@@ -3,4 +3,4 @@ use Rattle.least_norm.specs.Private.{reflect_rows}
 use Rattle.least_norm.proofs.trapezoid.reflect_rows.Given as goal
 
 abbrev pub invariant-loop-row : goal.invariant-loop-row
-invariant-loop-row l = l.a ≡ reflect_rows l.top.n l.top.m l.i l.right l.u0 l.utu l.initial.a l.row
+invariant-loop-row l = l.a ≡ reflect_rows l.u.v.now l.u.first l.u.rest l.u.vtv l.initial.a l.row

@@ -6,4 +6,5 @@ pub dot-requires : goal.dot-requires
 dot-requires c = search (row-length, rules)
 
 pub returns : goal.returns
-returns c = search (row_norm-run, rules)
+returns c =
+    row_norm-run _ _ _ _ c.requires.1 c.args.t.now.holds _ c.row-row.ensures _ _ _ c.dot.ensures c.requires.0
