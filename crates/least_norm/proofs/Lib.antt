@@ -4,4 +4,5 @@ pub mod Blocks
 pub mod Rows
 pub mod Runs
 pub mod Single
+pub mod Pairs
 pub mod Starts

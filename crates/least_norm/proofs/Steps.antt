@@ -4,10 +4,10 @@ use Prim.Native.Nat.{ℕ, suc, ◌+◌, ◌-◌, ◌*◌, ◌≤◌, ◌<◌}
 use mathlib.Core.Path.{◌≡◌}
 use mathlib.Core.List.{List}
 use native.Mathlib.Numerals.{add-one}
-use lib.ListN.{get_or, set, replicate}
+use lib.ListN.{set, replicate}
 use lib.Ieee.{Float, nan}
 use Rattle.loops.specs.Updates.{updated}
-use Rattle.loops.proofs.Turns.{between-from, between_again, downward-from, downward_again, turns-from, turns_again}
+use Rattle.loops.proofs.Turns.{between-from, between_again, downward-from, downward_again}
 use Rattle.loops.proofs.Updates.{updated-start}
 use Rattle.floats.specs.Ops.{◌⊕◌, ◌⊖◌, ◌⊗◌, ◌⊘◌, at, 0ᶠ}
 use Rattle.least_norm.specs.LeastNorm as least
@@ -68,13 +68,3 @@ module _ (y₀ : List Float) (n rank : ℕ) (a b : List Float) where
       → set y (i - 1) (u ⊘ v) ≡ starts.substituted y₀ n rank a b (i - 1)
   unfolding starts.substituted
   substituted_again i y u v h g e f p = downward_again _ _ rank i y (set y (i - 1) (u ⊘ v)) h g e (rw (f, p))
-
-module _ (x₀ : List Float) (perm : List ℕ) (y : List Float) where
-  pub unpermuted-from : x₀ ≡ starts.unpermuted x₀ perm y 0
-  unfolding starts.unpermuted
-  unpermuted-from = turns-from _ _
-
-  pub unpermuted_again : (j p : ℕ) (x z : List Float) → z ≡ set x p (at y j) → p ≡ get_or perm j 0
-      → x ≡ starts.unpermuted x₀ perm y j → z ≡ starts.unpermuted x₀ perm y (j + 1)
-  unfolding starts.unpermuted
-  unpermuted_again j p x z g q e = turns_again _ _ j x z e (rw (← q) g)

@@ -1,6 +1,6 @@
 -- Words of private contracts: lengths and places, and the parts of the steps between which the code passes. No promise of a public call
 -- stands on them; those are in Promise.antt. Definitions only.
-use Rattle.std.specs.Prelude.{ℕ, suc, ◌+◌, ◌*◌, ◌≤◌, ◌<◌, ◌≡◌, Bool, true, false, cond, ◌&&◌, List, ltb, eqb, length, get_or, set, slice_range, Float}
+use Rattle.std.specs.Prelude.{ℕ, suc, ◌+◌, ◌*◌, ◌≤◌, ◌<◌, ◌≡◌, Bool, true, false, cond, ◌&&◌, List, [], ◌∷◌, ltb, eqb, length, get_or, set, slice_range, Float}
 use Rattle.std.specs.Float.{nan}
 use Rattle.std.specs.Float.Ieee.{lt, eq}
 use Rattle.loops.specs.Loops.{turns, between, swap}
@@ -31,6 +31,12 @@ row n i a = slice_range a (i * n) ((i + 1) * n)
 -- x has the places from lo up to hi
 abbrev pub Part : List Float → ℕ → ℕ → Type 0
 Part x lo hi = (lo ≤ hi) × (hi ≤ length x)
+
+-- s, then op with each product of the two lists' entries, from the left, as long as there are both
+unfoldable pub paired : (Float → Float → Float) → Float → List Float → List Float → Float
+paired op s [] y = s
+paired op s (a ∷ x) [] = s
+paired op s (a ∷ x) (b ∷ y) = paired op (op s (a ⊗ b)) x y
 
 -- room for the reduction: b has m entries, perm n, and v at least m
 abbrev pub Reducing : List Float → Size → List Float → List ℕ → List Float → Type 0

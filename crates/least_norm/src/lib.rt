@@ -49,8 +49,8 @@ fn count_up(perm: &mut [u8])
     requires { length perm.old ≤ 32 }
     ensures { perm.new ≡ tab (λ (i : ℕ). i) (length perm.old) }
 {
-    for i in 0..perm.len() {
-        perm[i] = i as u8;
+    for (i, column) in perm.iter_mut().enumerate() {
+        *column = i as u8;
     }
 }
 

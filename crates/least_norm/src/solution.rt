@@ -77,10 +77,10 @@ pub fn unpermute(perm: &[u8], y: &[f64], x: &mut [f64])
     ensures { x.new
         ≡ starts.unpermuted x.old perm.now y.now (length perm.now) }
 {
-    for (j, p) in perm.iter().enumerate() {
+    for (p, v) in perm.iter().zip(y) {
         let p = usize::from(*p);
         if p < x.len() {
-            x[p] = y[j];
+            x[p] = *v;
         }
     }
 }

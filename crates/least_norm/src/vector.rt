@@ -12,20 +12,20 @@ pub fn dot(s: f64, x: &[f64], y: &[f64], lo: usize, hi: usize) -> f64
     ensures { result ≡ sum s (λ (t : ℕ). at x.now t ⊗ at y.now t) lo hi }
 {
     let mut r = s;
-    for t in lo..hi {
-        r = r + x[t] * y[t];
+    for (a, b) in x[lo..hi].iter().zip(&y[lo..hi]) {
+        r = r + *a * *b;
     }
     r
 }
 
-// s - x[lo] * y[lo] - ..
+// s - x[lo] * y[lo] - .. Apart from `dot`: it differs in an operation, and a trait for the two would be longer than both.
 pub fn less_dot(s: f64, x: &[f64], y: &[f64], lo: usize, hi: usize) -> f64
     requires { Part x.now lo hi × Part y.now lo hi }
     ensures { result ≡ difference s (λ (t : ℕ). at x.now t ⊗ at y.now t) lo hi }
 {
     let mut r = s;
-    for t in lo..hi {
-        r = r - x[t] * y[t];
+    for (a, b) in x[lo..hi].iter().zip(&y[lo..hi]) {
+        r = r - *a * *b;
     }
     r
 }
@@ -36,6 +36,7 @@ pub fn less_scaled(x: &mut [f64], f: f64, y: &[f64], lo: usize)
     requires { (lo ≤ length x.old) × (length x.old ≤ length y.now) }
     ensures { x.new ≡ less (λ (t : ℕ). t) f (λ (t : ℕ). at y.now t) lo (length x.old) x.old }
 {
+    // By index: of what `iter_mut().zip(..)` writes a proof knows nothing (tried).
     for t in lo..x.len() {
         x[t] = x[t] - f * y[t];
     }

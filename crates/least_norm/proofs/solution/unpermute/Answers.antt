@@ -1,17 +1,23 @@
-use borrow.Author.Rules.{rules}
+use Rattle.std.proofs.Math.Logic.{⊎_elim}
 use mathlib.Core.Path.{sym, ◌∙◌}
-use lib.Seq.{set_out}
-use Rattle.least_norm.proofs.Steps.{unpermuted-from, unpermuted_again}
-use Rattle.least_norm.proofs.solution.unpermute.Goals.{then-p-x, else-p-x}
+use Rattle.least_norm.specs.Starts.{scattered}
+use Rattle.least_norm.proofs.Pairs.{scattered-ended, scattered-ended-2, scattered_out, scattered-is}
 use Rattle.least_norm.proofs.solution.unpermute.Goals as goal
 
-pub loop-j-init : goal.loop-j-init
-loop-j-init c = search (unpermuted-from, rules)
+pub loop-p-preserved-then-p-x : goal.loop-p-preserved-then-p-x
+unfolding scattered
+loop-p-preserved-then-p-x c =
+    rw c.from-p.ensures (rw (c.in-Some.ensures.steps.0, c.in-Some.ensures.steps.1) at c.loop-p.invariant)
 
--- where there is no such place of x, to set it is nothing
-pub loop-j-preserved : goal.loop-j-preserved
-loop-j-preserved c =
-    elim c.if-p-x.branch [
-      | then-p-x w ↦ unpermuted_again _ _ _ _ _ _ _ w.x-is c.from-p.ensures c.loop-j.invariant
-      | else-p-x w ↦ unpermuted_again _ _ _ _ _ _ _ (w.x-is ∙ sym (set_out _ _ _ w.if-p-x.false)) c.from-p.ensures c.loop-j.invariant
-    ]
+pub loop-p-preserved : goal.loop-p-preserved
+loop-p-preserved c =
+    (rw (c.in-Some.ensures.steps.0, c.in-Some.ensures.steps.1) at c.loop-p.invariant)
+    ∙ scattered_out _ _ _ _ _ (rw c.from-p.ensures at c.if-p-x.false)
+
+pub returns : goal.returns
+returns c =
+    ⊎_elim
+    (λ e. scattered-ended _ _ _ e.1.0 ∙ sym c.loop-p.invariant)
+    (λ e. scattered-ended-2 _ _ _ e.1.0 ∙ sym c.loop-p.invariant)
+    c.in-None.ensures.steps
+    ∙ scattered-is _ _ _ c.requires.0

@@ -1,6 +1,6 @@
 use Rattle.std.proofs.Common.{◌≡◌}
-use Rattle.least_norm.specs.Starts.{unpermuted}
+use Rattle.least_norm.specs.Starts.{scattered}
 use Rattle.least_norm.proofs.solution.unpermute.Given as goal
 
-abbrev pub invariant-loop-j : goal.invariant-loop-j
-invariant-loop-j l = l.x ≡ unpermuted l.initial.x l.perm l.y l.j
+abbrev pub invariant-loop-p : goal.invariant-loop-p
+invariant-loop-p l = scattered l.initial.x l.perm l.y ≡ scattered l.x l.p-iterator.a.rest.now l.p-iterator.b.rest.now

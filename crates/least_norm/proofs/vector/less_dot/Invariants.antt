@@ -1,7 +1,9 @@
-use Rattle.std.proofs.Common.{◌≡◌, ℕ}
-use Rattle.floats.specs.Ops.{at, ◌⊗◌}
-use Rattle.floats.specs.Sums.{difference}
+use Rattle.std.proofs.Common.{◌≡◌}
+use Rattle.std.specs.Prelude.{slice_range}
+use lib.Ieee.{binary64, sub}
+use Rattle.least_norm.specs.Private.{paired}
 use Rattle.least_norm.proofs.vector.less_dot.Given as goal
 
-abbrev pub invariant-loop-t : goal.invariant-loop-t
-invariant-loop-t l = l.r ≡ difference l.s (λ (t : ℕ). at l.x t ⊗ at l.y t) l.lo l.t
+abbrev pub invariant-loop-a : goal.invariant-loop-a
+invariant-loop-a l =
+    paired (sub binary64) l.s (slice_range l.x l.lo l.hi) (slice_range l.y l.lo l.hi) ≡ paired (sub binary64) l.r l.a-iterator.a.rest.now l.a-iterator.b.rest.now
