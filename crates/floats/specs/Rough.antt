@@ -1,6 +1,6 @@
 -- A rough square root, from which the code of the root starts. It decides how soon a root is found and no result: every root is `sqrt`, whatever was guessed.
 -- A reader of the promises may pass it over. Definitions only.
-use Rattle.std.specs.Prelude.{ℕ, ◌-◌, ◌/◌, cond, ltb, Float}
+use Rattle.std.specs.Prelude.{ℕ, ◌-◌, ◌/◌, cond, ltb, Option, Some, None, Float}
 use Rattle.std.specs.Float.{binary64}
 use Rattle.std.specs.Float.Ieee.{of_bits, to_bits, lt}
 use Rattle.floats.specs.Ops.{◌⊗◌, ◌⊖◌, 0ᶠ}
@@ -26,6 +26,7 @@ approximated x v = v ⊗ newton above (v ⊗ half) (newton middle (v ⊗ half) (
 abbrev pub approximate : ℕ → Float
 approximate x = approximated x (of_bits binary64 x)
 
--- of a positive finite value; 0 of others
-unfoldable pub rough : Float → Float
-rough v = cond (lt 0ᶠ v) (cond (ltb (to_bits binary64 v) 0x7ff0_0000_0000_0000) (approximate (to_bits binary64 v)) 0ᶠ) 0ᶠ
+-- of a positive finite value; none of others
+unfoldable pub rough : Float → Option Float
+rough v =
+    cond (lt 0ᶠ v) (cond (ltb (to_bits binary64 v) 0x7ff0_0000_0000_0000) (Some (approximate (to_bits binary64 v))) None) None

@@ -104,26 +104,24 @@ pub fn sqrt(v: f64) -> f64
     sqrt_guessed(v, None)
 }
 
-// The same, sooner where near is at most a little off.
-pub fn sqrt_near(v: f64, near: f64) -> f64
+// The same, sooner where near is at most a little off. A guess that is not positive is passed over.
+pub fn sqrt_near(v: f64, near: Option<f64>) -> f64
     ensures { result ≡ root.sqrt v }
 {
-    if near > 0.0 {
-        return sqrt_guessed(v, Some(near));
-    }
-    sqrt_guessed(v, None)
+    sqrt_guessed(v, near.filter(|guess| *guess > 0.0))
 }
 
-// A rough square root of v for `sqrt_near`, or 0. It can be found early, while the value that it is near to is awaited.
+// A rough square root of v for `sqrt_near`, where v is positive and finite. It can be found early, while the value that
+// it is near to is awaited.
 #[tactic(auto, using(crate::proofs::SquareRoot::Branches::no_nan), unfolding(crate::specs::Rough::rough))]
-pub fn sqrt_rough(v: f64) -> f64
+pub fn sqrt_rough(v: f64) -> Option<f64>
     ensures { result ≡ rough.rough v }
 {
     if v > 0.0 {
         let b = v.to_bits();
         if b < root::INFINITY_BITS {
-            return root::approximate(b);
+            return Some(root::approximate(b));
         }
     }
-    0.0
+    None
 }

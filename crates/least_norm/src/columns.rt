@@ -28,7 +28,7 @@ fn copy_column(a: &MatrixView, j: usize, v: &mut [f64])
 }
 
 // Column j's reflector, left in v from row j down. The column's norm may be guessed to be near.
-fn householder(a: &MatrixView, j: usize, v: &mut [f64], near: f64) -> Householder
+fn householder(a: &MatrixView, j: usize, v: &mut [f64], near: Option<f64>) -> Householder
     requires { (j < a.now.size.n) × (j < a.now.size.m) × (a.now.size.m ≤ length v.old) }
     ensures { Reflects a.now.entries.now a.now.size.m a.now.size.n j result v.new }
 {
@@ -126,7 +126,7 @@ fn zero_below(a: &mut [f64], size: Size, j: usize)
 
 // Column j's reflector applied to the columns after it, four at a time and then one by one, and to b, a matrix of one
 // column. The column's norm may be guessed to be near.
-pub fn eliminate(a: &mut [f64], size: Size, j: usize, b: &mut [f64], v: &mut [f64], near: f64)
+pub fn eliminate(a: &mut [f64], size: Size, j: usize, b: &mut [f64], v: &mut [f64], near: Option<f64>)
     requires { Matrix a.old size × (j < size.m) × (j < size.n) × (length b.old ≡ size.m)
         × (size.m ≤ length v.old) }
     ensures { (p : List ℕ)

@@ -16,7 +16,7 @@ pub fn solve(a: &mut [f64], b: &mut [f64], x: &mut [f64]) -> usize
     if 0.0 + alpha * alpha == 0.0 {
         return 0;
     }
-    let beta = reflect::beta(alpha, 0.0, 0.0);
+    let beta = reflect::beta(alpha, 0.0, None);
     let v0 = alpha - beta;
     let f = 2.0 * (v0 * b[0]) / (v0 * v0 + 0.0);
     b[0] = b[0] - f * v0;

@@ -33,7 +33,7 @@ impl<'a> Reflector<'a> {
 
 // The root of alpha² + sigma, which may be guessed to be near. Where sigma is 0, as in a square system's last step, it
 // is alpha's magnitude, unless the square leaves the range in which that is so.
-fn norm(alpha: f64, sigma: f64, near: f64) -> f64
+fn norm(alpha: f64, sigma: f64, near: Option<f64>) -> f64
     ensures { result ≡ sqrt (alpha ⊗ alpha ⊕ sigma) }
 {
     if sigma == 0.0 {
@@ -41,14 +41,14 @@ fn norm(alpha: f64, sigma: f64, near: f64) -> f64
         if size > 1e-140 && size < 1e140 {
             return size;
         }
-        return floats::sqrt_near(alpha * alpha + sigma, size);
+        return floats::sqrt_near(alpha * alpha + sigma, Some(size));
     }
     floats::sqrt_near(alpha * alpha + sigma, near)
 }
 
 // The same with the sign that alpha does not have.
 #[tactic(auto, unfolding(crate::specs::Reflector::beta))]
-pub fn beta(alpha: f64, sigma: f64, near: f64) -> f64
+pub fn beta(alpha: f64, sigma: f64, near: Option<f64>) -> f64
     ensures { result ≡ reflector.beta alpha sigma }
 {
     let root = norm(alpha, sigma, near);

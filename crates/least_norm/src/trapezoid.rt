@@ -66,7 +66,7 @@ fn clear_row(a: &mut [f64], top: Size, i: usize, right: &mut [f64])
     if sigma == 0.0 {
         return;
     }
-    let u0 = alpha - reflect::beta(alpha, sigma, 0.0);
+    let u0 = alpha - reflect::beta(alpha, sigma, None);
     right[top.place(i, i)] = u0;
     keep_row(&t, i, right);
     let kept = MatrixView {
