@@ -126,7 +126,14 @@ fn zero_below(a: &mut [f64], size: Size, j: usize)
 
 // Column j's reflector applied to the columns after it, four at a time and then one by one, and to b, a matrix of one
 // column. The column's norm may be guessed to be near.
-pub fn eliminate(a: &mut [f64], size: Size, j: usize, b: &mut [f64], v: &mut [f64], near: Option<f64>)
+pub fn eliminate(
+    a: &mut [f64],
+    size: Size,
+    j: usize,
+    b: &mut [f64],
+    v: &mut [f64],
+    near: Option<f64>,
+)
     requires { Matrix a.old size × (j < size.m) × (j < size.n) × (length b.old ≡ size.m)
         × (size.m ≤ length v.old) }
     ensures { (p : List ℕ)

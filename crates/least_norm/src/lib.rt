@@ -23,6 +23,16 @@ mod vector;
 use refusals::Refusal;
 use size::{MatrixView, Size};
 
+// The most rows, and the most columns.
+pub const MAX_SIZE: usize = 32;
+
+// The workspace of a solve: room for the reflectors from the right, 32 of 32 entries, and 32 values more, which document
+// 01 asks for.
+pub const WORKSPACE: usize = 1056;
+
+// What a diagonal entry must be above to count to the rank, over the first.
+const RANK_TOLERANCE: f64 = 1e-11;
+
 // A column and its squared norm.
 #[derive(Clone, Copy)]
 pub struct Pivot {
@@ -205,12 +215,12 @@ fn least_norm(
 fn fits(a: &[f64], m: usize, n: usize, b: &[f64], x: &[f64], workspace: &[f64]) -> bool
     ensures { result ≡ promise.fits m n a.now b.now x.now (length workspace.now) }
 {
-    m <= 32
-        && n <= 32
+    m <= MAX_SIZE
+        && n <= MAX_SIZE
         && a.len() == m * n
         && b.len() == m
         && x.len() == n
-        && workspace.len() >= 1056
+        && workspace.len() >= WORKSPACE
 }
 
 #[derive(Clone, Copy)]
@@ -240,8 +250,8 @@ impl LeastNorm {
         if a.len() == 1 {
             return Ok(one::solve(a, b, x));
         }
-        let mut perm = [0u8; 32];
-        let mut v = [0.0f64; 32];
+        let mut perm = [0u8; MAX_SIZE];
+        let mut v = [0.0f64; MAX_SIZE];
         Ok(least_norm(a, Size { m, n }, b, x, workspace, &mut perm[..n], &mut v))
     }
 }

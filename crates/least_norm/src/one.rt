@@ -2,7 +2,7 @@
 ghost use Rattle.std.specs.Prelude.{◌≡◌, ◌≤◌, length};
 ghost use Rattle.least_norm.specs.LeastNorm as least;
 
-use crate::reflect;
+use crate::{RANK_TOLERANCE, reflect};
 
 // LeastNorm::solve for one row and one column. The steps are those of the whole, in their order.
 pub fn solve(a: &mut [f64], b: &mut [f64], x: &mut [f64]) -> usize
@@ -22,7 +22,7 @@ pub fn solve(a: &mut [f64], b: &mut [f64], x: &mut [f64]) -> usize
     b[0] = b[0] - f * v0;
     a[0] = beta;
     let size = floats::abs(beta);
-    if size > 0.00000000001 * size {
+    if size > RANK_TOLERANCE * size {
         x[0] = b[0] / beta;
         return 1;
     }

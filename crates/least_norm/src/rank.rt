@@ -3,6 +3,7 @@ ghost use Rattle.std.specs.Prelude.{◌≡◌, ◌≤◌, ◌<◌};
 ghost use Rattle.least_norm.specs.LeastNorm as least;
 ghost use Rattle.least_norm.specs.Private as private;
 
+use crate::RANK_TOLERANCE;
 use crate::size::MatrixView;
 
 #[tactic(auto, unfolding(crate::specs::Private::leads))]
@@ -12,7 +13,7 @@ fn leads(a: &MatrixView, i: usize) -> bool
 {
     let largest = floats::abs(a.entries[0]);
     let this = floats::abs(a.at(i, i));
-    this > 0.00000000001 * largest
+    this > RANK_TOLERANCE * largest
 }
 
 // How many of the first k entries lead before one does not.
