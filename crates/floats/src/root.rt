@@ -15,41 +15,47 @@ const HIDDEN_BIT: u64 = 0x10_0000_0000_0000;
 // The pattern of the infinity.
 pub const INFINITY_BITS: u64 = 0x7ff0_0000_0000_0000;
 
-// The whole part of √(s * 2^54).
-fn digits(s: u64) -> u64
-    requires { s < 2 ^ 54 }
-    ensures { private.Whole (s * 2 ^ 54) result }
-{
-    (u128::from(s) << 54).isqrt() as u64
+// A whole number s of at most 54 digits, of whose 2^54-fold the root is looked for.
+#[derive(Clone, Copy)]
+struct Radicand {
+    s: u64,
+    ghost few: { s < 2 ^ 54 },
 }
 
-// The same from a guess a at the whole part of √s, where that is good: s = a * a + u with u <= 2 * a. Then b, 27 more
-// digits, come by a division, as s * 2^54 = (a * 2^27 + b)^2 + w * 2^27 - b * b.
-fn refined(s: u64, a: u64) -> Option<u64>
-    requires { s < 2 ^ 54 }
-    ensures { IfSome result (private.Whole (s * 2 ^ 54)) }
-{
-    if a < 0x400_0000 || a >= 0x800_0000 {
-        return None;
+impl Radicand {
+    // The whole part of √(s * 2^54).
+    fn digits(self) -> u64
+        ensures { private.Whole (self.s * 2 ^ 54) result }
+    {
+        (u128::from(self.s) << 54).isqrt() as u64
     }
-    let u = s.checked_sub(a * a)?;
-    let d = 2 * a;
-    if d < u {
-        return None;
-    }
-    let y = u * 0x800_0000;
-    let b = y / d;
-    let w = y - b * d;
-    let p = a * 0x800_0000 + b;
-    Some(if b * b <= w * 0x800_0000 { p } else { p - 1 })
-}
 
-// The same, from any guess.
-fn refine(s: u64, a: u64) -> u64
-    requires { s < 2 ^ 54 }
-    ensures { private.Whole (s * 2 ^ 54) result }
-{
-    refined(s, a).unwrap_or_else(|| digits(s))
+    // The same from a guess a at the whole part of √s, where that is good: s = a * a + u with u <= 2 * a. Then b, 27
+    // more digits, come by a division, as s * 2^54 = (a * 2^27 + b)^2 + w * 2^27 - b * b.
+    fn refined(self, a: u64) -> Option<u64>
+        ensures { IfSome result (private.Whole (self.s * 2 ^ 54)) }
+    {
+        if a < 0x400_0000 || a >= 0x800_0000 {
+            return None;
+        }
+        let u = self.s.checked_sub(a * a)?;
+        let d = 2 * a;
+        if d < u {
+            return None;
+        }
+        let y = u * 0x800_0000;
+        let b = y / d;
+        let w = y - b * d;
+        let p = a * 0x800_0000 + b;
+        Some(if b * b <= w * 0x800_0000 { p } else { p - 1 })
+    }
+
+    // The same, from any guess.
+    fn refine(self, a: u64) -> u64
+        ensures { private.Whole (self.s * 2 ^ 54) result }
+    {
+        self.refined(a).unwrap_or_else(|| self.digits())
+    }
 }
 
 // A guess at the root of the value whose pattern is x: three steps of Newton's method for 1 / √x, each written so that
@@ -96,9 +102,9 @@ pub fn root_bits(b: u64, near: Option<f64>) -> u64
     ensures { (of_bits binary64 result ≡ root.sqrt (of_bits binary64 b)) × (result < INFINITY_BITS) }
 {
     let (s, e) = scaled(b);
-    let even = s << (e % 2);
+    let even = Radicand { s: s << (e % 2) };
     let guess = near.unwrap_or_else(|| approximate((1074 + e % 2) * HIDDEN_BIT + s));
     // p has 54 digits, and the last rounds
-    let p = refine(even, leading(guess));
+    let p = even.refine(leading(guess));
     (e / 2 - 26) * HIDDEN_BIT + (p + 1) / 2
 }
