@@ -1,5 +1,6 @@
 // The least-norm solution of a linear system of at most 32 rows and 32 columns by a complete orthogonal decomposition
-// (dense.rs), held to the definitions of specs/.
+// (dense.rs), held to the definitions of specs/. Loops that write, and those down a column, go by index: of what
+// `iter_mut().zip(..)` writes a proof knows nothing, and a column's entries stand n apart.
 #![tactic(auto)]
 
 ghost use Rattle.std.specs.Prelude.{◌≡◌, ℕ, ◌+◌, ◌*◌, ◌≤◌, ◌<◌, min, length, drop, replicate};
@@ -90,6 +91,8 @@ fn reduce(
 }
 
 // A P = Q R, Q applied to b as it is built. How many columns were reduced, of the first k.
+// The four lists stay apart, here and in `reduce`: a struct of `&mut` would have each function promise that the size and
+// every reference stay.
 fn reduce_columns(
     a: &mut [f64],
     size: Size,
@@ -229,7 +232,7 @@ pub struct LeastNorm {}
 impl LeastNorm {
     // Writes into x the x of least norm among those that minimize ‖A x − b‖, and returns the rank of A. a holds A, m
     // rows of n entries each, row by row. a and b are overwritten. The first 1,056 values of the workspace are free
-    // afterwards.
+    // afterwards. The lists stay apart: document 01 has separate lent slices, and C lends them so.
     #[tactic(auto, unfolding(crate::specs::Promise::reply))]
     pub fn solve(
         a: &mut [f64],
@@ -250,6 +253,7 @@ impl LeastNorm {
         if a.len() == 1 {
             return Ok(one::solve(a, b, x));
         }
+        // Fixed memory: the scratch is as long as the largest problem needs, and its front is in use.
         let mut perm = [0u8; MAX_SIZE];
         let mut v = [0.0f64; MAX_SIZE];
         Ok(least_norm(a, Size { m, n }, b, x, workspace, &mut perm[..n], &mut v))

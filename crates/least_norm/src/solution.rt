@@ -1,5 +1,6 @@
 // T w = c by back substitution, then the reflectors from the right, then the columns' order. `t` is the trapezoid: as
-// many rows as the rank.
+// many rows as the rank. y stays beside it, its length in each contract: it is written, and a struct that held it as a
+// `&mut` would have each function promise that the reference stays.
 ghost use Rattle.std.specs.Prelude.{◌≡◌, ◌≤◌, ◌<◌, length};
 ghost use Rattle.least_norm.specs.LeastNorm as least;
 ghost use Rattle.least_norm.specs.Starts as starts;
