@@ -27,8 +27,8 @@ use size::{MatrixView, Size};
 // The most rows, and the most columns.
 pub const MAX_SIZE: usize = 32;
 
-// The workspace of a solve: room for the reflectors from the right, 32 of 32 entries, and 32 values more, which document
-// 01 asks for.
+// The workspace of a solve: room for 32 reflectors from the right of 32 entries, and 32 values more, which document 01
+// asks for.
 pub const WORKSPACE: usize = 1056;
 
 // What a diagonal entry must be above to count to the rank, over the first.
@@ -90,9 +90,8 @@ fn reduce(
     true
 }
 
-// A P = Q R, Q applied to b as it is built. How many columns were reduced, of the first k.
-// The four lists stay apart, here and in `reduce`: a struct of `&mut` would have each function promise that the size and
-// every reference stay.
+// A P = Q R, Q applied to b as it is built. How many columns were reduced, of the first k. The four lists stay apart,
+// here and in `reduce`: a struct of `&mut` would have each function promise that the size and every reference stay.
 fn reduce_columns(
     a: &mut [f64],
     size: Size,

@@ -6,7 +6,8 @@ ghost use Rattle.least_norm.specs.Reflector as reflector;
 
 use crate::vector;
 
-// H = I - 2 v vᵀ / vᵀv, where v has its entry `first` and those from `rest` on: what else stands in the list counts as zero.
+// H = I - 2 v vᵀ / vᵀv, where v has its entry `first` and those from `rest` on: what else stands in the list counts as
+// zero.
 #[derive(Clone, Copy)]
 pub struct Reflector<'a> {
     pub v: &'a [f64],

@@ -2,8 +2,8 @@
 // i * n + c.
 ghost use Rattle.std.specs.Prelude.{◌*◌, ◌≤◌, length};
 
-// m rows of n entries, few enough. Entries that are written are lent beside it: a struct that held them as a `&mut` would
-// have each function that writes promise that m, n and the reference stay.
+// m rows of n entries, few enough. Entries that are written are lent beside it: a struct that held them as a `&mut`
+// would have each function that writes promise that m, n and the reference stay.
 #[derive(Clone, Copy)]
 pub struct Size {
     pub m: usize,

@@ -1,6 +1,6 @@
 // [R₁₁ R₁₂] Z = [T 0]: each row's entries past the rank are cleared by a reflector from the right, from the last row
-// up. Row i of `right` keeps reflector i. `top` is the trapezoid's size: as many rows as the rank. a and right stay beside
-// it, as they are written, for the reason that Size has.
+// up. Row i of `right` keeps reflector i. `top` is the trapezoid's size: as many rows as the rank. a and right stay
+// beside it, as they are written, for the reason that Size has.
 ghost use Rattle.std.specs.Prelude.{◌≡◌, suc, ◌*◌, ◌≤◌, ◌<◌, length, replicate};
 ghost use Rattle.floats.specs.Ops.{0ᶠ};
 ghost use Rattle.least_norm.specs.LeastNorm as least;

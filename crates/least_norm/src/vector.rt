@@ -18,7 +18,8 @@ pub fn dot(s: f64, x: &[f64], y: &[f64], lo: usize, hi: usize) -> f64
     r
 }
 
-// s - x[lo] * y[lo] - .. Apart from `dot`: it differs in an operation, and a trait for the two would be longer than both.
+// s - x[lo] * y[lo] - .. Apart from `dot`: it differs in an operation, and a trait for the two would be longer than
+// both.
 pub fn less_dot(s: f64, x: &[f64], y: &[f64], lo: usize, hi: usize) -> f64
     requires { Part x.now lo hi × Part y.now lo hi }
     ensures { result ≡ difference s (λ (t : ℕ). at x.now t ⊗ at y.now t) lo hi }
