@@ -15,7 +15,7 @@ use Rattle.exact_pass.specs.Walk as walks
 use Rattle.exact_pass.specs.Promise as promise
 use Rattle.exact_pass.specs.Promise.{WORKSPACE}
 use Rattle.exact_pass.specs.Below.{Below}
-use Rattle.exact_pass.specs.declared.free_rows.FreeRows.{FreeRows}
+use Rattle.exact_pass.specs.declared.row_values.RowValues.{RowValues}
 use Rattle.exact_pass.specs.declared.RayRows.{RayRows}
 use Rattle.exact_pass.specs.declared.Residuals.{Residuals}
 use Rattle.exact_pass.specs.declared.Worst.{Worst}
@@ -53,13 +53,6 @@ pub record Copied (from : List Float) (a : ℕ) (to₀ to : List Float) : Type 0
   pub after : drop (a + length from) to ≡ drop (a + length from) to₀
 
 -- ---- what the functions are lent
-
--- the states and multipliers of a problem, and the workspace, where the system of its free rows is solved
-pub record SystemLent (f : FreeRows) (st : List ℕ) (nu work : List Float) : Type 0 where
-  pub states : length st ≡ length f.problem.now.u_free.now
-  pub multipliers : length nu ≡ length f.problem.now.u_free.now
-  pub few : length f.rows.now ≤ box.MAX_ROWS
-  pub workspace : WORKSPACE ≤ length work
 
 -- a system of k rows, at most 32, a place for each value of its solution, and the workspace of a least-norm call
 pub record SolveLent (k : ℕ) (m z work : List Float) : Type 0 where
@@ -132,11 +125,12 @@ pub record Directed (t : pass.Target) (scale : List Float) (l : List ℕ) (nu wo
   pub inconsistent : b ≡ t.inconsistent
   pub workspace : drop MARKED work' ≡ drop MARKED work
 
--- the same for the target of the system of the rows f
-abbrev pub DirectedTo : FreeRows → List ℕ → List Float → List Float → Bool → List Float → Type 0
-DirectedTo f st nu work b work' =
-    let p = f.problem.now in
-    Directed (pass.target p.w.now p.u_free.now p.scale.now st nu f.rows.now) p.scale.now f.rows.now nu work b work'
+-- the same for the target of the system of the free rows l, at the trial t
+abbrev pub DirectedTo : RowValues → List ℕ → List Float → Bool → List Float → Type 0
+DirectedTo t l work b work' =
+    let p = t.problem.now in
+    Directed (pass.target p.w.now p.u_free.now p.scale.now t.states.now t.values.now l) p.scale.now l t.values.now work b
+    work'
 
 -- the rows that a walk over n rows has, and their farthest; none where it was stopped
 abbrev pub Collected : Option RayRows → ℕ → walks.Walked → Type 0

@@ -2,8 +2,10 @@
 ghost use Rattle.std.specs.Prelude.{◌≡◌, ◌≤◌, ◌*◌, length};
 ghost use Rattle.exact_pass.specs.Pass as pass;
 ghost use Rattle.exact_pass.specs.Private as private;
+ghost use Rattle.exact_pass.specs.Below.{Below};
 
-use crate::free_rows::FreeRows;
+use crate::free_rows::{FreeRows, Solution};
+use crate::row_values::RowValues;
 use crate::{DIRECTION, RIGHT_HAND_SIDE, system};
 use box_rows::MAX_ROWS;
 
@@ -15,19 +17,19 @@ const MEDIUM: usize = 8;
 
 // y is what the solution z leaves; where there is a target, it becomes the direction to it.
 #[tactic(auto, using(crate::proofs::Loops::filling), unfolding(crate::specs::Pass::direction))]
-fn direction(inconsistent: bool, free: &FreeRows, z: &[f64], nu: &[f64], y: &mut [f64])
-    requires multipliers { length nu.now ≡ length free.now.problem.now.u_free.now }
-    requires solution { length z.now ≡ length free.now.rows.now }
-    requires place { length y.old ≡ length free.now.rows.now }
-    ensures { y.new ≡ pass.direction inconsistent free.now.problem.now.scale.now free.now.rows.now z.now nu.now y.old }
+fn direction(inconsistent: bool, s: &Solution, y: &mut [f64])
+    requires place { length y.old ≡ length s.now.free.now.rows.now }
+    ensures { y.new
+        ≡ pass.direction inconsistent s.now.free.now.trial.problem.now.scale.now s.now.free.now.rows.now s.now.z.now
+        s.now.free.now.trial.values.now y.old }
 {
     if inconsistent {
         return;
     }
-    let scale = free.problem.scale;
-    for (i, row) in free.rows.iter().enumerate() {
+    let trial = s.free.trial;
+    for (i, row) in s.free.rows.iter().enumerate() {
         let a = *row as usize;
-        y[i] = scale[a] * z[i] - nu[a];
+        y[i] = trial.problem.scale[a] * s.z[i] - trial.values[a];
     }
 }
 
@@ -35,71 +37,65 @@ fn direction(inconsistent: bool, free: &FreeRows, z: &[f64], nu: &[f64], y: &mut
 // leaves of it, where it is too much; whether it is. m, y and z are scratch for as many rows as are free.
 fn from_system(
     free: &FreeRows,
-    states: &[u8],
-    nu: &[f64],
     m: &mut [f64],
     y: &mut [f64],
     z: &mut [f64],
     work: &mut [f64],
 ) -> bool
-    requires system { private.SystemLent free.now states.now nu.now work.old }
+    requires workspace { 1120 ≤ length work.old }
     requires matrix { length m.old ≡ length free.now.rows.now * length free.now.rows.now }
     requires direction { length y.old ≡ length free.now.rows.now }
     requires solution { length z.old ≡ length free.now.rows.now }
-    ensures { private.DirectedTo free.now states.now nu.now work.old result work.new }
+    ensures { private.DirectedTo free.now.trial free.now.rows.now work.old result work.new }
 {
-    system::right_hand_side(free, states, nu, y);
+    // A copy of its own: behind the reference each turn of a loop that writes would read it again.
+    let free = *free;
+    system::right_hand_side(&free, y);
     crate::store(y, work, RIGHT_HAND_SIDE);
-    system::matrix(free, m);
+    system::matrix(&free, m);
     system::solve(m, y, z, work);
-    let inconsistent = system::residual(free, work, z, y);
-    direction(inconsistent, free, z, nu, y);
+    let solution = Solution { free: &free, z };
+    let inconsistent = system::residual(&solution, work, y);
+    direction(inconsistent, &solution, y);
     crate::store(y, work, DIRECTION);
     inconsistent
 }
 
 // The same in scratch for N rows, of NN entries.
-fn in_scratch<const N: usize, const NN: usize>(
-    free: &FreeRows,
-    states: &[u8],
-    nu: &[f64],
-    work: &mut [f64],
-) -> bool
-    requires system { private.SystemLent free.now states.now nu.now work.old }
+fn in_scratch<const N: usize, const NN: usize>(free: &FreeRows, work: &mut [f64]) -> bool
+    requires workspace { 1120 ≤ length work.old }
     requires few { length free.now.rows.now ≤ N }
     requires square { N * N ≤ NN }
     requires most { NN ≤ 1024 }
-    ensures { private.DirectedTo free.now states.now nu.now work.old result work.new }
+    ensures { private.DirectedTo free.now.trial free.now.rows.now work.old result work.new }
 {
     let k = free.rows.len();
     let mut m = [0.0f64; NN];
     let mut y = [0.0f64; N];
     let mut z = [0.0f64; N];
-    from_system(
-        free,
-        states,
-        nu,
-        &mut m[..k * k],
-        &mut y[..k],
-        &mut z[..k],
-        work,
-    )
+    from_system(free, &mut m[..k * k], &mut y[..k], &mut z[..k], work)
 }
 
 // The direction of the free rows, left in the workspace, and whether their system is inconsistent: in scratch of the
 // smallest size that holds them.
-pub fn of_free_rows(free: &FreeRows, states: &[u8], nu: &[f64], work: &mut [f64]) -> bool
-    requires { private.SystemLent free.now states.now nu.now work.old }
-    ensures { private.DirectedTo free.now states.now nu.now work.old result work.new }
+pub fn of_free_rows(trial: &RowValues, rows: &[u8], work: &mut [f64]) -> bool
+    requires below { Below (length trial.now.problem.now.u_free.now) rows.now }
+    requires few { length rows.now ≤ 32 }
+    requires workspace { 1120 ≤ length work.old }
+    ensures { private.DirectedTo trial.now rows.now work.old result work.new }
 {
-    let k = free.rows.len();
+    let free = FreeRows {
+        trial: *trial,
+        rows,
+    };
+    let k = rows.len();
     if k <= SMALL {
-        return in_scratch::<SMALL, 4>(free, states, nu, work);
+        return in_scratch::<SMALL, 4>(&free, work);
     }
     if k <= MEDIUM {
-        return in_scratch::<MEDIUM, 64>(free, states, nu, work);
+        return in_scratch::<MEDIUM, 64>(&free, work);
     }
-    in_scratch::<MAX_ROWS, 1024>(free, states, nu, work)
+    in_scratch::<MAX_ROWS, 1024>(&free, work)
 }
 
 // The longest step: to the target, or without end.

@@ -11,6 +11,7 @@ ghost use Rattle.exact_pass.specs.Promise as promise;
 use arrayvec::ArrayVec;
 use box_rows::MAX_ROWS;
 use box_rows::problem::BoxProblem;
+use row_values::RowValues;
 
 // The steps of a pass: start, free_rows, system, direction, ratio, release, rays where no bound is met, and cycles;
 // steps is one step and the run of them.
@@ -20,6 +21,7 @@ mod free_rows;
 mod ratio;
 mod rays;
 mod release;
+mod row_values;
 mod start;
 mod steps;
 mod system;
@@ -169,7 +171,12 @@ pub fn ray_of(p: &BoxProblem, states: &[u8], y: &[f64], rows: &mut [usize]) -> O
         rows.old result rows.new }
 {
     if fits(p, states.len(), y.len(), rows.len()) {
-        return rays::ray(p, states, y, rows);
+        let motion = RowValues {
+            problem: p,
+            states,
+            values: y,
+        };
+        return rays::ray(&motion, rows);
     }
     None
 }

@@ -1,22 +1,20 @@
 // The ratio test, and the step that it allows.
 ghost use Rattle.std.specs.Prelude.{◌≡◌, length};
 ghost use Rattle.exact_pass.specs.Pass as pass;
-ghost use Rattle.exact_pass.specs.Below.{Below};
 
-use crate::free_rows::FreeRows;
+use crate::free_rows::Direction;
 use box_rows::Blocking;
 
 // How far the boxes let the free rows go in the direction y, and no farther than alpha.
 #[tactic(auto, using(crate::proofs::Loops::turning), unfolding(crate::specs::Pass::ratio_test))]
-pub fn ratio_test(free: &FreeRows, nu: &[f64], y: &[f64], alpha: f64) -> Blocking
-    requires multipliers { length nu.now ≡ length free.now.problem.now.u_free.now }
-    requires direction { length y.now ≡ length free.now.rows.now }
-    ensures { result ≡ pass.ratio_test free.now.problem.now.lo.now free.now.problem.now.hi.now free.now.rows.now nu.now
-        y.now alpha (length free.now.rows.now) }
+pub fn ratio_test(d: &Direction, nu: &[f64], alpha: f64) -> Blocking
+    requires multipliers { length nu.now ≡ length d.now.problem.now.u_free.now }
+    ensures { result ≡ pass.ratio_test d.now.problem.now.lo.now d.now.problem.now.hi.now d.now.rows.now nu.now
+        d.now.y.now alpha (length d.now.rows.now) }
 {
-    let p = free.problem;
+    let p = d.problem;
     let mut r = Blocking { alpha, block: None };
-    for (row, by) in free.rows.iter().zip(y) {
+    for (row, by) in d.rows.iter().zip(d.y) {
         let a = *row as usize;
         if let Some(nearer) = box_rows::ratio_row(a, nu[a], *by, p.lo[a], p.hi[a], r.alpha) {
             r = nearer;
@@ -27,12 +25,11 @@ pub fn ratio_test(free: &FreeRows, nu: &[f64], y: &[f64], alpha: f64) -> Blockin
 
 // The free rows moved by alpha times y.
 #[tactic(auto, using(crate::proofs::Loops::turning), unfolding(crate::specs::Pass::advance))]
-pub fn advance(free: &[u8], y: &[f64], alpha: f64, nu: &mut [f64])
-    requires rows { Below (length nu.old) free.now }
-    requires direction { length y.now ≡ length free.now }
-    ensures { nu.new ≡ pass.advance free.now y.now alpha nu.old (length free.now) }
+pub fn advance(d: &Direction, alpha: f64, nu: &mut [f64])
+    requires multipliers { length nu.old ≡ length d.now.problem.now.u_free.now }
+    ensures { nu.new ≡ pass.advance d.now.rows.now d.now.y.now alpha nu.old (length d.now.rows.now) }
 {
-    for (row, by) in free.iter().zip(y) {
+    for (row, by) in d.rows.iter().zip(d.y) {
         let a = *row as usize;
         nu[a] = nu[a] + alpha * *by;
     }

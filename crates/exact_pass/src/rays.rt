@@ -1,28 +1,33 @@
 // The ray test: whether the problem falls without end along a direction y, and the rows where y is not zero.
-ghost use Rattle.std.specs.Prelude.{◌≡◌, ◌≤◌, length};
+ghost use Rattle.std.specs.Prelude.{◌≡◌, ◌<◌, ◌≤◌, length};
 ghost use Rattle.box_rows.specs.Lent.{of};
 ghost use Rattle.exact_pass.specs.Ray as rays;
 ghost use Rattle.exact_pass.specs.Walk as walks;
 ghost use Rattle.exact_pass.specs.Promise as promise;
 ghost use Rattle.exact_pass.specs.Private as private;
 ghost use Rattle.exact_pass.specs.Below.{Below};
+ghost use Rattle.box_rows.specs.Rows as box;
+ghost use Rattle.floats.specs.Ops.{at};
 
+use crate::row_values::RowValues;
 use crate::{DIVERGENCE, EXACT_RESIDUAL, RayRows};
 use arrayvec::ArrayVec;
-use box_rows::problem::{BoxProblem, ProblemRow};
+use box_rows::problem::ProblemRow;
 use box_rows::{IDLE, grows, size_of};
 
 // The largest size of a row that acts.
 #[tactic(auto, using(crate::proofs::Loops::turning), unfolding(crate::specs::Private::largest, crate::specs::Private::largest_row))]
-fn largest(scale: &[f64], states: &[u8], y: &[f64]) -> f64
-    requires scales { length scale.now ≡ length y.now }
-    requires states { length states.now ≡ length y.now }
-    ensures { result ≡ private.largest scale.now states.now y.now (length y.now) }
+fn largest(motion: &RowValues) -> f64
+    ensures { result
+        ≡ private.largest motion.now.problem.now.scale.now motion.now.states.now motion.now.values.now
+        (length motion.now.values.now) }
 {
+    let scale = motion.problem.scale;
+    let states = motion.states;
     let mut worst = 0.0;
-    for a in 0..y.len() {
+    for (a, y) in motion.values.iter().enumerate() {
         if states[a] != IDLE {
-            worst = floats::larger(worst, size_of(y[a], scale[a]));
+            worst = floats::larger(worst, size_of(*y, scale[a]));
         }
     }
     worst
@@ -30,21 +35,21 @@ fn largest(scale: &[f64], states: &[u8], y: &[f64]) -> f64
 
 // The rows that count and their farthest, in one walk, or none where one that counts may not grow. A row does not count
 // where it is Idle or moves next to nothing.
-fn collect(p: &BoxProblem, states: &[u8], y: &[f64], least: f64) -> Option<RayRows>
-    requires states { length states.now ≡ length p.now.u_free.now }
-    requires direction { length y.now ≡ length p.now.u_free.now }
-    ensures { private.Collected result (length y.now)
-        (walks.walked p.now.lo.now p.now.hi.now p.now.scale.now states.now y.now
-        least (length y.now)) }
+fn collect(motion: &RowValues, least: f64) -> Option<RayRows>
+    ensures { private.Collected result (length motion.now.values.now)
+        (walks.walked motion.now.problem.now.lo.now motion.now.problem.now.hi.now motion.now.problem.now.scale.now
+        motion.now.states.now motion.now.values.now least (length motion.now.values.now)) }
 {
+    let p = motion.problem;
+    let states = motion.states;
     let mut rows = ArrayVec::new();
     let mut farthest = 0.0;
-    for a in 0..y.len() {
-        let size = size_of(y[a], p.scale[a]);
+    for (a, y) in motion.values.iter().enumerate() {
+        let size = size_of(*y, p.scale[a]);
         if states[a] == IDLE || size <= least {
             continue;
         }
-        if !grows(y[a], p.lo[a], p.hi[a]) {
+        if !grows(*y, p.lo[a], p.hi[a]) {
             return None;
         }
         rows.push(a);
@@ -53,49 +58,64 @@ fn collect(p: &BoxProblem, states: &[u8], y: &[f64], least: f64) -> Option<RayRo
     Some(RayRows { rows, farthest })
 }
 
-// lin: u_free times y, summed over the rows of l.
+// A direction, and the rows of the ray along it.
+#[derive(Clone, Copy)]
+pub struct Along<'a> {
+    pub motion: &'a RowValues<'a, 'a, 'a, 'a>,
+    pub rows: &'a [usize],
+    pub ghost below: { Below (length motion.now.values.now) rows.now },
+}
+
+// lin: u_free times the direction, summed over the rows of the ray.
 #[tactic(auto, using(crate::proofs::Loops::turning), unfolding(crate::specs::Private::linear))]
-fn linear(u_free: &[f64], y: &[f64], l: &[usize]) -> f64
-    requires lists { length u_free.now ≡ length y.now }
-    requires below { Below (length y.now) l.now }
-    ensures { result ≡ private.linear u_free.now y.now l.now (length l.now) }
+fn linear(ray: &Along) -> f64
+    ensures { result
+        ≡ private.linear ray.now.motion.now.problem.now.u_free.now ray.now.motion.now.values.now ray.now.rows.now
+        (length ray.now.rows.now) }
 {
+    let u_free = ray.motion.problem.u_free;
+    let y = ray.motion.values;
     let mut s = 0.0;
-    for row in l {
+    for row in ray.rows {
         s = s + u_free[*row] * y[*row];
     }
     s
 }
 
-// quad with one row of the matrix more, whose own place in y holds v.
+// quad with row a of the matrix more.
 #[tactic(auto, using(crate::proofs::Loops::turning), unfolding(crate::specs::Private::quadratic_row))]
-fn quadratic_row(row: &[f64], v: f64, y: &[f64], l: &[usize], quad: f64) -> f64
-    requires lists { length row.now ≡ length y.now }
-    requires below { Below (length y.now) l.now }
-    ensures { result ≡ private.quadratic_row row.now v y.now l.now quad (length l.now) }
+fn quadratic_row(ray: &Along, a: usize, quad: f64) -> f64
+    requires { a < length ray.now.motion.now.values.now }
+    ensures { result
+        ≡ private.quadratic_row
+        (box.row ray.now.motion.now.problem.now.w.now (length ray.now.motion.now.values.now) a)
+        (at ray.now.motion.now.values.now a) ray.now.motion.now.values.now ray.now.rows.now quad
+        (length ray.now.rows.now) }
 {
+    let row = ProblemRow {
+        problem: ray.motion.problem,
+        i: a,
+    }
+    .entries();
+    let y = ray.motion.values;
+    let v = y[a];
     let mut q = quad;
-    for column in l {
+    for column in ray.rows {
         q = q + v * row[*column] * y[*column];
     }
     q
 }
 
-// quad: y times W times y, summed over the rows of l and its columns.
+// quad: the direction times W times the direction, summed over the rows of the ray and its columns.
 #[tactic(auto, using(crate::proofs::Loops::turning), unfolding(crate::specs::Private::quadratic))]
-fn quadratic(p: &BoxProblem, y: &[f64], l: &[usize]) -> f64
-    requires direction { length y.now ≡ length p.now.u_free.now }
-    requires below { Below (length y.now) l.now }
-    ensures { result ≡ private.quadratic p.now.w.now (length y.now) y.now l.now (length l.now) }
+fn quadratic(ray: &Along) -> f64
+    ensures { result
+        ≡ private.quadratic ray.now.motion.now.problem.now.w.now (length ray.now.motion.now.values.now)
+        ray.now.motion.now.values.now ray.now.rows.now (length ray.now.rows.now) }
 {
     let mut q = 0.0;
-    for row in l {
-        let entries = ProblemRow {
-            problem: p,
-            i: *row,
-        }
-        .entries();
-        q = quadratic_row(entries, y[*row], y, l, q);
+    for row in ray.rows {
+        q = quadratic_row(ray, *row, q);
     }
     q
 }
@@ -103,19 +123,19 @@ fn quadratic(p: &BoxProblem, y: &[f64], l: &[usize]) -> f64
 // Along nu + t y the problem falls as t · lin + t² · quad / 2: without end if quad is zero, else to its least at
 // t = −lin / quad.
 #[tactic(auto, unfolding(crate::specs::Private::falls))]
-fn falls(p: &BoxProblem, y: &[f64], l: &[usize], far: f64) -> bool
-    requires direction { length y.now ≡ length p.now.u_free.now }
-    requires below { Below (length y.now) l.now }
+fn falls(ray: &Along, far: f64) -> bool
     ensures { result ≡ private.falls
-        (private.linear p.now.u_free.now y.now l.now (length l.now))
-        (private.quadratic p.now.w.now (length y.now) y.now l.now (length l.now))
+        (private.linear ray.now.motion.now.problem.now.u_free.now ray.now.motion.now.values.now ray.now.rows.now
+        (length ray.now.rows.now))
+        (private.quadratic ray.now.motion.now.problem.now.w.now (length ray.now.motion.now.values.now)
+        ray.now.motion.now.values.now ray.now.rows.now (length ray.now.rows.now))
         far }
 {
-    let lin = linear(p.u_free, y, l);
+    let lin = linear(ray);
     if lin >= 0.0 {
         return false;
     }
-    let quad = quadratic(p, y, l);
+    let quad = quadratic(ray);
     if quad <= 0.0 {
         return true;
     }
@@ -123,19 +143,19 @@ fn falls(p: &BoxProblem, y: &[f64], l: &[usize], far: f64) -> bool
 }
 
 // The ray test: the rows of the ray at the front of `rows`, and how many. Where there is no ray, nothing is changed.
-pub fn ray(p: &BoxProblem, states: &[u8], y: &[f64], rows: &mut [usize]) -> Option<usize>
-    requires states { length states.now ≡ length p.now.u_free.now }
-    requires direction { length y.now ≡ length p.now.u_free.now }
-    requires list { length p.now.u_free.now ≤ length rows.old }
-    ensures { promise.Front (rays.ray (of p.now) states.now y.now) rows.old result rows.new }
+pub fn ray(motion: &RowValues, rows: &mut [usize]) -> Option<usize>
+    requires list { length motion.now.problem.now.u_free.now ≤ length rows.old }
+    ensures { promise.Front
+        (rays.ray (of motion.now.problem.now) motion.now.states.now motion.now.values.now) rows.old result rows.new }
 {
-    let s = largest(p.scale, states, y);
+    let s = largest(motion);
     if s == 0.0 {
         return None;
     }
-    let found = collect(p, states, y, EXACT_RESIDUAL * s)?;
+    let found = collect(motion, EXACT_RESIDUAL * s)?;
     let l = found.rows.as_slice();
-    if falls(p, y, l, found.farthest) {
+    let ray = Along { motion, rows: l };
+    if falls(&ray, found.farthest) {
         rows[..l.len()].copy_from_slice(l);
         return Some(l.len());
     }

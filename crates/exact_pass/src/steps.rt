@@ -1,11 +1,11 @@
 // One step of a pass, and the run of them.
 ghost use Rattle.std.specs.Prelude.{◌≡◌, ◌≤◌, ◌<◌, List, length, Float};
 ghost use Rattle.box_rows.specs.Lent.{of};
-ghost use Rattle.exact_pass.specs.Below.{Below};
 ghost use Rattle.exact_pass.specs.Pass as pass;
 ghost use Rattle.exact_pass.specs.Private as private;
 
-use crate::free_rows::FreeRows;
+use crate::free_rows::Direction;
+use crate::row_values::RowValues;
 use crate::{
     Cycle, DIRECTION, Exact, MARKED, cycles, direction, free_rows, ratio, rays, release, start,
 };
@@ -14,31 +14,34 @@ use box_rows::{Block, MAX_ROWS, placed};
 
 // The direction of all rows, in place of zeros, from that of the free rows.
 #[tactic(auto, using(crate::proofs::Loops::turning), unfolding(crate::specs::Pass::scattered))]
-fn scatter(free: &[u8], y: &[f64], d: &mut [f64])
-    requires rows { Below (length d.old) free.now }
-    requires direction { length y.now ≡ length free.now }
-    ensures { d.new ≡ pass.scattered free.now y.now d.old (length free.now) }
+fn scatter(d: &Direction, all: &mut [f64])
+    requires { length all.old ≡ length d.now.problem.now.u_free.now }
+    ensures { all.new ≡ pass.scattered d.now.rows.now d.now.y.now all.old (length d.now.rows.now) }
 {
-    for (row, by) in free.iter().zip(y) {
-        d[*row as usize] = *by;
+    for (row, by) in d.rows.iter().zip(d.y) {
+        all[*row as usize] = *by;
     }
 }
 
 // The direction y of the free rows meets no bound: no motion meets every row, or the pass has failed.
-fn unbounded(free: &FreeRows, states: &[u8], y: &[f64], rows: &mut [usize]) -> Exact
-    requires states { length states.now ≡ length free.now.problem.now.u_free.now }
-    requires direction { length y.now ≡ length free.now.rows.now }
-    requires list { length free.now.problem.now.u_free.now ≤ length rows.old }
+fn unbounded(d: &Direction, states: &[u8], rows: &mut [usize]) -> Exact
+    requires states { length states.now ≡ length d.now.problem.now.u_free.now }
+    requires list { length d.now.problem.now.u_free.now ≤ length rows.old }
     ensures { (v : List Float)
         → private.Passed
-        (private.unbounded (of free.now.problem.now) (pass.trial v states.now) free.now.rows.now y.now)
+        (private.unbounded (of d.now.problem.now) (pass.trial v states.now) d.now.rows.now d.now.y.now)
         rows.old (Some result) v states.now rows.new }
 {
-    let p = free.problem;
+    let problem = d.problem;
     let mut zeros = [0.0f64; MAX_ROWS];
-    let d = &mut zeros[..p.n()];
-    scatter(free.rows, y, d);
-    match rays::ray(p, states, d, rows) {
+    let values = &mut zeros[..problem.n()];
+    scatter(d, values);
+    let motion = RowValues {
+        problem,
+        states,
+        values,
+    };
+    match rays::ray(&motion, rows) {
         Some(c) => Exact::Infeasible(c),
         None => Exact::Failed,
     }
@@ -62,28 +65,26 @@ fn hold(p: &BoxProblem, states: &mut [u8], nu: &mut [f64], r: Block)
 // The step of the free rows in the direction y, as long as the boxes let it be. The row that blocks it is put on its
 // bound; where none does, a row on a bound is released.
 fn take_step(
-    free: &FreeRows,
+    d: &Direction,
+    inconsistent: bool,
     states: &mut [u8],
     nu: &mut [f64],
-    y: &[f64],
-    inconsistent: bool,
     rows: &mut [usize],
 ) -> Option<Exact>
-    requires states { length states.old ≡ length free.now.problem.now.u_free.now }
-    requires multipliers { length nu.old ≡ length free.now.problem.now.u_free.now }
-    requires direction { length y.now ≡ length free.now.rows.now }
-    requires list { length free.now.problem.now.u_free.now ≤ length rows.old }
+    requires states { length states.old ≡ length d.now.problem.now.u_free.now }
+    requires multipliers { length nu.old ≡ length d.now.problem.now.u_free.now }
+    requires list { length d.now.problem.now.u_free.now ≤ length rows.old }
     ensures { private.Passed
-        (private.take_step (of free.now.problem.now)
-        (pass.trial nu.old states.old) free.now.rows.now y.now inconsistent)
+        (private.take_step (of d.now.problem.now)
+        (pass.trial nu.old states.old) d.now.rows.now d.now.y.now inconsistent)
         rows.old result nu.new states.new rows.new }
 {
-    let p = free.problem;
-    let r = ratio::ratio_test(free, nu, y, direction::longest(inconsistent));
+    let p = d.problem;
+    let r = ratio::ratio_test(d, nu, direction::longest(inconsistent));
     if !floats::is_finite(r.alpha) {
-        return Some(unbounded(free, states, y, rows));
+        return Some(unbounded(d, states, rows));
     }
-    ratio::advance(free.rows, y, r.alpha, nu);
+    ratio::advance(d, r.alpha, nu);
     match r.block {
         None => release::release(p, states, nu),
         Some(block) => {
@@ -111,16 +112,22 @@ fn step(
         work.new }
 {
     let list = free_rows::free_rows(states);
-    let free = FreeRows {
-        problem: p,
-        rows: list.as_slice(),
-    };
-    if free.rows.is_empty() {
-        return release::release(free.problem, states, nu);
+    let free = list.as_slice();
+    if free.is_empty() {
+        return release::release(p, states, nu);
     }
-    let inconsistent = direction::of_free_rows(&free, states, nu, work);
-    let y = &work[DIRECTION..DIRECTION + free.rows.len()];
-    take_step(&free, states, nu, y, inconsistent, rows)
+    let trial = RowValues {
+        problem: p,
+        states,
+        values: nu,
+    };
+    let inconsistent = direction::of_free_rows(&trial, free, work);
+    let d = Direction {
+        problem: p,
+        rows: free,
+        y: &work[DIRECTION..DIRECTION + free.len()],
+    };
+    take_step(&d, inconsistent, states, nu, rows)
 }
 
 // A pass makes at most 8 steps for each row that acts, and 8. Each is compared with the multipliers and states marked,

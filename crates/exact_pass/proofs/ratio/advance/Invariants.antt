@@ -3,4 +3,4 @@ use Rattle.exact_pass.specs.Pass as pass
 use Rattle.exact_pass.proofs.ratio.advance.Given as goal
 
 abbrev pub invariant-loop-row : goal.invariant-loop-row
-invariant-loop-row l = l.nu ≡ pass.advance l.free l.y l.alpha l.initial.nu (length l.yielded)
+invariant-loop-row l = l.nu ≡ pass.advance l.d.rows.now l.d.y.now l.alpha l.initial.nu (length l.yielded)

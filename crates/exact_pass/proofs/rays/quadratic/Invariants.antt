@@ -3,4 +3,4 @@ use Rattle.exact_pass.specs.Private as private
 use Rattle.exact_pass.proofs.rays.quadratic.Given as goal
 
 abbrev pub invariant-loop-row : goal.invariant-loop-row
-invariant-loop-row l = l.q ≡ private.quadratic l.p.w.now (length l.y) l.y l.l l.row-index
+invariant-loop-row l = l.q ≡ private.quadratic l.ray.motion.now.problem.now.w.now (length l.ray.motion.now.values.now) l.ray.motion.now.values.now l.ray.rows.now l.row-index

@@ -3,4 +3,4 @@ use Rattle.exact_pass.specs.Pass as pass
 use Rattle.exact_pass.proofs.steps.scatter.Given as goal
 
 abbrev pub invariant-loop-row : goal.invariant-loop-row
-invariant-loop-row l = l.d ≡ pass.scattered l.free l.y l.initial.d (length l.yielded)
+invariant-loop-row l = l.all ≡ pass.scattered l.d.rows.now l.d.y.now l.initial.all (length l.yielded)

@@ -9,7 +9,7 @@ returns-then-not-is_finite c =
 
 pub hold-requires-clause-row : goal.hold-requires-clause-row
 hold-requires-clause-row c =
-    ratio_within _ _ _ _ _ _ _ _ _ c.ratio_test-r.ensures c.args.free.now.below c.in-Some.is
+    ratio_within _ _ _ _ _ _ _ _ _ c.ratio_test-r.ensures c.args.d.now.below c.in-Some.is
 
 pub returns-in-None : goal.returns-in-None
 returns-in-None c =

@@ -7,12 +7,12 @@ use Rattle.exact_pass.proofs.system.residual.Goals as goal
 
 pub loop-h-init : goal.loop-h-init
 loop-h-init c =
-    let none : min (2 * 0) (length c.args.free.now.rows.now) ≡ 0 = omega arith in
+    let none : min (2 * 0) (length c.args.s.now.free.now.rows.now) ≡ 0 = omega arith in
     rw none (record { downhill = tab-start _ _; inconsistent = turns-from _ _ })
 
 pub loop-h-preserved : goal.loop-h-preserved
 loop-h-preserved c =
-    let k : ℕ = length c.args.free.now.rows.now in
+    let k : ℕ = length c.args.s.now.free.now.rows.now in
     let i : ℕ = 2 * c.loop-h.h in
     let e : ℕ = c.min-e.result in
     let now : min i k ≡ i = omega arith in
@@ -28,7 +28,7 @@ loop-h-preserved c =
 
 pub returns : goal.returns
 returns c =
-    let k : ℕ = length c.args.free.now.rows.now in
+    let k : ℕ = length c.args.s.now.free.now.rows.now in
     let all : min (2 * c.loop-h.h) k ≡ k = omega arith in
     let part : 1056 + k - 1056 ≡ k = omega arith in
     let was = rw (all, part) at c.loop-h.invariant in

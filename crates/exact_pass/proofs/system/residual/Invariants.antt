@@ -9,7 +9,7 @@ done h l = min (2 * h) (length l)
 abbrev pub invariant-loop-h : goal.invariant-loop-h
 invariant-loop-h l = record {
   downhill :
-      l.y ≡ private.downhill l.free.problem.now.w.now l.free.problem.now.scale.now l.free.rows.now l.rhs l.z (done l.h l.free.rows.now)
-      ++ drop (done l.h l.free.rows.now) l.initial.y;
-  inconsistent : l.inconsistent ≡ private.inconsistent l.free.problem.now.w.now l.free.problem.now.scale.now l.free.rows.now l.rhs l.z (done l.h l.free.rows.now);
+      l.y ≡ private.downhill l.s.free.now.trial.problem.now.w.now l.s.free.now.trial.problem.now.scale.now l.s.free.now.rows.now l.rhs l.s.z.now (done l.h l.s.free.now.rows.now)
+      ++ drop (done l.h l.s.free.now.rows.now) l.initial.y;
+  inconsistent : l.inconsistent ≡ private.inconsistent l.s.free.now.trial.problem.now.w.now l.s.free.now.trial.problem.now.scale.now l.s.free.now.rows.now l.rhs l.s.z.now (done l.h l.s.free.now.rows.now);
 }

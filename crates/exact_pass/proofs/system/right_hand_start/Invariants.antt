@@ -5,4 +5,4 @@ use Rattle.floats.specs.Ops.{at}
 use Rattle.exact_pass.proofs.system.right_hand_start.Given as goal
 
 abbrev pub invariant-loop-i : goal.invariant-loop-i
-invariant-loop-i l = l.rhs ≡ tab (λ (i : ℕ). neg (at l.u_free (get_or l.free i 0))) l.i ++ drop l.i l.initial.rhs
+invariant-loop-i l = l.rhs ≡ tab (λ (i : ℕ). neg (at l.u_free (get_or l.free.rows.now i 0))) l.i ++ drop l.i l.initial.rhs

@@ -8,5 +8,5 @@ returns c =
     let r = c.residual_rows-r.ensures in
     let a = c.row-first.ensures.row in
     let b = c.row-second.ensures.row in
-    let n = c.args.free.now.problem.now.sized.4 in
+    let n = c.args.s.now.free.now.trial.problem.now.sized.4 in
     record { downhill = rw (r.first, r.second, a, b, n); inconsistent = rw (c.too_large.ensures, c.too_large-2.ensures, r.first, r.second, a, b, n) }
