@@ -44,8 +44,8 @@ fn pick_lanes<const K: usize>(c: usize, s: [f64; K], best: Pivot) -> Pivot
         × (result.col < c + K) }
 {
     let mut p = best;
-    for t in 0..K {
-        p = picked(c + t, s[t], p);
+    for (t, norm) in s.iter().enumerate() {
+        p = picked(c + t, *norm, p);
     }
     p
 }

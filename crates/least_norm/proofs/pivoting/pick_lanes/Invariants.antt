@@ -7,4 +7,4 @@ use Rattle.least_norm.proofs.pivoting.pick_lanes.Given as goal
 
 abbrev pub invariant-loop-t : goal.invariant-loop-t
 invariant-loop-t g l =
-    (l.p ≡ between 0 l.t l.fn.best (λ (t : ℕ) (p : Pivot). private.picked (l.c + t) (at l.s t) p)) × (l.p.col < l.c + l.t)
+    (l.p ≡ between 0 l.t l.fn.best (λ (t : ℕ) (p : Pivot). private.picked (l.c + t) (at l.fn.s t) p)) × (l.p.col < l.c + l.t)
