@@ -91,7 +91,8 @@ fn reduce(
 }
 
 // A P = Q R, Q applied to b as it is built. How many columns were reduced, of the first k. The four lists stay apart,
-// here and in `reduce`: a struct of `&mut` would have each function promise that the size and every reference stay.
+// here and in `reduce`: a struct of `&mut` was tried. Each function must then promise that the size and every reference
+// stay, and the proof of `reduce` did not close.
 fn reduce_columns(
     a: &mut [f64],
     size: Size,
