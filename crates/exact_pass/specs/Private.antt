@@ -48,7 +48,7 @@ pub record Passed (p : pass.Pass) (r₀ : List ℕ) (e : Option Exact) (nu : Lis
   pub listed : r ≡ promise.rows_of p r₀
 
 -- a copy of `from` in `to`, which was to₀, from place a on; what lies past it stays
-pub record Copied (from : List Float) (a : ℕ) (to₀ to : List Float) : Type 0 where
+pub record Copied {A : Type 0} (from : List A) (a : ℕ) (to₀ to : List A) : Type 0 where
   pub part : take (length from) (drop a to) ≡ from
   pub after : drop (a + length from) to ≡ drop (a + length from) to₀
 

@@ -60,16 +60,6 @@ fn remaining_after(
     remaining
 }
 
-// The states marked, by a loop as in `store`.
-pub fn mark_states(states: &[u8], marks: &mut [u8])
-    requires { length states.now ≤ length marks.old }
-    ensures { take (length states.now) marks.new ≡ states.now }
-{
-    for i in 0..states.len() {
-        marks[i] = states[i];
-    }
-}
-
 // After a step: a cycle cuts the steps that remain, and the mark is set anew after 2, 4, 8 .. steps (Brent).
 pub fn after_step(nu: &[f64], states: &[u8], work: &mut [f64], marks: &mut [u8], m: Cycle) -> Cycle
     requires { private.AfterLent (length nu.now) states.now work.old marks.old m }
@@ -86,7 +76,7 @@ pub fn after_step(nu: &[f64], states: &[u8], work: &mut [f64], marks: &mut [u8],
         };
     }
     crate::store(nu, work, MARKED);
-    mark_states(states, marks);
+    crate::store(states, marks, 0);
     Cycle {
         since: 0,
         span: 2 * m.span,

@@ -82,7 +82,7 @@ pub struct Cycle {
 
 // A copy of `from` in `to`, from place a on. By a loop: the few values of a small pass are there before `copy_from_slice`
 // has been called, which made a solve of one or two rows a tenth slower.
-fn store(from: &[f64], to: &mut [f64], a: usize)
+fn store<T: Copy>(from: &[T], to: &mut [T], a: usize)
     requires { a + length from.now ≤ length to.old }
     ensures { private.Copied from.now a to.old to.new }
 {

@@ -148,7 +148,7 @@ pub fn run(
     let most = 8 * acting + 8;
     let mut marks = [0u8; MAX_ROWS];
     crate::store(nu, work, MARKED);
-    cycles::mark_states(states, &mut marks);
+    crate::store(states, &mut marks, 0);
     let mut m = Cycle {
         since: 0,
         span: 2,

@@ -7,7 +7,7 @@ pub returns : goal.returns
 returns c =
     let p = c.requires.lent in
     record {
-      round = λ s h. marked_new s _ _ _ _ c.store.ensures.part (rw p.states at c.mark_states.ensures);
+      round = λ s h. marked_new s _ _ _ _ c.store.ensures.part (rw p.states at c.store-2.ensures.part);
       remaining = c.remaining_after-remaining.ensures;
       since = omega arith;
       span = omega arith;

@@ -4,7 +4,7 @@ use Rattle.exact_pass.proofs.steps.run.Goals as goal
 pub loop-m-init : goal.loop-m-init
 loop-m-init c =
     going_start _ _ _ _ _ c.requires _ _ _ _ c.start-acting.auto.nu c.store.ensures _ c.start-acting.ensures.within c.args.p.now.sized.0
-    c.start-acting.auto.states c.store.auto.to c.mark_states.ensures c.mark_states.auto.marks
+    c.start-acting.auto.states c.store.auto.to c.store-2.ensures.part c.store-2.auto.to
 
 pub loop-m-preserved : goal.loop-m-preserved
 loop-m-preserved c =
