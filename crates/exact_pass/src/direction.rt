@@ -69,6 +69,7 @@ fn in_scratch<const N: usize, const NN: usize>(free: &FreeRows, work: &mut [f64]
     requires most { NN ≤ 1024 }
     ensures { private.DirectedTo free.now.trial free.now.rows.now work.old result work.new }
 {
+    // Arrays of which parts are used: there is no heap.
     let k = free.rows.len();
     let mut m = [0.0f64; NN];
     let mut y = [0.0f64; N];

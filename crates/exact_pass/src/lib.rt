@@ -102,6 +102,7 @@ fn fits(p: &BoxProblem, states: usize, values: usize, rows: usize) -> bool
 // From the multipliers in nu the exact solution, in their place, with the states that the pass leaves; or the rows
 // of a ray, on which the problem falls without end, at the front of `rows`. A call whose lists do not fit, or whose
 // workspace is too short, fails and changes nothing.
+// The lists stay apart, as a solve is lent them; who has a BoxProblem of them calls `pass_of`.
 pub fn exact_pass(
     w: &[f64],
     u_free: &[f64],
@@ -144,6 +145,7 @@ pub fn pass_of(
 
 // The rows along whose direction y the problem falls without end, at the front of `rows`, and how many. Where there are
 // none, or the lists do not fit, nothing is changed.
+// The lists stay apart, as a solve is lent them; who has a BoxProblem of them calls `ray_of`.
 pub fn ray(
     w: &[f64],
     u_free: &[f64],

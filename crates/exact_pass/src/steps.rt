@@ -33,6 +33,7 @@ fn unbounded(d: &Direction, states: &[u8], rows: &mut [usize]) -> Exact
         rows.old (Some result) v states.now rows.new }
 {
     let problem = d.problem;
+    // An array of which a part is used: there is no heap, and a problem has at most so many rows.
     let mut zeros = [0.0f64; MAX_ROWS];
     let values = &mut zeros[..problem.n()];
     scatter(d, values);
@@ -146,6 +147,7 @@ pub fn run(
 {
     let acting = start::start(p, states, nu);
     let most = 8 * acting + 8;
+    // An array, as there is no heap.
     let mut marks = [0u8; MAX_ROWS];
     crate::store(nu, work, MARKED);
     crate::store(states, &mut marks, 0);
@@ -154,6 +156,7 @@ pub fn run(
         span: 2,
         remaining: most,
     };
+    // A while: where a cycle is found, what remains is cut to a remainder, which no range counts.
     while m.remaining > 0 {
         if let Some(e) = step(p, states, nu, rows, work) {
             return e;
