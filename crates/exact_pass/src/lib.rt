@@ -14,7 +14,7 @@ use box_rows::problem::BoxProblem;
 use row_values::RowValues;
 
 // The steps of a pass: start, free_rows, system, direction, ratio, release, rays where no bound is met, and cycles;
-// steps is one step and the run of them.
+// steps is one step and the run of them; row_values is a state and a value for each row.
 mod cycles;
 mod direction;
 mod free_rows;
@@ -80,8 +80,8 @@ pub struct Cycle {
     pub remaining: usize,
 }
 
-// A copy of `from` in `to`, from place a on. By a loop: the few values of a small pass are there before `copy_from_slice`
-// has been called, which made a solve of one or two rows a tenth slower.
+// A copy of `from` in `to`, from place a on. By a loop: the few values of a small pass are there before
+// `copy_from_slice` has been called, which made a solve of one or two rows a tenth slower.
 fn store<T: Copy>(from: &[T], to: &mut [T], a: usize)
     requires { a + length from.now ≤ length to.old }
     ensures { private.Copied from.now a to.old to.new }

@@ -35,8 +35,8 @@ fn bound_column(free: &FreeRows, state: u8, j: usize, v: f64, rhs: &mut [f64])
     requires place { length rhs.old ≡ length free.now.rows.now }
     ensures { rhs.new
         ≡ cond (eqb state box.inside) rhs.old
-        (private.column_taken free.now.trial.problem.now.w.now (length free.now.trial.problem.now.u_free.now) free.now.rows.now j v
-        (length free.now.rows.now) rhs.old) }
+        (private.column_taken free.now.trial.problem.now.w.now (length free.now.trial.problem.now.u_free.now)
+        free.now.rows.now j v (length free.now.rows.now) rhs.old) }
 {
     if state == INSIDE {
         return;
