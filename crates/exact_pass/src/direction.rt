@@ -35,6 +35,7 @@ fn direction(inconsistent: bool, s: &Solution, y: &mut [f64])
 
 // The direction of the free rows, left in the workspace: to the solution z of least norm of their system, or what that
 // leaves of it, where it is too much; whether it is. m, y and z are scratch for as many rows as are free.
+// The workspace stays a slice: an array cut off it would be put together again with the rest in each step.
 fn from_system(
     free: &FreeRows,
     m: &mut [f64],

@@ -1,4 +1,4 @@
-// The ratio test, and the step that it allows.
+// The ratio test, and the step that it allows. The multipliers stay beside the direction, since the step writes them.
 ghost use Rattle.std.specs.Prelude.{◌≡◌, length};
 ghost use Rattle.exact_pass.specs.Pass as pass;
 

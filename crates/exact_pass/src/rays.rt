@@ -60,7 +60,7 @@ fn collect(motion: &RowValues, least: f64) -> Option<RayRows>
 
 // A direction, and the rows of the ray along it.
 #[derive(Clone, Copy)]
-pub struct Along<'a> {
+pub struct RayView<'a> {
     pub motion: &'a RowValues<'a, 'a, 'a, 'a>,
     pub rows: &'a [usize],
     pub ghost below: { Below (length motion.now.values.now) rows.now },
@@ -68,7 +68,7 @@ pub struct Along<'a> {
 
 // lin: u_free times the direction, summed over the rows of the ray.
 #[tactic(auto, using(crate::proofs::Loops::turning), unfolding(crate::specs::Private::linear))]
-fn linear(ray: &Along) -> f64
+fn linear(ray: &RayView) -> f64
     ensures { result
         ≡ private.linear ray.now.motion.now.problem.now.u_free.now ray.now.motion.now.values.now ray.now.rows.now
         (length ray.now.rows.now) }
@@ -84,7 +84,7 @@ fn linear(ray: &Along) -> f64
 
 // quad with row a of the matrix more.
 #[tactic(auto, using(crate::proofs::Loops::turning), unfolding(crate::specs::Private::quadratic_row))]
-fn quadratic_row(ray: &Along, a: usize, quad: f64) -> f64
+fn quadratic_row(ray: &RayView, a: usize, quad: f64) -> f64
     requires { a < length ray.now.motion.now.values.now }
     ensures { result
         ≡ private.quadratic_row
@@ -108,7 +108,7 @@ fn quadratic_row(ray: &Along, a: usize, quad: f64) -> f64
 
 // quad: the direction times W times the direction, summed over the rows of the ray and its columns.
 #[tactic(auto, using(crate::proofs::Loops::turning), unfolding(crate::specs::Private::quadratic))]
-fn quadratic(ray: &Along) -> f64
+fn quadratic(ray: &RayView) -> f64
     ensures { result
         ≡ private.quadratic ray.now.motion.now.problem.now.w.now (length ray.now.motion.now.values.now)
         ray.now.motion.now.values.now ray.now.rows.now (length ray.now.rows.now) }
@@ -123,7 +123,7 @@ fn quadratic(ray: &Along) -> f64
 // Along nu + t y the problem falls as t · lin + t² · quad / 2: without end if quad is zero, else to its least at
 // t = −lin / quad.
 #[tactic(auto, unfolding(crate::specs::Private::falls))]
-fn falls(ray: &Along, far: f64) -> bool
+fn falls(ray: &RayView, far: f64) -> bool
     ensures { result ≡ private.falls
         (private.linear ray.now.motion.now.problem.now.u_free.now ray.now.motion.now.values.now ray.now.rows.now
         (length ray.now.rows.now))
@@ -143,6 +143,7 @@ fn falls(ray: &Along, far: f64) -> bool
 }
 
 // The ray test: the rows of the ray at the front of `rows`, and how many. Where there is no ray, nothing is changed.
+// The row list is lent on to here, its one place: a type with its room would be made at the entry for this alone.
 pub fn ray(motion: &RowValues, rows: &mut [usize]) -> Option<usize>
     requires list { length motion.now.problem.now.u_free.now ≤ length rows.old }
     ensures { promise.Front
@@ -154,7 +155,7 @@ pub fn ray(motion: &RowValues, rows: &mut [usize]) -> Option<usize>
     }
     let found = collect(motion, EXACT_RESIDUAL * s)?;
     let l = found.rows.as_slice();
-    let ray = Along { motion, rows: l };
+    let ray = RayView { motion, rows: l };
     if falls(&ray, found.farthest) {
         rows[..l.len()].copy_from_slice(l);
         return Some(l.len());

@@ -66,6 +66,7 @@ fn worst_row(t: &RowValues) -> Option<usize>
 }
 
 // Where no row is left to free, the multipliers meet every condition of the problem.
+// The lists are lent one by one, as in start.rt.
 pub fn release(p: &BoxProblem, states: &mut [u8], nu: &[f64]) -> Option<Exact>
     requires states { length states.old ≡ length p.now.u_free.now }
     requires multipliers { length nu.now ≡ length p.now.u_free.now }

@@ -1,5 +1,6 @@
 // The system of the free rows s, W_ss diag(scale_s) z = −(u_free_s + W_sb ν_b) where b are the others, its solution of
 // least norm, and what that leaves of it.
+// A list that is written is lent beside the view, which only reads, and has a place for each of its rows.
 ghost use Rattle.std.specs.Prelude.{◌≡◌, ◌≤◌, ◌*◌, ◌+◌, cond, ℕ, ◌<◌, eqb, length, get_or};
 ghost use Rattle.std.specs.Float.Ieee.{neg};
 ghost use Rattle.loops.specs.Loops.{tab};
