@@ -1,7 +1,7 @@
 // Cycles of steps: a step depends on multipliers and states alone, so a pass that comes back to those of an earlier
 // step goes round for ever, and whole cycles of the steps that remain are left out. Multipliers are marked in the
 // workspace, past least norm's part.
-ghost use Rattle.std.specs.Prelude.{◌≡◌, ◌*◌, ◌+◌, ◌<◌, ◌≤◌, true, length, take};
+ghost use Rattle.std.specs.Prelude.{◌≡◌, ◌*◌, ◌+◌, ◌<◌, ◌≤◌, Decides, true, length, take};
 ghost use Rattle.exact_pass.specs.Pass as pass;
 ghost use Rattle.exact_pass.specs.Private as private;
 
@@ -11,7 +11,7 @@ use std::num::f64_to_bits_with_nan;
 // Whether two multipliers are one value, every NaN as one.
 #[tactic(auto, using(floats::proofs::OneValue::same_bits))]
 fn same(x: f64, y: f64) -> bool
-    ensures { result ≡ true → x ≡ y }
+    ensures { Decides result (x ≡ y) }
 {
     f64_to_bits_with_nan(x) == f64_to_bits_with_nan(y)
 }
@@ -19,14 +19,9 @@ fn same(x: f64, y: f64) -> bool
 // The same of as many multipliers each.
 fn same_values(a: &[f64], b: &[f64]) -> bool
     requires { length a.now ≡ length b.now }
-    ensures { result ≡ true → a.now ≡ b.now }
+    ensures { Decides result (a.now ≡ b.now) }
 {
-    for (x, y) in a.iter().zip(b) {
-        if !same(*x, *y) {
-            return false;
-        }
-    }
-    true
+    a.iter().zip(b).all(|(x, y)| same(*x, *y))
 }
 
 // Whether multipliers and states are those marked.

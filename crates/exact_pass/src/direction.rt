@@ -1,4 +1,5 @@
 // The direction of a step: to the target or, where there is none, what its solution leaves.
+// The lists that are written are lent beside the free rows, for the reason that system.rt gives.
 ghost use Rattle.std.specs.Prelude.{◌≡◌, ◌≤◌, ◌*◌, length};
 ghost use Rattle.exact_pass.specs.Pass as pass;
 ghost use Rattle.exact_pass.specs.Private as private;

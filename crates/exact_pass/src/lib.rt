@@ -42,7 +42,8 @@ pub const MARKED: usize = 1088;
 
 pub const WORKSPACE: usize = 1120;
 
-// What a pass found. Of the rows that no motion meets the number is told; they stand at the front of the row list.
+// What a pass found. Of the rows that no motion meets the number is told; they stand at the front of the row list: C
+// lends that list, and is told how many of them are at its front.
 #[derive(Clone, Copy, PartialEq, Eq)]
 pub enum Exact {
     Found,

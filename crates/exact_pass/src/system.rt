@@ -1,6 +1,7 @@
 // The system of the free rows s, W_ss diag(scale_s) z = −(u_free_s + W_sb ν_b) where b are the others, its solution of
 // least norm, and what that leaves of it.
-// A list that is written is lent beside the view, which only reads, and has a place for each of its rows.
+// A list that is written is lent beside the view, with a place for each free row: a struct that held it as `&mut` would
+// be made anew for each call, and each contract would have to say that it is still the list that was lent.
 ghost use Rattle.std.specs.Prelude.{◌≡◌, ◌≤◌, ◌*◌, ◌+◌, cond, ℕ, ◌<◌, eqb, length, get_or};
 ghost use Rattle.std.specs.Float.Ieee.{neg};
 ghost use Rattle.loops.specs.Loops.{tab};
