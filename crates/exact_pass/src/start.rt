@@ -7,7 +7,8 @@ use box_rows::problem::BoxProblem;
 use box_rows::{IDLE, placed, state_of};
 
 // Row i in the state that its multiplier shows, with the multiplier of that state; how many rows act up to it.
-// The lists that a pass writes are lent one by one: as a struct of two `&mut` (tried), the proof of `run` did not close.
+// The lists that a pass writes are lent one by one: in a struct of two `&mut` (tried), the proof of `run` did not
+// close.
 #[tactic(auto, unfolding(crate::specs::Private::start_row))]
 fn start_row(p: &BoxProblem, states: &mut [u8], nu: &mut [f64], i: usize, acting: usize) -> usize
     requires row { i < length p.now.u_free.now }
