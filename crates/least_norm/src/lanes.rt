@@ -50,8 +50,8 @@ pub fn add_squares<const K: usize>(mut s: [f64; K], x: &[f64], p: usize) -> [f64
 pub fn factors<const K: usize>(mut s: [f64; K], d: f64) -> [f64; K]
     ensures { result ≡ updated nan (λ (t : ℕ). t) (λ (t : ℕ) (v : Float). 2ᶠ ⊗ v ⊘ d) 0 K s.entry }
 {
-    for t in 0..K {
-        s[t] = 2.0 * s[t] / d;
+    for v in &mut s {
+        *v = 2.0 * *v / d;
     }
     s
 }
@@ -62,7 +62,7 @@ pub fn less_lanes<const K: usize>(x: &mut [f64], p: usize, f: [f64; K], y: f64)
     ensures { x.new
         ≡ updated nan (λ (t : ℕ). p + t) (λ (t : ℕ) (v : Float). v ⊖ at f.entry t ⊗ y) 0 K x.old }
 {
-    for t in 0..K {
-        x[p + t] = x[p + t] - f[t] * y;
+    for (t, factor) in f.iter().enumerate() {
+        x[p + t] = x[p + t] - *factor * y;
     }
 }
