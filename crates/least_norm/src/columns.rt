@@ -1,5 +1,7 @@
 // A column's reflector, applied to the columns after it and to b. The reflector is copied to v, entry by row, and K
 // adjacent columns are reflected together, row by row: each scalar keeps its operations and their order.
+// Bounds as `c + K ≤ n` and `j < m` stay in the contracts: the index is another at each call, so a type that held it
+// with its bound would be made anew for each.
 ghost use Rattle.std.specs.Prelude.{◌≡◌, List, ℕ, suc, ◌+◌, ◌*◌, ◌≤◌, ◌<◌, length, Float};
 ghost use Rattle.std.specs.Float.{nan};
 ghost use Rattle.loops.specs.Loops.{between};
@@ -106,7 +108,7 @@ fn reflect_columns<const K: usize>(a: &mut [f64], size: Size, c: usize, h: &Refl
         × (c ≤ result) × (result ≤ size.n) × (size.n < result + K) }
 {
     let mut next = c;
-    // A `for` would count the blocks of K by a division, and find each column again from its block's number.
+    // The column after the last whole block is the result, which a `for` over `step_by(K)` does not give.
     while K <= size.n - next {
         reflect_lanes::<K>(a, size, next, h);
         next += K;

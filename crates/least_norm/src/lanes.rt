@@ -1,6 +1,7 @@
 // K adjacent entries together, which the compiler keeps in registers. Each is computed as by itself.
 // The place stays beside the list: K entries lent as an array (`first_chunk`) were tried, and the least norm of two
-// rows took 128 ns for 122, of eight 1096 for 1051, where a solve of two rows stands at its bar.
+// rows took 128 ns for 122, of eight 1096 for 1051, where a solve of two rows takes .95 of the original's time, the
+// most allowed.
 #![tactic(auto, using(crate::proofs::Laws::updates))]
 
 ghost use Rattle.std.specs.Prelude.{◌≡◌, ℕ, ◌+◌, ◌≤◌, length, replicate, Float};

@@ -1,6 +1,7 @@
 // The least-norm solution of a linear system of at most 32 rows and 32 columns by a complete orthogonal decomposition
-// (dense.rs), held to the definitions of specs/. Loops that write, and those down a column, go by index: of what
-// `iter_mut().zip(..)` writes a proof knows nothing, and a column's entries stand n apart.
+// (dense.rs), held to the definitions of specs/. A loop that writes one list beside another that it reads goes by
+// index: the library's contract does not state what `iter_mut().zip(..)` writes. So does a loop down a column, whose
+// entries stand n apart.
 #![tactic(auto)]
 
 ghost use Rattle.std.specs.Prelude.{◌≡◌, ℕ, ◌+◌, ◌*◌, ◌≤◌, ◌<◌, min, length, drop, replicate};

@@ -56,7 +56,7 @@ fn pick<const K: usize>(a: &MatrixView, j: usize, from: Scan) -> Scan
     ensures { Scanned a.now.entries.now a.now.size.m a.now.size.n j from.next from.best K result }
 {
     let Scan { mut best, mut next } = from;
-    // A `for` would count the blocks of K by a division, and find each column again from its block's number.
+    // The column after the last whole block is part of the result, which a `for` over `step_by(K)` does not give.
     while K <= a.size.n - next {
         let s: [f64; K] = column_norms(a, next, j);
         best = pick_lanes(next, s, best);

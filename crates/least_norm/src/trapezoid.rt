@@ -45,7 +45,8 @@ fn keep_row(t: &MatrixView, i: usize, right: &mut [f64])
     requires { Trapezoidal t.now.entries.now t.now.size right.old × (i < t.now.size.m) }
     ensures { right.new ≡ private.kept_row t.now.size.n t.now.size.m i t.now.entries.now right.old }
 {
-    // By index, as vector::less_scaled is; `copy_from_slice` calls memmove, and C is asked for memcpy and memset alone.
+    // By index, as vector::less_scaled is: `copy_from_slice` compiles to memmove here, and C is asked for memcpy and
+    // memset alone.
     for c in t.size.m..t.size.n {
         right[t.size.place(i, c)] = t.at(i, c);
     }

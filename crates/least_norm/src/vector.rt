@@ -37,7 +37,8 @@ pub fn less_scaled(x: &mut [f64], f: f64, y: &[f64], lo: usize)
     requires { (lo ≤ length x.old) × (length x.old ≤ length y.now) }
     ensures { x.new ≡ less (λ (t : ℕ). t) f (λ (t : ℕ). at y.now t) lo (length x.old) x.old }
 {
-    // By index: of what `iter_mut().zip(..)` writes a proof knows nothing (tried).
+    // By index: the library's contract does not state what `iter_mut().zip(..)` writes (tried), and with
+    // `iter_mut().enumerate()` y would be indexed all the same.
     for t in lo..x.len() {
         x[t] = x[t] - f * y[t];
     }
