@@ -1,4 +1,6 @@
 // An input read to its end.
+ghost use Rattle.std.specs.Prelude.{◌≤◌, length, IfOk};
+
 use std::io;
 use std::io::Read;
 
@@ -18,7 +20,9 @@ impl From<io::Error> for Untaken {
 }
 
 // Reads an input to its end, to the buffer's front, and gives what it is.
-pub fn read<'a>(reader: &mut impl Read, buffer: &'a mut [u8]) -> Result<&'a [u8], Untaken> {
+pub fn read<'a>(reader: &mut impl Read, buffer: &'a mut [u8]) -> Result<&'a [u8], Untaken>
+    ensures { IfOk result (λ input. length input.now ≤ length buffer.old) }
+{
     let room = buffer.len();
     let (input, end) = reading::read_full(reader, buffer);
     end?;

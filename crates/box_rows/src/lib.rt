@@ -94,10 +94,7 @@ pub fn natural_residual(row: Row, scale: f64) -> f64
 fn on_bound(bound: f64, gap: f64, s: f64) -> bool
     ensures { result ≡ box.on_bound bound gap s }
 {
-    if floats::is_finite(bound) {
-        return gap <= ON_A_BOUND * s;
-    }
-    false
+    floats::is_finite(bound) && gap <= ON_A_BOUND * s
 }
 
 // The state that a multiplier v shows: near both bounds the lower one wins.
@@ -119,10 +116,7 @@ pub fn state_of(lo: f64, hi: f64, s: f64, v: f64) -> RowState
 pub fn is_idle(d: f64) -> bool
     ensures { result ≡ box.is_idle d }
 {
-    if floats::is_nan(d) {
-        return true;
-    }
-    d <= 0.0
+    floats::is_nan(d) || d <= 0.0
 }
 
 // The multiplier of a row in a state: a row on a bound has that bound.

@@ -140,10 +140,22 @@ pub record Reached (cap : ℕ) (p : box.Problem) (m : Watch) (nu₀ : List Float
   pub listed : rows ≡ rows₀
   pub workspace : drop SOLVE_END work ≡ drop SOLVE_END work₀
 
+none_counted : (c : Counts) → (c.sweeps ≡ 0) × ((c.passes ≡ 0) × (c.stopped ≡ 0)) → none ≡ c
+none_counted c e =
+    sym (ap (λ (k : ℕ). solve.counts k c.passes c.stopped) e.0 ∙ ap (λ (k : ℕ). solve.counts 0 k c.stopped) e.1.0 ∙ ap (λ (k : ℕ). solve.counts 0 0 k) e.1.1)
+
 module _ (cap : ℕ) (p : box.Problem) (m : Watch) (nu₀ : List Float) (st₀ rows₀ : List ℕ) (work₀ : List Float) where
-  pub run-start : Reached cap p m nu₀ st₀ rows₀ work₀ 0 nu₀ st₀ rows₀ work₀ none
+  -- c counts nothing yet
+  pub run-start : (c : Counts) → (c.sweeps ≡ 0) × ((c.passes ≡ 0) × (c.stopped ≡ 0)) → Reached cap p m nu₀ st₀ rows₀ work₀ 0 nu₀ st₀ rows₀ work₀ c
   unfolding solve.run turns
-  run-start = record { run = refl; sweeps = refl; passes = omega arith; listed = refl; workspace = refl }
+  run-start c e =
+      record {
+        run = ap (λ (k : Counts). going (iterate nu₀ st₀ k)) (none_counted c e);
+        sweeps = e.0;
+        passes = omega (arith, e.1.0);
+        listed = refl;
+        workspace = refl;
+      }
 
   module _ (i : ℕ) (nu : List Float) (st rows : List ℕ) (work : List Float) (c : Counts) (so_far : Reached cap p m nu₀ st₀ rows₀ work₀ i nu st rows work c) where
     pub run-over : i ≤ cap → cap ≤ i → Worked SOLVE_END (solve.run cap p m (iterate nu₀ st₀ none) cap) rows₀ work₀ None nu st c rows work

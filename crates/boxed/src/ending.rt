@@ -11,15 +11,7 @@ use box_rows::problem::BoxProblem;
 pub fn nothing(idle: u32) -> BoxReport
     ensures { result ≡ private.nothing idle }
 {
-    BoxReport {
-        sweeps: 0,
-        exact_passes: 0,
-        converged: true,
-        exact: true,
-        residual: 0.0,
-        idle,
-        stopped: 0,
-    }
+    report(Counts::default(), true, true, 0.0, idle)
 }
 
 // Sets the state of every row that acts to the one that its multiplier shows.

@@ -10,8 +10,8 @@ pub fn grown(nu: &[f64], scale: &[f64], rows: &mut [usize]) -> Option<usize>
     ensures { Front (sweep.grown nu.now scale.now (length nu.now)) rows.old result rows.new }
 {
     let mut k = 0;
-    for i in 0..nu.len() {
-        if floats::abs(nu[i]) > exact_pass::DIVERGENCE * scale[i] {
+    for (i, multiplier) in nu.iter().enumerate() {
+        if floats::abs(*multiplier) > exact_pass::DIVERGENCE * scale[i] {
             rows[k] = i;
             k += 1;
         }

@@ -86,7 +86,7 @@ pub enum Ended {
 }
 
 // What a solve has counted so far; of the rows stopped those of the last sweep alone.
-#[derive(Clone, Copy)]
+#[derive(Clone, Copy, Default)]
 pub struct Counts {
     pub sweeps: u32,
     pub passes: u32,
@@ -101,18 +101,19 @@ pub struct Watch<'a> {
     pub tolerance: f64,
 }
 
-// A copy of `from` in `to`. By a loop: `copy_from_slice` calls memmove, and C is asked for memcpy and memset alone.
+// A copy of `from` in `to`. By a loop: `copy_from_slice` compiles to memmove here, and C is asked for memcpy and memset
+// alone. Apart from `store` of exact_pass: one for both would be public, and test lengths that each caller knows.
 fn store(from: &[f64], to: &mut [f64])
     requires { length to.old ≡ length from.now }
     ensures { to.new ≡ from.now }
 {
-    for i in 0..from.len() {
-        to[i] = from[i];
+    for (i, value) in from.iter().enumerate() {
+        to[i] = *value;
     }
 }
 
 // The solve of a call that is not refused: multipliers and states are one for each row, the row list has a place for
-// each, and the workspace is not too short.
+// each, and the workspace is not too short. The lists stay apart, as in `turn`.
 fn solve_rows(
     p: &BoxProblem,
     watch: &Watch,

@@ -23,7 +23,8 @@ fn unequal(lo: usize, hi: usize, scale: usize, nu: usize, n: usize) -> bool
     lo != n || hi != n || scale != n || nu != n
 }
 
-// Whether every scale is finite and above 0.
+// Whether every scale is finite and above 0. `all` was tried: it proves that all of the list are, and the definition's
+// "every number below n" does not close from that.
 #[tactic(auto, unfolding(loops::specs::Loops::every, crate::specs::Private::good_scale))]
 fn good_scales(scale: &[f64]) -> bool
     ensures { result ≡ loops.every (private.good_scale_at scale.now) (length scale.now) }

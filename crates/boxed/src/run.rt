@@ -55,11 +55,7 @@ pub fn run(
         rows.old work.old
         result.0 nu.new states.new result.1 rows.new work.new }
 {
-    let mut counts = Counts {
-        sweeps: 0,
-        passes: 0,
-        stopped: 0,
-    };
+    let mut counts = Counts::default();
     for _ in 0..crate::SWEEP_CAP {
         let ended = turn(p, watch, states, nu, rows, work, &mut counts);
         if ended.is_some() {

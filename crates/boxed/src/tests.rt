@@ -12,15 +12,15 @@ ghost use Rattle.boxed.specs.declared.Cause.TheVariants as cause;
 use crate::{Cause, Ended, Watch};
 use box_rows::problem::{BoxProblem, RowAt};
 
-// The largest natural residual over the rows that act.
+// The largest natural residual over the rows that act. States and multipliers stay apart, as in ending.rt.
 #[tactic(auto, unfolding(loops::specs::Loops::turns, crate::specs::Sweep::residual))]
 pub fn residual(p: &BoxProblem, states: &[u8], nu: &[f64]) -> f64
     requires { private.Lists (lent.of p.now) states.now nu.now }
     ensures { result ≡ sweep.residual (lent.of p.now) states.now nu.now (length p.now.u_free.now) }
 {
     let mut worst = 0.0;
-    for i in 0..p.n() {
-        if states[i] != box_rows::IDLE {
+    for (i, state) in states.iter().enumerate() {
+        if *state != box_rows::IDLE {
             worst = floats::larger(worst, RowAt { problem: p, nu, i }.residual());
         }
     }
@@ -58,11 +58,9 @@ impl<'a> Change<'a> {
         ensures { result ≡ sweep.moved motion.now self.now.nu.now self.now.before.now
             (length motion.now / length self.now.nu.now) }
     {
-        let n = self.nu.len();
         let mut worst = 0.0;
-        for c in 0..motion.len() / n {
-            let s = self.coordinate(&motion[c * n..(c + 1) * n]);
-            worst = floats::larger(worst, floats::abs(s));
+        for row in motion.chunks_exact(self.nu.len()) {
+            worst = floats::larger(worst, floats::abs(self.coordinate(row)));
         }
         worst
     }
@@ -83,21 +81,20 @@ impl<'a> Change<'a> {
 fn ray_test(
     p: &BoxProblem,
     states: &[u8],
-    nu: &[f64],
-    before: &[f64],
+    change: &Change,
     rows: &mut [usize],
 ) -> Option<Ended>
-    requires { private.TestLists (lent.of p.now) states.now nu.now before.now rows.old }
+    requires { private.TestLists (lent.of p.now) states.now change.now.nu.now change.now.before.now rows.old }
     ensures { (c : Counts) → private.Ran
-        (solve.unless cause.Sweep (solve.iterate nu.now states.now c)
+        (solve.unless cause.Sweep (solve.iterate change.now.nu.now states.now c)
         (ray (lent.of p.now) states.now
-        (private.change nu.now before.now (length p.now.u_free.now))))
-        rows.old result nu.now states.now c rows.new }
+        (private.change change.now.nu.now change.now.before.now (length p.now.u_free.now))))
+        rows.old result change.now.nu.now states.now c rows.new }
 {
-    let n = nu.len();
+    let n = change.nu.len();
     // Fixed memory: the scratch is as long as the largest problem needs, and its front is in use.
     let mut y = [0.0f64; box_rows::MAX_ROWS];
-    Change { nu, before }.direction(&mut y[..n]);
+    change.direction(&mut y[..n]);
     let k = exact_pass::ray_of(p, states, &y[..n], rows)?;
     Some(Ended::Infeasible(Cause::Sweep, k))
 }
@@ -124,7 +121,7 @@ pub fn tests(
         if residual(p, states, nu) <= exact_pass::EXACT_RESIDUAL {
             return Some(Ended::Converged);
         }
-        return ray_test(p, states, nu, before, rows);
+        return ray_test(p, states, &change, rows);
     }
     None
 }

@@ -37,7 +37,7 @@ pub fn full(tally: SolveReport) -> bool
         || tally.stopped > u32::MAX - box_rows::MAX_ROWS as u32
 }
 
-// Whether no multiplier is NaN.
+// Whether no multiplier is NaN. By a `for`, as `good_scales` of boxed.
 #[tactic(auto, unfolding(tally::specs::Tally::no_nan, loops::specs::Loops::every))]
 pub fn no_nan(nu: &[f64]) -> bool
     ensures { result ≡ def.no_nan nu.now }

@@ -37,8 +37,8 @@ impl<'a> Triangle<'a> {
         ensures { out.new ≡ triangle.mirror_row self.now.values.now self.now.n i }
     {
         let mut place = row_start(i);
-        for j in 0..self.n {
-            out[j] = self.values[place];
+        for (j, entry) in out.iter_mut().enumerate() {
+            *entry = self.values[place];
             place = next(place, i, j);
         }
     }

@@ -13,7 +13,7 @@ offset_bounds-self-place c =
     omega (arith, place-few c.args.i c.loop-j.j (omega (arith, c.requires, c.args.self.now.few)) (omega (arith, c.loop-j-test.true, c.args.self.now.few)), c.loop-j.invariant.0)
 
 pub bounds-self-place : goal.bounds-self-place
-bounds-self-place c = place-within c.args.self.now.n c.args.i c.loop-j.j _ _ c.args.self.now.long c.requires.inside c.loop-j-test.true c.loop-j.invariant.0
+bounds-self-place c = place-within c.args.self.now.n c.args.i c.loop-j.j _ _ c.args.self.now.long c.requires.inside (omega (arith, c.loop-j-test.true, c.requires.long)) c.loop-j.invariant.0
 
 pub loop-j-preserved : goal.loop-j-preserved
 unfolding triangle.mirror_row
