@@ -24,35 +24,38 @@ fn same_values(a: &[f64], b: &[f64]) -> bool
     a.iter().zip(b).all(|(x, y)| same(*x, *y))
 }
 
-// Whether multipliers and states are those marked.
-fn same_trial(nu: &[f64], states: &[u8], work: &[f64], marks: &[u8]) -> bool
-    requires { private.MarksLent (length nu.now) states.now work.now marks.now }
-    ensures { result ≡ true → pass.trial nu.now states.now
-        ≡ private.marked (length nu.now) work.now marks.now }
-{
-    let n = nu.len();
-    &marks[..n] == states && same_values(&work[MARKED..MARKED + n], nu)
+// Multipliers and states beside the workspace and the list in which earlier ones are marked.
+#[derive(Clone, Copy)]
+struct Marked<'a> {
+    nu: &'a [f64],
+    states: &'a [u8],
+    work: &'a [f64],
+    marks: &'a [u8],
+    ghost lent: { private.MarksLent (length nu.now) states.now work.now marks.now },
 }
 
-// How many of the steps that remain are still to be made, `since` steps after the mark.
-fn remaining_after(
-    nu: &[f64],
-    states: &[u8],
-    work: &[f64],
-    marks: &[u8],
-    since: usize,
-    remaining: usize,
-) -> usize
-    requires lent { private.MarksLent (length nu.now) states.now work.now marks.now }
-    requires some { 0 < since }
-    ensures { private.Shortened
-        (private.marked (length nu.now) work.now marks.now)
-        (pass.trial nu.now states.now) since remaining result }
-{
-    if same_trial(nu, states, work, marks) {
-        return remaining % since;
+impl<'a> Marked<'a> {
+    // Whether they are those marked.
+    fn same_trial(&self) -> bool
+        ensures { result ≡ true → pass.trial self.now.nu.now self.now.states.now
+            ≡ private.marked (length self.now.nu.now) self.now.work.now self.now.marks.now }
+    {
+        let n = self.nu.len();
+        &self.marks[..n] == self.states && same_values(&self.work[MARKED..MARKED + n], self.nu)
     }
-    remaining
+
+    // How many of the steps that remain are still to be made, `since` steps after the mark.
+    fn remaining_after(&self, since: usize, remaining: usize) -> usize
+        requires some { 0 < since }
+        ensures { private.Shortened
+            (private.marked (length self.now.nu.now) self.now.work.now self.now.marks.now)
+            (pass.trial self.now.nu.now self.now.states.now) since remaining result }
+    {
+        if self.same_trial() {
+            return remaining % since;
+        }
+        remaining
+    }
 }
 
 // After a step: a cycle cuts the steps that remain, and the mark is set anew after 2, 4, 8 .. steps (Brent).
@@ -62,7 +65,13 @@ pub fn after_step(nu: &[f64], states: &[u8], work: &mut [f64], marks: &mut [u8],
         work.old marks.old result work.new marks.new }
 {
     let since = m.since + 1;
-    let remaining = remaining_after(nu, states, work, marks, since, m.remaining - 1);
+    let marked = Marked {
+        nu,
+        states,
+        work,
+        marks,
+    };
+    let remaining = marked.remaining_after(since, m.remaining - 1);
     if since < m.span {
         return Cycle {
             since,
