@@ -38,9 +38,9 @@ paired op s [] y = s
 paired op s (a ∷ x) [] = s
 paired op s (a ∷ x) (b ∷ y) = paired op (op s (a ⊗ b)) x y
 
--- room for the reduction: b has m entries, perm n, and v at least m
-abbrev pub Reducing : List Float → Size → List Float → List ℕ → List Float → Type 0
-Reducing a size b perm v = (length a ≡ size.m * size.n) × (length b ≡ size.m) × (length perm ≡ size.n) × (size.m ≤ length v)
+-- the reduction's lists fit: b has m entries, and perm n
+abbrev pub Reducing : List Float → Size → List Float → List ℕ → Type 0
+Reducing a size b perm = (length a ≡ size.m * size.n) × (length b ≡ size.m) × (length perm ≡ size.n)
 
 -- a trapezoid at the top of a, and room for as many reflectors from the right
 abbrev pub Trapezoidal : List Float → Size → List Float → Type 0

@@ -14,12 +14,12 @@ ghost use Rattle.least_norm.specs.Private.{Down, Matrix, Reflects};
 
 use crate::reflect::Reflector;
 use crate::size::{MatrixView, Size};
-use crate::{Householder, lanes, reflect, vector};
+use crate::{Householder, MAX_SIZE, lanes, reflect, vector};
 
 // Column j from row j down, copied to v.
 #[tactic(auto, using(crate::proofs::Laws::updates))]
-fn copy_column(a: &MatrixView, j: usize, v: &mut [f64])
-    requires { (j < a.now.size.n) × (j ≤ a.now.size.m) × (a.now.size.m ≤ length v.old) }
+fn copy_column(a: &MatrixView, j: usize, v: &mut [f64; MAX_SIZE])
+    requires { (j < a.now.size.n) × (j ≤ a.now.size.m) }
     ensures { v.new
         ≡ updated nan (λ (row : ℕ). row)
         (λ (row : ℕ) (x : Float). at a.now.entries.now (row * a.now.size.n + j)) j a.now.size.m v.old }
@@ -30,13 +30,19 @@ fn copy_column(a: &MatrixView, j: usize, v: &mut [f64])
 }
 
 // Column j's reflector, left in v from row j down. The column's norm may be guessed to be near.
-fn householder(a: &MatrixView, j: usize, v: &mut [f64], near: Option<f64>) -> Householder
-    requires { (j < a.now.size.n) × (j < a.now.size.m) × (a.now.size.m ≤ length v.old) }
+fn householder(
+    a: &MatrixView,
+    j: usize,
+    v: &mut [f64; MAX_SIZE],
+    near: Option<f64>,
+) -> Householder
+    requires { (j < a.now.size.n) × (j < a.now.size.m) }
     ensures { Reflects a.now.entries.now a.now.size.m a.now.size.n j result v.new }
 {
     copy_column(a, j, v);
-    let alpha = v[j];
-    let sigma = vector::dot(0.0, v, v, j + 1, a.size.m);
+    let column: &[f64] = v;
+    let alpha = column[j];
+    let sigma = vector::dot(0.0, column, column, j + 1, a.size.m);
     let beta = reflect::beta(alpha, sigma, near);
     let v0 = alpha - beta;
     v[j] = v0;
@@ -46,19 +52,19 @@ fn householder(a: &MatrixView, j: usize, v: &mut [f64], near: Option<f64>) -> Ho
     }
 }
 
-// Adds to s the products of v with K columns from column c on, from row `from` down.
+// Adds to s the products of h's entries, but its first, with K columns from column c on.
 fn add_products<const K: usize>(
     mut s: [f64; K],
     a: &MatrixView,
-    from: usize,
     c: usize,
-    v: &[f64],
+    h: &Reflector,
 ) -> [f64; K]
-    requires { (from ≤ a.now.size.m) × (c + K ≤ a.now.size.n) × (a.now.size.m ≤ length v.now) }
-    ensures { result ≡ blocks.products a.now.entries.now a.now.size.n c K v.now s.entry from a.now.size.m }
+    requires { (length h.now.v.now ≡ a.now.size.m) × (c + K ≤ a.now.size.n) }
+    ensures { result
+        ≡ blocks.products a.now.entries.now a.now.size.n c K h.now.v.now s.entry h.now.rest a.now.size.m }
 {
-    for row in from..a.size.m {
-        s = lanes::add_scaled(s, v[row], a.entries, a.size.place(row, c));
+    for row in h.rest..a.size.m {
+        s = lanes::add_scaled(s, h.v[row], a.entries, a.size.place(row, c));
     }
     s
 }
@@ -73,7 +79,7 @@ fn column_factors<const K: usize>(a: &MatrixView, c: usize, h: &Reflector) -> [f
         a.now.size.m a.now.entries.now }
 {
     let first: [f64; K] = lanes::scaled(h.v[h.first], a.entries, a.size.place(h.first, c));
-    lanes::factors(add_products(first, a, h.rest, c, h.v), h.vtv)
+    lanes::factors(add_products(first, a, c, h), h.vtv)
 }
 
 // Each row from h's first down less the factors f of its K entries from column c on times h's entry.
@@ -133,11 +139,10 @@ pub fn eliminate(
     size: Size,
     j: usize,
     b: &mut [f64],
-    v: &mut [f64],
+    v: &mut [f64; MAX_SIZE],
     near: Option<f64>,
 )
-    requires { Matrix a.old size × (j < size.m) × (j < size.n) × (length b.old ≡ size.m)
-        × (size.m ≤ length v.old) }
+    requires { Matrix a.old size × (j < size.m) × (j < size.n) × (length b.old ≡ size.m) }
     ensures { (p : List ℕ)
         → least.factors a.new b.new p
         ≡ least.eliminated size.m size.n j (least.factors a.old b.old p) }

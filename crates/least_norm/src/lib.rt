@@ -75,9 +75,9 @@ fn reduce(
     j: usize,
     b: &mut [f64],
     perm: &mut [u8],
-    v: &mut [f64],
+    v: &mut [f64; MAX_SIZE],
 ) -> bool
-    requires { private.Reducing a.old size b.old perm.old v.old × (j < size.m) × (j < size.n) }
+    requires { private.Reducing a.old size b.old perm.old × (j < size.m) × (j < size.n) }
     ensures { private.standing result j (least.factors a.new b.new perm.new)
         ≡ least.reduce size.m size.n j (least.going (least.factors a.old b.old perm.old)) }
 {
@@ -100,9 +100,9 @@ fn reduce_columns(
     k: usize,
     b: &mut [f64],
     perm: &mut [u8],
-    v: &mut [f64],
+    v: &mut [f64; MAX_SIZE],
 ) -> usize
-    requires { private.Reducing a.old size b.old perm.old v.old × (k ≤ size.m) × (k ≤ size.n)
+    requires { private.Reducing a.old size b.old perm.old × (k ≤ size.m) × (k ≤ size.n)
         × (perm.old ≡ tab (λ (i : ℕ). i) size.n) }
     ensures { private.Stopped k (least.reduced size.m size.n a.old b.old k) result
         (least.factors a.new b.new perm.new) }
@@ -192,7 +192,7 @@ fn solve_at(
     solve_ranked(a, top, b, x, &mut workspace[..rank * size.n], perm, y);
 }
 
-// The whole, the sizes checked. v has room for a column and for y.
+// The whole, the sizes checked. v is for a column, and then for y.
 fn least_norm(
     a: &mut [f64],
     size: Size,
@@ -200,9 +200,9 @@ fn least_norm(
     x: &mut [f64],
     workspace: &mut [f64],
     perm: &mut [u8],
-    v: &mut [f64],
+    v: &mut [f64; MAX_SIZE],
 ) -> usize
-    requires { private.Reducing a.old size b.old perm.old v.old × (length x.old ≡ size.n) × (size.n ≤ length v.old)
+    requires { private.Reducing a.old size b.old perm.old × (length x.old ≡ size.n)
         × (1056 ≤ length workspace.old) }
     ensures { (least.solution result a.new b.new x.new
         ≡ least.least_norm size.m size.n a.old b.old)
