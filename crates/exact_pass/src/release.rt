@@ -2,6 +2,7 @@
 // the first of equals.
 ghost use Rattle.std.specs.Prelude.{◌≡◌, ◌<◌, List, ℕ, length};
 ghost use Rattle.box_rows.specs.Lent.{of};
+ghost use Rattle.box_rows.specs.Rows as box;
 ghost use Rattle.exact_pass.specs.Pass as pass;
 ghost use Rattle.exact_pass.specs.Private as private;
 
@@ -24,26 +25,18 @@ fn worse(i: usize, r: f64, worst: Worst) -> Worst
     worst
 }
 
-// The worst row, row i considered: only a row on a bound that is pushed inside can be released.
+// The worst row, one more considered, of this state: only a row on a bound that is pushed inside can be released.
 #[tactic(auto, unfolding(crate::specs::Private::release_row, box_rows::specs::Rows::pushed, box_rows::specs::Rows::residual_at))]
-fn release_row(t: &RowValues, i: usize, worst: Worst) -> Worst
-    requires { i < length t.now.problem.now.u_free.now }
-    ensures { result
-        ≡ private.release_row (of t.now.problem.now) t.now.states.now t.now.values.now i worst }
+fn release_row(state: u8, row: &RowAt, worst: Worst) -> Worst
+    ensures { (st : List ℕ) → box.state st row.now.i ≡ state
+        → result ≡ private.release_row (of row.now.problem.now) st row.now.nu.now row.now.i worst }
 {
-    let problem = t.problem;
-    let s = t.states[i];
-    if s == INSIDE || s == IDLE {
+    if state == INSIDE || state == IDLE {
         return worst;
     }
-    let row = RowAt {
-        problem,
-        nu: t.values,
-        i,
-    }
-    .numbers();
-    if pushed(s, row.u) {
-        return worse(i, natural_residual(row, problem.scale[i]), worst);
+    let numbers = row.numbers();
+    if pushed(state, numbers.u) {
+        return worse(row.i, natural_residual(numbers, row.problem.scale[row.i]), worst);
     }
     worst
 }
@@ -59,8 +52,13 @@ fn worst_row(t: &RowValues) -> Option<usize>
         residual: EXACT_RESIDUAL,
         row: None,
     };
-    for i in 0..t.states.len() {
-        worst = release_row(t, i, worst);
+    for (i, state) in t.states.iter().enumerate() {
+        let row = RowAt {
+            problem: t.problem,
+            nu: t.values,
+            i,
+        };
+        worst = release_row(*state, &row, worst);
     }
     worst.row
 }
