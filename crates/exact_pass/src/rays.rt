@@ -83,6 +83,7 @@ fn linear(ray: &RayView) -> f64
 }
 
 // quad with row a of the matrix more.
+// The row goes by its number: a ProblemRow would have to be asked to be of the ray's problem.
 #[tactic(auto, using(crate::proofs::Loops::turning), unfolding(crate::specs::Private::quadratic_row))]
 fn quadratic_row(ray: &RayView, a: usize, quad: f64) -> f64
     requires { a < length ray.now.motion.now.values.now }

@@ -3,23 +3,24 @@ ghost use Rattle.std.specs.Prelude.{◌≡◌, ◌+◌, ◌<◌, ◌≤◌, leng
 ghost use Rattle.exact_pass.specs.Pass as pass;
 ghost use Rattle.exact_pass.specs.Private as private;
 
-use box_rows::problem::BoxProblem;
+use box_rows::problem::{BoxProblem, ProblemRow};
 use box_rows::{IDLE, placed, state_of};
 
-// Row i in the state that its multiplier shows, with the multiplier of that state; how many rows act up to it.
+// A row in the state that its multiplier shows, with the multiplier of that state; how many rows act up to it.
 // The lists that a pass writes are lent one by one: in a struct of two `&mut` (tried), the proof of `run` did not
 // close.
 #[tactic(auto, unfolding(crate::specs::Private::start_row))]
-fn start_row(p: &BoxProblem, states: &mut [u8], nu: &mut [f64], i: usize, acting: usize) -> usize
-    requires row { i < length p.now.u_free.now }
-    requires states { length states.old ≡ length p.now.u_free.now }
-    requires multipliers { length nu.old ≡ length p.now.u_free.now }
-    requires count { acting ≤ i }
+fn start_row(row: &ProblemRow, states: &mut [u8], nu: &mut [f64], acting: usize) -> usize
+    requires states { length states.old ≡ length row.now.problem.now.u_free.now }
+    requires multipliers { length nu.old ≡ length row.now.problem.now.u_free.now }
+    requires count { acting ≤ row.now.i }
     ensures { private.Started
-        (private.start_row p.now.lo.now p.now.hi.now p.now.scale.now i
+        (private.start_row row.now.problem.now.lo.now row.now.problem.now.hi.now row.now.problem.now.scale.now row.now.i
         (private.started nu.old states.old acting))
-        (i + 1) nu.new states.new result }
+        (row.now.i + 1) nu.new states.new result }
 {
+    let p = row.problem;
+    let i = row.i;
     if states[i] == IDLE {
         return acting;
     }
@@ -41,7 +42,7 @@ pub fn start(p: &BoxProblem, states: &mut [u8], nu: &mut [f64]) -> usize
 {
     let mut acting = 0;
     for i in 0..p.n() {
-        acting = start_row(p, states, nu, i, acting);
+        acting = start_row(&ProblemRow { problem: p, i }, states, nu, acting);
     }
     acting
 }

@@ -49,6 +49,7 @@ fn unbounded(d: &Direction, states: &[u8], rows: &mut [usize]) -> Exact
 }
 
 // The row that blocks a step is put on its bound.
+// The row goes by its number: a ProblemRow beside it would hold again the number that the Block holds.
 // The lists are lent one by one, here and in `take_step`, as in start.rt.
 #[tactic(auto, unfolding(crate::specs::Pass::hold))]
 fn hold(p: &BoxProblem, states: &mut [u8], nu: &mut [f64], r: Block)

@@ -31,6 +31,7 @@ fn right_hand_start(free: &FreeRows, rhs: &mut [f64])
 
 // Column j, whose row has the multiplier v, taken from the right-hand side of each free row where row j is not free:
 // the columns of free rows are on the left.
+// Row j goes by its number: a ProblemRow would have to be asked to be of the problem of the free rows.
 #[tactic(auto, using(crate::proofs::Loops::updating), unfolding(loops::specs::Updates::updated))]
 fn bound_column(free: &FreeRows, state: u8, j: usize, v: f64, rhs: &mut [f64])
     requires column { j < length free.now.trial.problem.now.u_free.now }
