@@ -1,8 +1,6 @@
 -- A number of two words shifted by up to 63 bits into three words, and further by whole words. Assumes nothing.
 use Rattle.std.proofs.Common.{◌≡◌, ℕ, zero, suc, ◌+◌, ◌-◌, ◌*◌, ◌/◌, ◌%◌, ◌^◌, ◌<◌, ◌≤◌, [], ◌∷◌, sym, refl, ap, ◌∙◌, mul_assoc, div-add-mod', arith, lt_of_lt_of_le, pow_pos, pow_mono, pow-add, shr-shr, shr_lt}
 use native.Mathlib.Nat.{mul-div-mul_right, pow-succ'}
-use Rattle.std.proofs.lemmas.Nat.{and_mask}
-use Rattle.std.specs.Prelude.{bit_and}
 use Rattle.accumulator.specs.Accumulators.{value_in, base, value}
 
 -- ---- 2 ^ 128 by two factors, the places that a shift by b keeps, and those that it pushes out
@@ -27,9 +25,9 @@ top-fits x b h g =
 three_words : (low top n k : ℕ) → top * (k * k) + low ≡ n → low % k + k * (low / k + k * (top + k * 0)) ≡ n
 three_words low top n k h = let e : low / k * k + low % k ≡ low = div-add-mod' low k in omega (arith, e, h)
 
-shifted : (x b : ℕ) → b < 64 → value (bit_and (x * 2 ^ b % 2 ^ 128) 0xffffffffffffffff ∷ x * 2 ^ b % 2 ^ 128 / base ∷ x / 2 / 2 ^ (127 - b) ∷ []) ≡ x * 2 ^ b
+shifted : (low middle x b : ℕ) → b < 64 → low ≡ x * 2 ^ b % 2 ^ 128 % base → middle ≡ x * 2 ^ b % 2 ^ 128 / base → value (low ∷ middle ∷ x / 2 / 2 ^ (127 - b) ∷ []) ≡ x * 2 ^ b
 unfolding value_in
-shifted x b h = rw (and_mask (x * 2 ^ b % 2 ^ 128) 64) (three_words (x * 2 ^ b % 2 ^ 128) (x / 2 / 2 ^ (127 - b)) (x * 2 ^ b) base (kept_and_out x b h))
+shifted low middle x b h e f = rw (e, f) (three_words (x * 2 ^ b % 2 ^ 128) (x / 2 / 2 ^ (127 - b)) (x * 2 ^ b) base (kept_and_out x b h))
 
 -- ---- whole words
 
@@ -45,6 +43,7 @@ power n =
     let e : n % 64 + 64 * (n / 64) ≡ n = omega arith in
     ap (λ (x : ℕ). 2 ^ (n % 64) * x) (sym (word_power (n / 64))) ∙ sym (pow-add 2 (n % 64) (64 * (n / 64))) ∙ ap (λ (x : ℕ). 2 ^ x) e
 
-pub placed : (x n : ℕ) → value (bit_and (x * 2 ^ (n % 64) % 2 ^ 128) 0xffffffffffffffff ∷ x * 2 ^ (n % 64) % 2 ^ 128 / base ∷ x / 2 / 2 ^ (127 - n % 64) ∷ []) * base ^ (n / 64) ≡ x * 2 ^ n
-placed x n =
-    ap (λ (v : ℕ). v * base ^ (n / 64)) (shifted x (n % 64) (omega arith)) ∙ mul_assoc x (2 ^ (n % 64)) (base ^ (n / 64)) ∙ ap (λ (y : ℕ). x * y) (power n)
+pub placed : (low middle x n : ℕ) → low ≡ x * 2 ^ (n % 64) % 2 ^ 128 % base → middle ≡ x * 2 ^ (n % 64) % 2 ^ 128 / base
+    → value (low ∷ middle ∷ x / 2 / 2 ^ (127 - n % 64) ∷ []) * base ^ (n / 64) ≡ x * 2 ^ n
+placed low middle x n e f =
+    ap (λ (v : ℕ). v * base ^ (n / 64)) (shifted low middle x (n % 64) (omega arith) e f) ∙ mul_assoc x (2 ^ (n % 64)) (base ^ (n / 64)) ∙ ap (λ (y : ℕ). x * y) (power n)

@@ -6,7 +6,8 @@ use crate::{Accumulator, MOST_PRODUCTS, words};
 use refusals::Refusal;
 
 impl Accumulator {
-    // Whether this accumulator and `other` stay within 32 products and one free motion. Counts that no call made may be any.
+    // Whether this accumulator and `other` stay within 32 products and one free motion. Counts that no call made may
+    // be any.
     #[tactic(auto, unfolding(crate::specs::Joins::joinable))]
     fn joinable(self, other: Accumulator) -> bool
         ensures { result ≡ joins.joinable self other }
@@ -15,8 +16,8 @@ impl Accumulator {
         products <= MOST_PRODUCTS as u64 && !(self.free && other.free)
     }
 
-    // This accumulator and `other` together: the words add modulo 2^4288, the products add, and a free motion of either is the total's. Refused where that
-    // would be more than 32 products or a second free motion.
+    // This accumulator and `other` together: the words add modulo 2^4288, the products add, and a free motion of either
+    // is the total's. Refused where that would be more than 32 products or a second free motion.
     pub fn join(mut self, other: Accumulator) -> Result<Accumulator, Refusal>
         ensures { result ≡ joins.join self other }
     {

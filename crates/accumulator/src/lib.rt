@@ -1,5 +1,6 @@
-// Exact row sums: a free motion and up to 32 products W_ij * nu_j added without rounding, in a Kulisch (long) accumulator. Each call is total, and its
-// contract is an equation with a definition of specs/. The solver does not use it: its row sums stay rounded.
+// Exact row sums: a free motion and up to 32 products W_ij * nu_j added without rounding, in a Kulisch (long)
+// accumulator. Each call is total, and its contract is an equation with a definition of specs/. The solver does not use
+// it: its row sums stay rounded.
 #![tactic(auto)]
 
 ghost use Rattle.std.specs.Prelude.{◌≡◌, ◌+◌, ◌<◌, MatchResult};
@@ -20,7 +21,8 @@ pub const WORDS: usize = 67;
 // The most products that it holds.
 pub const MOST_PRODUCTS: u32 = 32;
 
-// A whole number of 2^-2148 in 67 words of 64 bits, the lowest first, two's complement: what was added so far, and how much of it.
+// A whole number of 2^-2148 in 67 words of 64 bits, the lowest first, two's complement: what was added so far, and how
+// much of it.
 #[derive(Clone, Copy)]
 pub struct Accumulator {
     pub words: [u64; WORDS],
@@ -54,7 +56,8 @@ impl Accumulator {
         Ok(self)
     }
 
-    // The same in place, for a row, since the calls above copy 67 words each: the accumulator is as it was where the term is refused.
+    // The same in place, for a row, since the calls above copy 67 words each: the accumulator is as it was where the term
+    // is refused.
     #[tactic(auto, unfolding(crate::specs::Accumulators::add_free, crate::specs::Accumulators::with_free))]
     pub fn take_free(&mut self, u: f64) -> Result<(), Refusal>
         ensures { MatchResult result (λ _. Ok self.new ≡ acc.add_free self.old u)
@@ -86,7 +89,8 @@ impl Accumulator {
     #[tactic(auto, unfolding(crate::specs::Accumulators::add_product, crate::specs::Accumulators::with_product))]
     fn put_product(&mut self, w: f64, nu: f64) -> Result<(), Refusal>
         requires { self.old.products < 32 }
-        ensures { MatchResult result (λ _. (Ok self.new ≡ acc.add_product self.old w nu) × (self.new.products ≡ self.old.products + 1))
+        ensures { MatchResult result
+            (λ _. (Ok self.new ≡ acc.add_product self.old w nu) × (self.new.products ≡ self.old.products + 1))
             (λ r. (Err r ≡ acc.add_product self.old w nu) × (self.new ≡ self.old)) }
     {
         if !floats::is_finite(w) || !floats::is_finite(nu) {

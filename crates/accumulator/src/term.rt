@@ -12,8 +12,8 @@ const LEADING: u64 = 0x10_0000_0000_0000;
 
 const SIGN: u64 = 0x8000_0000_0000_0000;
 
-// A finite value: digits * 2^places units of 2^-1074, below 0 where negative. The sign stays beside the digits, as in a pattern: signed digits would be
-// taken apart again where words are added or taken away.
+// A finite value: digits * 2^places units of 2^-1074, below 0 where negative. The sign stays beside the digits, as in a
+// pattern: signed digits would be taken apart again where words are added or taken away.
 #[derive(Clone, Copy)]
 struct Scaled {
     negative: bool,
@@ -21,7 +21,8 @@ struct Scaled {
     places: u32,
 }
 
-// From the magnitude's pattern, which is the exponent's field and 52 digits: a leading digit stands above them unless the field is 0.
+// From the magnitude's pattern, which is the exponent's field and 52 digits: a leading digit stands above them unless
+// the field is 0.
 #[tactic(auto, using(crate::proofs::Patterns::small_scales, crate::proofs::Patterns::large_scales))]
 fn of_magnitude(negative: bool, magnitude: u64) -> Scaled
     requires { magnitude < 0x7ff0_0000_0000_0000 }
@@ -50,19 +51,16 @@ fn units(v: f64) -> Scaled
     of_magnitude(bits >= SIGN, bits % SIGN)
 }
 
-// The number digits * 2^places is added, or taken away where negative. Shifted by up to 63 bits its digits have three words.
+// The number digits * 2^places is added, or taken away where negative. Shifted by up to 63 bits its digits have three
+// words.
 fn add(words: &mut [u64; WORDS], negative: bool, digits: u128, places: u32)
     requires { places < 4160 }
     ensures { words.new ≡ acc.added words.old (acc.signed negative (digits * 2 ^ places)) }
 {
     let k = (places / 64) as usize;
     let b = places % 64;
-    let low = digits << b;
-    let terms = [
-        (low & 0xffff_ffff_ffff_ffff) as u64,
-        (low >> 64) as u64,
-        (digits >> 1 >> (127 - b)) as u64,
-    ];
+    let (low, middle) = words::halves(digits << b);
+    let terms = [low, middle, (digits >> 1 >> (127 - b)) as u64];
     if negative {
         words::add::<Minus>(words, k, &terms);
     } else {

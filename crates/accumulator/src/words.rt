@@ -5,8 +5,8 @@ ghost use Rattle.accumulator.specs.Steps as steps;
 
 use crate::WORDS;
 
-// What is done with terms: they are added, or taken away. What is carried is a word: with carrying_add, which carries a bool, a join took 174 ns, and takes
-// less than 150 with sums of 128 bits.
+// What is done with terms: they are added, or taken away. What is carried is a word: with carrying_add, which carries a
+// bool, a join took 174 ns, and takes less than 150 with sums of 128 bits.
 pub trait Operation {
     ghost taken: { Bool };
 
@@ -16,7 +16,7 @@ pub trait Operation {
 }
 
 // The low and the high word of a number.
-fn halves(x: u128) -> (u64, u64)
+pub fn halves(x: u128) -> (u64, u64)
     ensures { (result.0 ≡ x % acc.base) × (result.1 ≡ x / acc.base) }
 {
     ((x & 0xffff_ffff_ffff_ffff) as u64, (x >> 64) as u64)
