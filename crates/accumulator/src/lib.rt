@@ -66,10 +66,7 @@ impl Accumulator {
         if self.free {
             return Err(Refusal::ExactFull);
         }
-        if !floats::is_finite(u) {
-            return Err(Refusal::NotFinite);
-        }
-        term::add_free(&mut self.words, u);
+        term::add_free(&mut self.words, u)?;
         self.free = true;
         Ok(())
     }
@@ -93,10 +90,7 @@ impl Accumulator {
             (λ _. (Ok self.new ≡ acc.add_product self.old w nu) × (self.new.products ≡ self.old.products + 1))
             (λ r. (Err r ≡ acc.add_product self.old w nu) × (self.new ≡ self.old)) }
     {
-        if !floats::is_finite(w) || !floats::is_finite(nu) {
-            return Err(Refusal::NotFinite);
-        }
-        term::add_product(&mut self.words, w, nu);
+        term::add_product(&mut self.words, w, nu)?;
         self.products += 1;
         Ok(())
     }

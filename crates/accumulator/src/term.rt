@@ -1,11 +1,13 @@
 // Terms: a free motion or a product as a whole number, a number of places that it stands higher, and a sign.
-ghost use Rattle.std.specs.Prelude.{◌≡◌, ◌*◌, ◌^◌, ◌<◌, true};
-ghost use Rattle.floats.specs.Helpers as helpers;
+ghost use Rattle.std.specs.Prelude.{◌≡◌, ◌*◌, ◌^◌, ◌<◌, ◌&&◌, true, false, MatchResult};
+ghost use Rattle.floats.specs.Helpers.{is_finite};
+ghost use Rattle.refusals.specs.declared.Refusal.TheVariants.{NotFinite};
 ghost use Rattle.accumulator.specs.Accumulators as acc;
 ghost use Rattle.accumulator.specs.Steps as steps;
 
 use crate::WORDS;
 use crate::words::{self, Minus, Plus};
+use refusals::Refusal;
 
 // The lowest bit of a pattern's exponent, which is where the leading digit stands, and the bit of its sign.
 const LEADING: u64 = 0x10_0000_0000_0000;
@@ -42,13 +44,16 @@ fn of_magnitude(negative: bool, magnitude: u64) -> Scaled
     }
 }
 
-// A finite value in units of 2^-1074.
-fn units(v: f64) -> Scaled
-    requires { helpers.is_finite v ≡ true }
-    ensures { steps.Scales v result }
+// A value in units of 2^-1074, where it is finite.
+fn units(v: f64) -> Result<Scaled, Refusal>
+    ensures { MatchResult result (λ x. (is_finite v ≡ true) × steps.Scales v x)
+        (λ r. (r ≡ NotFinite) × (is_finite v ≡ false)) }
 {
+    if !floats::is_finite(v) {
+        return Err(Refusal::NotFinite);
+    }
     let bits = v.to_bits();
-    of_magnitude(bits >= SIGN, bits % SIGN)
+    Ok(of_magnitude(bits >= SIGN, bits % SIGN))
 }
 
 // The number digits * 2^places is added, or taken away where negative. Shifted by up to 63 bits its digits have three
@@ -69,25 +74,29 @@ fn add(words: &mut [u64; WORDS], negative: bool, digits: u128, places: u32)
 }
 
 // A free motion: 2^1074 units for each 2^-1074.
-pub fn add_free(words: &mut [u64; WORDS], u: f64)
-    requires { helpers.is_finite u ≡ true }
-    ensures { words.new ≡ acc.added words.old (acc.free_term u) }
+pub fn add_free(words: &mut [u64; WORDS], u: f64) -> Result<(), Refusal>
+    ensures { MatchResult result
+        (λ _. (is_finite u ≡ true) × (words.new ≡ acc.added words.old (acc.free_term u)))
+        (λ r. (r ≡ NotFinite) × (is_finite u ≡ false) × (words.new ≡ words.old)) }
 {
-    let x = units(u);
+    let x = units(u)?;
     add(words, x.negative, x.digits as u128, x.places + 1074);
+    Ok(())
 }
 
 // A product.
-pub fn add_product(words: &mut [u64; WORDS], w: f64, nu: f64)
-    requires { (helpers.is_finite w ≡ true) × (helpers.is_finite nu ≡ true) }
-    ensures { words.new ≡ acc.added words.old (acc.product_term w nu) }
+pub fn add_product(words: &mut [u64; WORDS], w: f64, nu: f64) -> Result<(), Refusal>
+    ensures { MatchResult result
+        (λ _. (is_finite w && is_finite nu ≡ true) × (words.new ≡ acc.added words.old (acc.product_term w nu)))
+        (λ r. (r ≡ NotFinite) × (is_finite w && is_finite nu ≡ false) × (words.new ≡ words.old)) }
 {
-    let x = units(w);
-    let y = units(nu);
+    let x = units(w)?;
+    let y = units(nu)?;
     add(
         words,
         x.negative != y.negative,
         x.digits as u128 * y.digits as u128,
         x.places + y.places,
     );
+    Ok(())
 }
