@@ -44,8 +44,8 @@ fn bound_column(free: &FreeRows, state: u8, j: usize, v: f64, rhs: &mut [f64])
     if state == INSIDE {
         return;
     }
-    for i in 0..free.rows.len() {
-        rhs[i] = rhs[i] - free.row(i)[j] * v;
+    for (i, r) in rhs.iter_mut().enumerate() {
+        *r = *r - free.row(i)[j] * v;
     }
 }
 
