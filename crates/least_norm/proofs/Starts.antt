@@ -4,10 +4,11 @@ use Prim.Native.Nat.{ℕ, zero, suc, ◌+◌, ◌-◌, ◌*◌, ◌≤◌, ◌<�
 use mathlib.Core.Path.{◌≡◌, refl, sym, ◌∙◌, ap, subst}
 use mathlib.Core.Bool.{Bool, true, false, cond}
 use mathlib.Core.List.{List, [], ◌∷◌}
-use mathlib.Core.Logic.{⊎_elim}
+use mathlib.Core.Logic.{⊎_elim, ∥∥₁_elim}
 use native.Mathlib.Omega.{arith}
 use native.Mathlib.Nat.{eq-or-lt_of_le}
 use borrow.Author.Tests.{eqb-true, eqb-false}
+use denote.Struct.Props.{props}
 use lib.Dec.{eqb}
 use lib.ListN.{length, get_or, set, replicate, length-set, length-replicate, get_or-append}
 use lib.Seq.{get_or-set_same, get_or-set_other, get_or_at, ext_get_or}
@@ -223,13 +224,16 @@ reduced_fine m n a b k h =
     k (fine-start n) (λ j r l f. reduce_fine m n j (omega arith) r f)
 
 pub onto-run : (m n : ℕ) (a b : List Float) (k c : ℕ) (s : least.Factors) → private.Stopped k (least.reduced m n a b k) c s
-    → k ≤ n → private.Onto n s.perm
-onto-run m n a b k c s e h = subst (λ (s : least.Factors). private.Onto n s.perm) (sym e.factors) (reduced_fine m n a b k h).1
+    → k ≤ n → length s.perm ≡ n → ∥ private.Onto (length s.perm) s.perm ∥₁
+onto-run m n a b k c s e h l = rw l (∣ subst (λ (s : least.Factors). private.Onto n s.perm) (sym e.factors) (reduced_fine m n a b k h).1 ∣₁)
 
 -- so the order's start does not show
 pub order-run : (n : ℕ) (perm : List ℕ) (x z y : List Float) → x ≡ starts.unpermuted z perm y (length perm)
-    → length perm ≡ n → length z ≡ n → private.Onto n perm → x ≡ least.unpermuted (length perm) perm y (length perm)
-order-run n perm x z y e lp lz onto =
+    → length perm ≡ n → length z ≡ n → ∥ private.Onto (length perm) perm ∥₁
+    → x ≡ least.unpermuted (length perm) perm y (length perm)
+order-run n perm x z y e lp lz each =
+    ∥∥₁_elim each (hlevel props) λ all.
+    let onto : private.Onto n perm = rw lp at all in
     let l : length (replicate n 0ᶠ) ≡ n = length-replicate n 0ᶠ in
     let g : x ≡ starts.unpermuted (replicate n 0ᶠ) perm y n =
     rw (← lp) (e ∙ rw lp (unpermuted_any perm y z (replicate n 0ᶠ) (lz ∙ sym l) n lz onto)) in
@@ -239,7 +243,8 @@ order-run n perm x z y e lp lz onto =
 
 pub full-run : (n rank : ℕ) (a b : List Float) (perm : List ℕ) (x z y w : List Float) → rank ≡ n
     → x ≡ starts.unpermuted z perm y (length perm) → y ≡ starts.substituted w n rank a b 0 → length perm ≡ n → length z ≡ n
-    → length w ≡ n → private.Onto n perm → 0 < n → least.solution rank a b x ≡ least.solved n (least.factors a b perm) rank
+    → length w ≡ n → ∥ private.Onto (length perm) perm ∥₁ → 0 < n
+    → least.solution rank a b x ≡ least.solved n (least.factors a b perm) rank
 full-run n rank a b perm x z y w q ex ey lp lz lw onto h =
     let l : length (replicate n 0ᶠ) ≡ n = length-replicate n 0ᶠ in
     let e : y ≡ starts.substituted w n n a b 0 = rw q at ey in

@@ -24,6 +24,7 @@ mod vector;
 
 use refusals::Refusal;
 use size::{MatrixView, Size};
+use solution::Permutation;
 
 // The most rows, and the most columns.
 pub const MAX_SIZE: usize = 32;
@@ -122,14 +123,13 @@ fn solve_ranked(
     b: &[f64],
     x: &mut [f64],
     right: &mut [f64],
-    perm: &[u8],
+    order: &Permutation,
     y: &mut [f64],
 )
     requires { private.Trapezoidal a.old top right.old × (0 < top.m) × (top.m ≤ length b.now)
-        × (length perm.now ≡ top.n) × (y.old ≡ replicate top.n 0ᶠ) × (length x.old ≡ top.n)
-        × private.Onto top.n perm.now }
+        × (length order.now.columns.now ≡ top.n) × (y.old ≡ replicate top.n 0ᶠ) × (length x.old ≡ top.n) }
     ensures { least.solution top.m a.new b.now x.new
-        ≡ least.solved top.n (least.factors a.old b.now perm.now) top.m }
+        ≡ least.solved top.n (least.factors a.old b.now order.now.columns.now) top.m }
 {
     trapezoid::clear(a, top, right);
     let t = MatrixView {
@@ -142,19 +142,19 @@ fn solve_ranked(
         size: top,
     };
     solution::turn_back(&reflectors, y);
-    solution::unpermute(perm, y, x);
+    solution::unpermute(order.columns, y, x);
 }
 
 // The solution at full rank. Every entry of y and of x is written, so neither need be cleared, and there is no
 // reflector from the right.
-fn solve_full(t: &MatrixView, b: &[f64], x: &mut [f64], perm: &[u8], y: &mut [f64])
+fn solve_full(t: &MatrixView, b: &[f64], x: &mut [f64], order: &Permutation, y: &mut [f64])
     requires { private.Substituting t.now.size b.now y.old × (0 < t.now.size.n) × (t.now.size.m ≡ t.now.size.n)
-        × (length x.old ≡ t.now.size.n) × (length perm.now ≡ t.now.size.n) × private.Onto t.now.size.n perm.now }
+        × (length x.old ≡ t.now.size.n) × (length order.now.columns.now ≡ t.now.size.n) }
     ensures { least.solution t.now.size.m t.now.entries.now b.now x.new
-        ≡ least.solved t.now.size.n (least.factors t.now.entries.now b.now perm.now) t.now.size.m }
+        ≡ least.solved t.now.size.n (least.factors t.now.entries.now b.now order.now.columns.now) t.now.size.m }
 {
     solution::substitute(t, b, y);
-    solution::unpermute(perm, y, x);
+    solution::unpermute(order.columns, y, x);
 }
 
 // The solution at any rank. The reflectors stand in the front of the workspace.
@@ -164,15 +164,15 @@ fn solve_at(
     b: &[f64],
     x: &mut [f64],
     workspace: &mut [f64],
-    perm: &[u8],
+    order: &Permutation,
     y: &mut [f64],
     rank: usize,
 )
     requires { private.Matrix a.old size × (rank ≤ size.m) × (rank ≤ size.n) × (length b.now ≡ size.m)
-        × (length perm.now ≡ size.n) × (1056 ≤ length workspace.old) × (length y.old ≡ size.n)
-        × (length x.old ≡ size.n) × private.Onto size.n perm.now }
+        × (length order.now.columns.now ≡ size.n) × (1056 ≤ length workspace.old) × (length y.old ≡ size.n)
+        × (length x.old ≡ size.n) }
     ensures { (least.solution rank a.new b.now x.new
-        ≡ least.solved size.n (least.factors a.old b.now perm.now) rank)
+        ≡ least.solved size.n (least.factors a.old b.now order.now.columns.now) rank)
         × (drop 1056 workspace.new ≡ drop 1056 workspace.old) }
 {
     if rank == 0 {
@@ -185,11 +185,11 @@ fn solve_at(
             entries: a,
             size: top,
         };
-        solve_full(&t, b, x, perm, y);
+        solve_full(&t, b, x, order, y);
         return;
     }
     y.fill(0.0);
-    solve_ranked(a, top, b, x, &mut workspace[..rank * size.n], perm, y);
+    solve_ranked(a, top, b, x, &mut workspace[..rank * size.n], order, y);
 }
 
 // The whole, the sizes checked. v is for a column, and then for y.
@@ -211,7 +211,8 @@ fn least_norm(
     count_up(perm);
     let columns = reduce_columns(a, size, size.m.min(size.n), b, perm, v);
     let rank = rank::leading(&MatrixView { entries: a, size }, columns);
-    solve_at(a, size, b, x, workspace, perm, &mut v[..size.n], rank);
+    let order = Permutation { columns: perm };
+    solve_at(a, size, b, x, workspace, &order, &mut v[..size.n], rank);
     rank
 }
 

@@ -5,11 +5,18 @@ ghost use Rattle.std.specs.Prelude.{◌≡◌, ◌≤◌, ◌<◌, length};
 ghost use Rattle.least_norm.specs.LeastNorm as least;
 ghost use Rattle.least_norm.specs.Starts as starts;
 ghost use Rattle.least_norm.specs.Private as private;
-ghost use Rattle.least_norm.specs.Private.{Substituting, Turning};
+ghost use Rattle.least_norm.specs.Private.{Onto, Substituting, Turning};
 
 use crate::reflect::Reflector;
 use crate::size::MatrixView;
 use crate::{trapezoid, vector};
+
+// The columns' order: column columns[j] stands at place j, and each column at one.
+#[derive(Clone, Copy)]
+pub struct Permutation<'a> {
+    pub columns: &'a [u8],
+    pub ghost onto: { ∥ Onto (length columns.now) columns.now ∥₁ },
+}
 
 // What row i leaves of b once the entries of y after i are known.
 fn known(t: &MatrixView, b: &[f64], y: &[f64], i: usize) -> f64

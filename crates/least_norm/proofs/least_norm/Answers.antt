@@ -14,8 +14,10 @@ solve_at-requires c = (
   omega arith,
   length-take-le _ _ (omega arith),
   omega arith,
-  onto-run _ _ _ _ _ _ _ c.reduce_columns-columns.ensures (omega arith),
 )
+
+pub invariant_of-order : goal.invariant_of-order
+invariant_of-order c = record { onto = onto-run _ _ _ _ _ _ _ c.reduce_columns-columns.ensures (omega arith) (omega arith) }
 
 pub returns : goal.returns
 returns c = (
