@@ -26,7 +26,8 @@ pub struct Step {
 // The step whose trailer the file ends with, or the first rule that it breaks. The length rule needs no guard against a
 // start that only wraps: it counts from a link that is before the numbers.
 pub fn read(file: &[u8]) -> Result<Step, Refusal>
-    ensures { result ≡ unless (chain.step_refusal file.now (length file.now)) (private.step file.now (length file.now)) }
+    ensures { result ≡ unless (chain.step_refusal file.now (length file.now))
+        (private.step file.now (length file.now)) }
 {
     let end = file.len();
     if !trailer::sized(end, MAX_BYTES) {

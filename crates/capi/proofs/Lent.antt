@@ -1,6 +1,7 @@
 -- Where C lends more than a call needs, the call has the front: what is read of it and left in it is what is read of the list and left in it. Assumes nothing.
 use Rattle.std.proofs.Common.{◌≡◌, ℕ, zero, suc, ◌<◌, ◌≤◌, List, [], ◌∷◌, ◌++◌, length, take, drop, set, get_or, refl, sym, ◌∙◌, arith, Bool, true, false, ◌&&◌, leb, Ok, Err, Result, ap, le-leb}
 use Rattle.std.proofs.lemmas.List.{take-append-drop}
+use Rattle.std.specs.Int.{from_bool}
 use lib.ListN.{drop_of_length-le}
 use Rattle.flags.specs.Flags.{flag}
 use lib.Ieee.{Float, nan}
@@ -45,6 +46,10 @@ unfolding report.written Counted
 ten_written r l h =
     let all = counted 10 (λ (k : List ℕ). r.increments ∷ r.iterations ∷ r.most_iterations ∷ r.rejected ∷ r.anchors ∷ r.sweeps ∷ r.exact_passes ∷ flag r.converged ∷ flag r.exact ∷ r.stopped ∷ drop 10 k ≡ report.written r k) (λ a b c d e f g h i j k. refl) l (omega (arith, h)) in
     rw (drop_of_length-le l {i = 10} (omega (arith, h))) at all
+
+pub flag_is : (b : Bool) → from_bool b ≡ flag b
+flag_is true = refl
+flag_is false = refl
 
 pub eight_written : (o : ℕ) (r : BoxReport) (k : ℕ) (l : List ℕ) → length l ≡ 8
     → o ∷ r.sweeps ∷ r.exact_passes ∷ flag r.converged ∷ flag r.exact ∷ r.idle ∷ k ∷ r.stopped ∷ [] ≡ plain.written o r k l

@@ -6,7 +6,8 @@ use flags::{flag, flagged};
 use refusals::Refusal;
 use report::SolveReport;
 
-// Read and written by functions, and not by From: a report and an array are both of other crates, and the residual lies apart.
+// Read and written by functions, and not by From: a report and an array are both of other crates, and the residual lies
+// apart.
 #[tactic(auto, unfolding(crate::specs::Reports::read))]
 pub fn read(counts: &[u32; 10], residual: f64) -> SolveReport
     ensures { result ≡ report.read counts.now residual }

@@ -3,10 +3,9 @@ ghost use Rattle.std.specs.Prelude.{◌≡◌, ◌∷◌, []};
 ghost use Rattle.capi.specs.Solves as plain;
 
 use boxed::{BoxOutcome, BoxReport, Cause};
-use flags::flag;
 use refusals::Refusal;
 
-// A cause as the C interface numbers it, which no conversion of the solver's own knows.
+// A cause's number. C alone numbers the causes, so that the solver has no conversion for it.
 fn cause_number(c: Cause) -> usize
     ensures { result ≡ plain.cause_number c }
 {
@@ -17,7 +16,8 @@ fn cause_number(c: Cause) -> usize
     }
 }
 
-// A function, and not From: a report and an array are both of other crates, and the outcome and the rows listed lie apart.
+// A function, and not From: a report and an array are both of other crates, and the outcome and the rows listed lie
+// apart.
 fn write(outcome: usize, r: BoxReport, listed: usize, counts: &mut [usize; 8])
     ensures { counts.new ≡ plain.written outcome r listed counts.old }
 {
@@ -25,8 +25,8 @@ fn write(outcome: usize, r: BoxReport, listed: usize, counts: &mut [usize; 8])
         outcome,
         r.sweeps as usize,
         r.exact_passes as usize,
-        flag(r.converged) as usize,
-        flag(r.exact) as usize,
+        usize::from(r.converged),
+        usize::from(r.exact),
         r.idle as usize,
         listed,
         r.stopped as usize,

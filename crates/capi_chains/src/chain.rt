@@ -27,7 +27,7 @@ pub extern "C" fn piskorlu_chain(file: &[u8], steps: &mut [usize], ends: &mut [u
     }
 }
 
-// The answer where the file has no such step. It is no refusal.
+// The answer where the file has no such step: C is answered a number, and this is no refusal's.
 const NO_STEP: u32 = u32::MAX;
 
 // A step of a chained bend file, counted from the newest, which is 0: its rows and coordinates in shape, its tolerance

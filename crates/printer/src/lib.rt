@@ -1,5 +1,6 @@
-// bendsolve's output as text in a lent buffer: as much of it as the buffer holds, and how much that is. Each public call
-// is total, and its contract is an equation with a definition of specs/.
+// bendsolve's output as text in a lent buffer: as much of it as the buffer holds, and how much that is. Each public
+// call is total, and its contract is an equation with a definition of specs/.
+// The calls answer a length, and no slice of the buffer: `answer` and C hand on a length.
 #![tactic(auto)]
 
 ghost use Rattle.printer.specs.Output as print;

@@ -8,6 +8,7 @@ fn differs(record: &[[u8; 8]; 2]) -> bool {
     !words::is_stored(floats::sqrt(words::f64_of(value)), root)
 }
 
+// Fixed memory: nothing here allocates.
 pub fn replay(rt: &(impl Files + Print)) -> io::Result<()> {
     let mut file = fs::open(rt, "sqrt.bin")?;
     let mut buffer = [0u8; 65536];
