@@ -1,4 +1,5 @@
-// Document 01's float helpers and the square root of an f64. Each call is total, and its contract is an equation with a definition of specs/.
+// Document 01's float helpers and the square root of an f64. Each call is total, and its contract is an equation with a
+// definition of specs/.
 #![tactic(auto)]
 
 ghost use Rattle.std.specs.Prelude.{◌≡◌};
@@ -7,6 +8,8 @@ ghost use Rattle.floats.specs.Rough as rough;
 ghost use Rattle.floats.specs.Sqrt as root;
 
 mod root;
+
+use root::{INFINITY_BITS, Positive};
 
 // The side at which a clamp stops a value: at its lower bound, or at its upper one.
 #[derive(Clone, Copy, PartialEq, Eq)]
@@ -86,8 +89,8 @@ fn sqrt_guessed(v: f64, near: Option<f64>) -> f64
 {
     if v > 0.0 {
         let b = v.to_bits();
-        if b < root::INFINITY_BITS {
-            return f64::from_bits(root::root_bits(b, near));
+        if b < INFINITY_BITS {
+            return f64::from_bits(Positive { bits: b }.root_bits(near));
         }
         return v;
     }
@@ -119,8 +122,8 @@ pub fn sqrt_rough(v: f64) -> Option<f64>
 {
     if v > 0.0 {
         let b = v.to_bits();
-        if b < root::INFINITY_BITS {
-            return Some(root::approximate(b));
+        if b < INFINITY_BITS {
+            return Some(Positive { bits: b }.approximate());
         }
     }
     None

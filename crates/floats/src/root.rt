@@ -58,23 +58,6 @@ impl Radicand {
     }
 }
 
-// A guess at the root of the value whose pattern is x: three steps of Newton's method for 1 / √x, each written so that
-// its products do not wait for each other. No root depends on it; the constant of the last step is a little above 1.5 so
-// that a root that is a whole number is not guessed one too low.
-#[tactic(auto, using(crate::proofs::SquareRoot::Branches::finite_bits), unfolding(crate::specs::Rough::approximated, crate::specs::Rough::newton))]
-pub fn approximate(x: u64) -> f64
-    requires { x < INFINITY_BITS }
-    ensures { result ≡ rough.approximate x }
-{
-    let v = f64::from_bits(x);
-    let h = v * 0.5;
-    let y0 = f64::from_bits(0x5fe6_eb50_c7b5_37a9 - x / 2);
-    let y1 = 1.5 * y0 - h * y0 * (y0 * y0);
-    let y2 = 1.5 * y1 - h * y1 * (y1 * y1);
-    let y3 = 1.50000000004 * y2 - h * y2 * (y2 * y2);
-    v * y3
-}
-
 // The first 27 digits of a positive value. Nothing is promised of them.
 fn leading(g: f64) -> u64 {
     if g > 0.0 {
@@ -84,27 +67,56 @@ fn leading(g: f64) -> u64 {
     }
 }
 
-// s and e, for which the value whose pattern is b is s * 2^e times 2^-2148, with 2^52 <= s < 2^53.
-fn scaled(b: u64) -> (u64, u64)
-    requires { (0 < b) × (b < INFINITY_BITS) }
-    ensures { private.Scaled b result.0 result.1 }
-{
-    if b < HIDDEN_BIT {
-        let z = u64::from(b.leading_zeros()) - 11;
-        return (b << z, 1074 - z);
-    }
-    (b % HIDDEN_BIT + HIDDEN_BIT, b / HIDDEN_BIT + 1073)
+// The pattern of a positive finite value.
+#[derive(Clone, Copy)]
+pub struct Positive {
+    pub bits: u64,
+    pub ghost positive: { 0 < bits },
+    pub ghost finite: { bits < 0x7ff0_0000_0000_0000 },
 }
 
-// The pattern of the root of the value whose pattern is b, which may be guessed to be near.
-pub fn root_bits(b: u64, near: Option<f64>) -> u64
-    requires { (0 < b) × (b < INFINITY_BITS) }
-    ensures { (of_bits binary64 result ≡ root.sqrt (of_bits binary64 b)) × (result < INFINITY_BITS) }
-{
-    let (s, e) = scaled(b);
-    let even = Radicand { s: s << (e % 2) };
-    let guess = near.unwrap_or_else(|| approximate((1074 + e % 2) * HIDDEN_BIT + s));
-    // p has 54 digits, and the last rounds
-    let p = even.refine(leading(guess));
-    (e / 2 - 26) * HIDDEN_BIT + (p + 1) / 2
+impl Positive {
+    // A guess at the root of the value: three steps of Newton's method for 1 / √x, each written so that its products do
+    // not wait for each other. No root depends on it; the constant of the last step is a little above 1.5 so that a root
+    // that is a whole number is not guessed one too low.
+    #[tactic(auto, using(crate::proofs::SquareRoot::Branches::finite_bits), unfolding(crate::specs::Rough::approximated, crate::specs::Rough::newton))]
+    pub fn approximate(self) -> f64
+        ensures { result ≡ rough.approximate self.bits }
+    {
+        let x = self.bits;
+        let v = f64::from_bits(x);
+        let h = v * 0.5;
+        let y0 = f64::from_bits(0x5fe6_eb50_c7b5_37a9 - x / 2);
+        let y1 = 1.5 * y0 - h * y0 * (y0 * y0);
+        let y2 = 1.5 * y1 - h * y1 * (y1 * y1);
+        let y3 = 1.50000000004 * y2 - h * y2 * (y2 * y2);
+        v * y3
+    }
+
+    // s and e, for which the value is s * 2^e times 2^-2148, with 2^52 <= s < 2^53.
+    fn scaled(self) -> (u64, u64)
+        ensures { private.Scaled self.bits result.0 result.1 }
+    {
+        let b = self.bits;
+        if b < HIDDEN_BIT {
+            let z = u64::from(b.leading_zeros()) - 11;
+            return (b << z, 1074 - z);
+        }
+        (b % HIDDEN_BIT + HIDDEN_BIT, b / HIDDEN_BIT + 1073)
+    }
+
+    // The pattern of the value's root, which may be guessed to be near.
+    pub fn root_bits(self, near: Option<f64>) -> u64
+        ensures { (of_bits binary64 result ≡ root.sqrt (of_bits binary64 self.bits)) × (result < INFINITY_BITS) }
+    {
+        let (s, e) = self.scaled();
+        let even = Radicand { s: s << (e % 2) };
+        let about_one = Positive {
+            bits: (1074 + e % 2) * HIDDEN_BIT + s,
+        };
+        let guess = near.unwrap_or_else(|| about_one.approximate());
+        // p has 54 digits, and the last rounds
+        let p = even.refine(leading(guess));
+        (e / 2 - 26) * HIDDEN_BIT + (p + 1) / 2
+    }
 }

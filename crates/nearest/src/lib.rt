@@ -11,7 +11,8 @@ mod pattern;
 
 use accumulator::WORDS;
 
-// The f64 nearest to the whole number of 2^-2148 that the words mean, whatever they are: ties to even, a zero result +0, an overflow an infinity.
+// The f64 nearest to the whole number of 2^-2148 that the words mean, whatever they are: ties to even, a zero result +0,
+// an overflow an infinity.
 pub fn nearest(words: &[u64; WORDS]) -> f64
     ensures { result ≡ def.nearest (acc.meaning words.now) }
 {

@@ -9,8 +9,8 @@ use Rattle.floats.proofs.sqrt_guessed.Goals as goal
 pub float_to_bits-b : goal.float_to_bits-b
 float_to_bits-b c = no_nan c.args.v c.if-v.true
 
-pub root_bits-requires : goal.root_bits-requires
-root_bits-requires c = (bits_pos c.args.v (subst T (sym c.well_formed.0.1) tt) c.if-v.true, c.if-b-lt-INFINITY_BITS.true)
+pub invariant_of-root_bits : goal.invariant_of-root_bits
+invariant_of-root_bits c = record { positive = bits_pos c.args.v (subst T (sym c.well_formed.0.1) tt) c.if-v.true; finite = c.if-b-lt-INFINITY_BITS.true }
 
 pub float_from_bits-result : goal.float_from_bits-result
 float_from_bits-result c = finite_bits c.root_bits.result c.root_bits.ensures.1

@@ -1,5 +1,5 @@
 use Rattle.floats.proofs.SquareRoot.Normal.{asked, whole, root-pattern}
-use Rattle.floats.proofs.root.root_bits.Goals as goal
+use Rattle.floats.proofs.root.Positive.root_bits.Goals as goal
 
 pub invariant_of-even : goal.invariant_of-even
 invariant_of-even c = record { few = asked c.scaled-s.ensures }
