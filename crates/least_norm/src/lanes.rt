@@ -9,20 +9,19 @@ ghost use Rattle.std.specs.Float.{nan};
 ghost use Rattle.loops.specs.Updates.{updated};
 ghost use Rattle.floats.specs.Ops.{at, 0ᶠ, 2ᶠ, ◌⊕◌, ◌⊖◌, ◌⊗◌, ◌⊘◌};
 
+use std::array;
+
 // f * x[p], f * x[p + 1], ..
 pub fn scaled<const K: usize>(f: f64, x: &[f64], p: usize) -> [f64; K]
     requires { p + K ≤ length x.now }
     ensures { result
         ≡ updated nan (λ (t : ℕ). t) (λ (t : ℕ) (v : Float). f ⊗ at x.now (p + t)) 0 K (replicate K 0ᶠ) }
 {
-    let mut s = [0.0; K];
-    for t in 0..K {
-        s[t] = f * x[p + t];
-    }
-    s
+    array::from_fn(|t| f * x[p + t])
 }
 
-// s[0] + f * x[p], s[1] + f * x[p + 1], ..
+// s[0] + f * x[p], s[1] + f * x[p + 1], .. By index, here and in add_squares: `array::from_fn` was tried, and the proof
+// of its closure, which reads s as well, did not close without a contract of the closure's own.
 pub fn add_scaled<const K: usize>(mut s: [f64; K], f: f64, x: &[f64], p: usize) -> [f64; K]
     requires { p + K ≤ length x.now }
     ensures { result
