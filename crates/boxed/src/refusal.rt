@@ -23,17 +23,19 @@ fn unequal(lo: usize, hi: usize, scale: usize, nu: usize, n: usize) -> bool
     lo != n || hi != n || scale != n || nu != n
 }
 
-// Whether every scale is finite and above 0. `all` was tried: it proves that all of the list are, and the definition's
-// "every number below n" does not close from that.
-#[tactic(auto, unfolding(loops::specs::Loops::every, crate::specs::Private::good_scale))]
+// Whether a scale is finite and above 0.
+#[tactic(auto, unfolding(crate::specs::Private::good_scale))]
+fn good_scale(s: f64) -> bool
+    ensures { result ≡ private.good_scale s }
+{
+    floats::is_finite(s) && s > 0.0
+}
+
+// Whether every scale is.
 fn good_scales(scale: &[f64]) -> bool
     ensures { result ≡ loops.every (private.good_scale_at scale.now) (length scale.now) }
 {
-    let mut good = true;
-    for s in scale {
-        good &= floats::is_finite(*s) & (*s > 0.0);
-    }
-    good
+    scale.iter().all(|s| good_scale(*s))
 }
 
 // Motion that is no whole number of rows.

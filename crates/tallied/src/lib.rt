@@ -37,16 +37,11 @@ pub fn full(tally: SolveReport) -> bool
         || tally.stopped > u32::MAX - box_rows::MAX_ROWS as u32
 }
 
-// Whether no multiplier is NaN. By a `for`, as `good_scales` of boxed.
-#[tactic(auto, unfolding(tally::specs::Tally::no_nan, loops::specs::Loops::every))]
+// Whether no multiplier is NaN.
 pub fn no_nan(nu: &[f64]) -> bool
     ensures { result ≡ def.no_nan nu.now }
 {
-    let mut none = true;
-    for v in nu {
-        none &= !floats::is_nan(*v);
-    }
-    none
+    nu.iter().all(|v| !floats::is_nan(*v))
 }
 
 // The SolveReport that a report is turned into: converged, or exact, only if the report says so and none of the
