@@ -35,7 +35,7 @@ impl Radicand {
     fn refined(self, a: u64) -> Option<u64>
         ensures { IfSome result (private.Whole (self.s * 2 ^ 54)) }
     {
-        if a < 0x400_0000 || a >= 0x800_0000 {
+        if !(0x400_0000..0x800_0000).contains(&a) {
             return None;
         }
         let u = self.s.checked_sub(a * a)?;
