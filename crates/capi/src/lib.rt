@@ -96,7 +96,8 @@ pub extern "C" fn piskorlu_and(
 }
 
 // One increment's report a, gone on from there as b reports, by `continued`: 0 and the report in counts and residual,
-// or 13. A call of its own beside piskorlu_and, since the C interface names each.
+// or 13. C names each of the two joins; one function for both, lent the join, would be no plainer: it would have these
+// six parameters and this contract once more.
 #[tactic(auto, unfolding(crate::specs::Reports::taken))]
 #[unsafe(no_mangle)]
 pub extern "C" fn piskorlu_continued(

@@ -1,5 +1,5 @@
-// The solve of a triangle by plain numbers, and the tallied one: calls of their own beside those of a whole matrix,
-// since the C interface names each.
+// The solve of a triangle by plain numbers, and the tallied one. C names these and those of a whole matrix; one function
+// for both, lent the form, would be no plainer: it would have the parameters and the contract of either once more.
 // The lists of a call stay apart: C lends each by itself.
 ghost use Rattle.std.specs.Prelude.{◌≡◌, length};
 ghost use Rattle.floats.specs.Ops as ops;
