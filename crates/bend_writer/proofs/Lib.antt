@@ -1,4 +1,3 @@
-pub mod Made
 pub mod Laying
 pub mod Chained
 pub mod Rules

@@ -1,4 +1,3 @@
-pub mod Made
 pub mod Laws
 pub mod Steps
 pub mod Blocks

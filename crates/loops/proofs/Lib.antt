@@ -12,3 +12,4 @@ pub mod Paste
 pub mod Parts
 pub mod Same
 pub mod Rounds
+pub mod Made

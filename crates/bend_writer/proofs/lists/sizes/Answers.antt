@@ -3,7 +3,7 @@ use Rattle.std.proofs.lemmas.List.{ext_get_or}
 use Rattle.loops.proofs.Fill.{tab-length, tab-at}
 use Rattle.bend_writer.specs.Private as private
 use Rattle.bend_writer.proofs.Passes.{zero_size}
-use Rattle.bend_writer.proofs.Made.{made}
+use Rattle.loops.proofs.Made.{made}
 use Rattle.bend_writer.proofs.lists.sizes.Goals as goal
 
 pub returns : goal.returns

@@ -5,7 +5,7 @@ use lib.ListN.{length-replicate}
 use lib.Ieee.{Float}
 use Rattle.loops.proofs.Updates.{updated-long, updated_here}
 use Rattle.floats.specs.Ops.{at, 0ᶠ, ◌⊗◌}
-use Rattle.least_norm.proofs.Made.{made}
+use Rattle.loops.proofs.Made.{made}
 use Rattle.least_norm.proofs.lanes.scaled.Goals as goal
 
 pub returns : goal.returns
