@@ -78,12 +78,7 @@ impl<'a> Change<'a> {
 
 // Whether the direction in which the sweep moved the multipliers is a ray, which shows that no motion meets every row.
 // If so, the rows that fight are put at the front of the row list, and the solve ends as infeasible.
-fn ray_test(
-    p: &BoxProblem,
-    states: &[u8],
-    change: &Change,
-    rows: &mut [usize],
-) -> Option<Ended>
+fn ray_test(p: &BoxProblem, states: &[u8], change: &Change, rows: &mut [usize]) -> Option<Ended>
     requires { private.TestLists (lent.of p.now) states.now change.now.nu.now change.now.before.now rows.old }
     ensures { (c : Counts) → private.Ran
         (solve.unless cause.Sweep (solve.iterate change.now.nu.now states.now c)

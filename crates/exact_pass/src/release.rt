@@ -36,7 +36,11 @@ fn release_row(state: u8, row: &RowAt, worst: Worst) -> Worst
     }
     let numbers = row.numbers();
     if pushed(state, numbers.u) {
-        return worse(row.i, natural_residual(numbers, row.problem.scale[row.i]), worst);
+        return worse(
+            row.i,
+            natural_residual(numbers, row.problem.scale[row.i]),
+            worst,
+        );
     }
     worst
 }

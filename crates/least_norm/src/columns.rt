@@ -30,12 +30,7 @@ fn copy_column(a: &MatrixView, j: usize, v: &mut [f64; MAX_SIZE])
 }
 
 // Column j's reflector, left in v from row j down. The column's norm may be guessed to be near.
-fn householder(
-    a: &MatrixView,
-    j: usize,
-    v: &mut [f64; MAX_SIZE],
-    near: Option<f64>,
-) -> Householder
+fn householder(a: &MatrixView, j: usize, v: &mut [f64; MAX_SIZE], near: Option<f64>) -> Householder
     requires { (j < a.now.size.n) × (j < a.now.size.m) }
     ensures { Reflects a.now.entries.now a.now.size.m a.now.size.n j result v.new }
 {

@@ -20,4 +20,4 @@ returns g c =
     let lu = updated-long nan (λ (t : ℕ). t) w 0 z g.row.K (omega arith) in
     ext_get_or nan _ _ (all.long ∙ sym (lu ∙ lz))
     (λ (i : ℕ) (h : i < length c.from_fn.result). let b : i < g.row.K = omega (arith, h, all.long) in
-      (m i b).1 nan ∙ sym (updated_here nan (λ t. t) w 0 z (λ t u h e. omega arith) g.row.K i (omega arith) b (omega (arith, lz, b))))
+    (m i b).1 nan ∙ sym (updated_here nan (λ t. t) w 0 z (λ t u h e. omega arith) g.row.K i (omega arith) b (omega (arith, lz, b))))

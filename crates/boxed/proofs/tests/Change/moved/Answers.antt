@@ -19,7 +19,7 @@ loop-row-preserved c =
       within = more;
       left = left_after _ _ _ _ w.within w.left _ _ s.1.0 (s.1.1 ∙ w.size);
       worst = turns_again _ _ _ _ _ w.worst
-        (rw (c.larger-worst.ensures, c.abs.ensures, c.coordinate.ensures, row_is _ _ _ _ w.within w.left _ _ s.1.0 (s.1.1 ∙ w.size), row-part c.args.motion.now (length c.args.self.now.nu.now) (length c.loop-row.yielded) (omega (arith, more))));
+          (rw (c.larger-worst.ensures, c.abs.ensures, c.coordinate.ensures, row_is _ _ _ _ w.within w.left _ _ s.1.0 (s.1.1 ∙ w.size), row-part c.args.motion.now (length c.args.self.now.nu.now) (length c.loop-row.yielded) (omega (arith, more))));
     })
 
 pub returns : goal.returns
