@@ -50,11 +50,23 @@ impl Radicand {
         Some(if b * b <= w * 0x800_0000 { p } else { p - 1 })
     }
 
-    // The same, from any guess.
+    // The same, from any guess. The guess by products is right or one too high: then one less is tried, since the root in
+    // whole numbers takes many times as long.
     fn refine(self, a: u64) -> u64
         ensures { private.Whole (self.s * 2 ^ 54) result }
     {
-        self.refined(a).unwrap_or_else(|| self.digits())
+        self.refined(a)
+            .or_else(|| self.refined(a.saturating_sub(1)))
+            .unwrap_or_else(|| self.digits())
+    }
+
+    // The same, from a near guess where there is one that serves, or else from the guess by products, of the root of
+    // `about_one`, which has the same digits.
+    fn root(self, near: Option<f64>, about_one: Positive) -> u64
+        ensures { private.Whole (self.s * 2 ^ 54) result }
+    {
+        near.and_then(|guess| self.refined(leading(guess)))
+            .unwrap_or_else(|| self.refine(leading(about_one.approximate())))
     }
 }
 
@@ -114,9 +126,8 @@ impl Positive {
         let about_one = Positive {
             bits: (1074 + e % 2) * HIDDEN_BIT + s,
         };
-        let guess = near.unwrap_or_else(|| about_one.approximate());
         // p has 54 digits, and the last rounds
-        let p = even.refine(leading(guess));
+        let p = even.root(near, about_one);
         (e / 2 - 26) * HIDDEN_BIT + (p + 1) / 2
     }
 }

@@ -5,4 +5,4 @@ pub invariant_of-even : goal.invariant_of-even
 invariant_of-even c = record { few = asked c.scaled-s.ensures }
 
 pub returns : goal.returns
-returns c = root-pattern c.refine-p.result c.scaled-s.ensures (whole c.refine-p.result c.scaled-s.ensures c.refine-p.ensures.low c.refine-p.ensures.high)
+returns c = root-pattern c.root-p.result c.scaled-s.ensures (whole c.root-p.result c.scaled-s.ensures c.root-p.ensures.low c.root-p.ensures.high)
