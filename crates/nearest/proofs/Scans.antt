@@ -1,5 +1,5 @@
 -- The scans for a word that is not 0: from the top down, and all below a word. Assumes nothing.
-use Prim.Native.Nat.{ℕ, suc, ◌+◌, ◌*◌, ◌/◌, ◌%◌, ◌^◌, ◌≤◌, ◌<◌}
+use Prim.Native.Nat.{ℕ, ◌+◌, ◌-◌, ◌*◌, ◌/◌, ◌%◌, ◌^◌, ◌≤◌, ◌<◌}
 use mathlib.Core.Path.{◌≡◌, refl, sym, ap, ◌∙◌, subst}
 use mathlib.Core.Bool.{Bool, true, not, ◌||◌}
 use mathlib.Core.List.{List, [], ◌∷◌}
@@ -8,29 +8,31 @@ use native.Mathlib.Nat.{mul-pos, mod-eq_of_lt, one-mul}
 use lib.Dec.{ltb, eqb}
 use lib.Pow.{pow_pos}
 use Rattle.std.proofs.Math.Pow.{pow-lt}
-use lib.ListN.{length, get_or, take, drop}
+use lib.ListN.{length, get_or, take, drop, drop_of_length-le}
 use borrow.Author.Tests.{lt-ltb}
-use Rattle.std.proofs.lemmas.List.{get_or-drop, length-drop}
 use Rattle.std.specs.List.{list_any}
 use Rattle.std.proofs.lemmas.Bool.Decides.{nat_tests}
 use Rattle.accumulator.specs.Accumulators.{value_in, value, base}
-use Rattle.nearest.proofs.Words.{Below, remainder}
+use Rattle.nearest.proofs.Words.{Below, from_word, remainder}
 
 -- ---- down from the top
 
--- a number none of whose words is above 0
-zeros : (l : List ℕ) → ((k : ℕ) → k < length l → get_or l k 0 ≡ 0) → value l ≡ 0
+nothing : (w v c : ℕ) → w ≡ 0 → v ≡ 0 → w + c * v ≡ 0
+nothing w v c h g = rw (h, g) (omega arith)
+
+pub none_above : (l : List ℕ) → length l ≡ 67 → value (drop 67 l) ≡ 0
 unfolding value_in
-zeros [] h = refl
-zeros (w ∷ l) h = rw (h 0 (omega arith), zeros l (λ k g. h (suc k) (omega (arith, g)))) (omega arith)
+none_above l h = ap value (drop_of_length-le l {i = 67} (omega arith))
 
--- the last word that is not 0, and word 0 where there is none
-module _ (l : List ℕ) (long : length l ≡ 67) where
-  pub all-zero : ((k : ℕ) → k < 67 → get_or l k 0 ≡ 0) → (0 < 67) × (value (drop 1 l) ≡ 0) × (0 < 0 → 0 < get_or l 0 0)
-  all-zero h = (omega arith, zeros (drop 1 l) (λ k g. get_or-drop 1 l k 0 ∙ h (1 + k) (omega (arith, long, g, length-drop 1 l))), λ g. absurd (omega (arith, g)))
+module _ (l : List ℕ) (j : ℕ) (some : 0 < j) (within : j ≤ length l) (none : value (drop j l) ≡ 0) where
+  pub none_after : value (drop (j - 1 + 1) l) ≡ 0
+  none_after = let e : j - 1 + 1 ≡ j = omega arith in ap (λ (x : ℕ). value (drop x l)) e ∙ none
 
-  pub last_of-all : (i : ℕ) → i < 67 → (get_or l i 0 ≡ 0 → ⊥) → ((k : ℕ) → i + 1 ≤ k → k < 67 → get_or l k 0 ≡ 0) → (i < 67) × (value (drop (i + 1) l) ≡ 0) × (0 < i → 0 < get_or l i 0)
-  last_of-all i h some none = (h, zeros (drop (i + 1) l) (λ k g. get_or-drop (i + 1) l k 0 ∙ none (i + 1 + k) (omega arith) (omega (arith, long, g, length-drop (i + 1) l))), λ g. omega (arith, some))
+  pub none_from : get_or l (j - 1) 0 ≡ 0 → value (drop (j - 1) l) ≡ 0
+  none_from h = from_word l (j - 1) (omega arith) ∙ nothing (get_or l (j - 1) 0) (value (drop (j - 1 + 1) l)) base h none_after
+
+pub none_but-first : (l : List ℕ) (j : ℕ) → 0 < j → j ≤ 1 → value (drop j l) ≡ 0 → value (drop 1 l) ≡ 0
+none_but-first l j h g e = let q : 1 ≡ j = omega arith in ap (λ (x : ℕ). value (drop x l)) q ∙ e
 
 -- ---- the words below a word
 

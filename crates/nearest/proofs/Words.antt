@@ -2,7 +2,7 @@
 use Prim.Native.Nat.{ℕ, zero, suc, ◌+◌, ◌-◌, ◌*◌, ◌/◌, ◌%◌, ◌^◌, ◌≤◌, ◌<◌}
 use mathlib.Core.Path.{◌≡◌, refl, sym, ap, ◌∙◌, subst}
 use mathlib.Core.Logic.{◌⊎◌, inl, inr}
-use mathlib.Core.List.{List, [], ◌∷◌}
+use mathlib.Core.List.{List, [], ◌∷◌, ◌++◌}
 use native.Mathlib.Omega.{arith}
 use native.Mathlib.Numerals.{add-one}
 use native.Mathlib.Nat.{one-le-pow, pow-succ', pow-zero, pow-suc, suc-mul, mul-le-mul_left, eq-zero-or-pos, lt_of_lt_of_le, div-lt_iff_lt-mul, div-add-mod', mod-add-div', add-mul-mod_self_right}
@@ -50,6 +50,18 @@ high b l h i =
 low : (b : ℕ) (l : List ℕ) → Below b l → (i : ℕ) → value_in b l % b ^ i ≡ value_in b (take i l)
 low b l h i =
     ap (λ (x : ℕ). x % b ^ i) (cut b l i ∙ turned (value_in b (take i l)) (b ^ i) (value_in b (drop i l))) ∙ digits_mod (value_in b (drop i l)) (front_below b l h i)
+
+-- one more word at the top
+append-step : (b x v p w q : ℕ) → v ≡ q + w * p → x + b * v ≡ x + b * q + w * (b * p)
+append-step b x v p w q h = let g : b * v ≡ b * (q + w * p) = ap (λ (y : ℕ). b * y) h in omega arith
+
+append-none : (b w p : ℕ) → p ≡ 1 → w + b * 0 ≡ 0 + w * p
+append-none b w p h = rw h (omega arith)
+
+pub appended : (b : ℕ) (l : List ℕ) (w : ℕ) → value_in b (l ++ (w ∷ [])) ≡ value_in b l + w * b ^ length l
+unfolding value_in
+appended b [] w = append-none b w (b ^ 0) (pow-zero b)
+appended b (x ∷ l) w = rw (pow-succ' b (length l)) (append-step b x (value_in b (l ++ (w ∷ []))) (b ^ length l) w (value_in b l) (appended b l w))
 
 -- ---- words of 64 digits
 

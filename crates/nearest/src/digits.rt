@@ -10,7 +10,12 @@ use accumulator::WORDS;
 fn top(m: &[u64; WORDS]) -> usize
     ensures { (result < 67) × (value (drop (result + 1) m.now) ≡ 0) × (0 < result → 0 < get_or m.now result 0) }
 {
-    m.iter().rposition(|word| *word != 0).unwrap_or(0)
+    for j in (1..WORDS).rev() {
+        if m[j] != 0 {
+            return j;
+        }
+    }
+    0
 }
 
 // How many digits the number has: none for 0.

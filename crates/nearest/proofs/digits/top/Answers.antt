@@ -1,12 +1,15 @@
-use Rattle.std.proofs.Common.{rules, ◌≡◌, ◌+◌, ◌<◌, ℕ, get_or, drop, Option, None, Some, refl}
-use Rattle.std.specs.Option.{unwrap_or}
-use Rattle.accumulator.specs.Accumulators.{value}
-use Rattle.nearest.proofs.Scans.{all-zero, last_of-all}
+use Rattle.std.proofs.Common.{arith}
+use Rattle.nearest.proofs.Scans.{none_above, none_after, none_from, none_but-first}
 use Rattle.nearest.proofs.digits.top.Goals as goal
 
+pub loop-j-init : goal.loop-j-init
+loop-j-init c = (omega arith, omega arith, none_above _ c.told-m)
+
+pub loop-j-preserved : goal.loop-j-preserved
+loop-j-preserved c = (omega arith, omega arith, none_from _ _ c.loop-j.invariant.0 (omega arith) c.loop-j.invariant.2 c.if-m-j-ne0.false)
+
+pub returns-then-m-j-ne0 : goal.returns-then-m-j-ne0
+returns-then-m-j-ne0 c = (omega arith, none_after _ _ c.loop-j.invariant.0 (omega arith) c.loop-j.invariant.2, λ _. omega arith)
+
 pub returns : goal.returns
-returns c = rw c.unwrap_or.ensures (go c.rposition.result refl)
-  where
-    go : (r : Option ℕ) → c.rposition.result ≡ r → (unwrap_or r 0 < 67) × (value (drop (unwrap_or r 0 + 1) c.args.m.now) ≡ 0) × (0 < unwrap_or r 0 → 0 < get_or c.args.m.now (unwrap_or r 0) 0)
-    go None e = all-zero _ c.told-m (search rules)
-    go (Some i) e = last_of-all _ c.told-m i (search rules) (search rules) (search rules)
+returns c = (omega arith, none_but-first _ _ c.loop-j.invariant.0 c.loop-j-test.false c.loop-j.invariant.2, λ h. absurd (omega arith))
