@@ -84,7 +84,7 @@ farthest_of none = 0ᶠ
 farthest_of (these l far) = far
 
 -- whether the problem of n rows falls along the rows of l, by their farthest
-abbrev falls_by : ℕ → List Float → List Float → List Float → List ℕ → Float → Bool
+abbrev pub falls_by : ℕ → List Float → List Float → List Float → List ℕ → Float → Bool
 falls_by n w u_free y l far = private.falls (private.linear u_free y l (length l)) (private.quadratic w n y l (length l)) far
 
 -- the rows along which the problem falls, by what one walk has; no row makes it fall
@@ -116,33 +116,33 @@ module _ (p : box.Problem) (st : List ℕ) (y : List Float) (out : List ℕ) (n 
     ray_is : rays.ray p st y ≡ cond (falls_by n p.w p.u_free y (rows_of walk) (farthest_of walk)) (rows_of walk) []
     ray_is = rw (ray_by, nonzero, falling p y _, ← one-walk p.lo p.hi p.scale st y (1e-9 ⊗ s) n, ← size)
 
-    pub ray_stopped : Collected None n walk → Front (rays.ray p st y) out None out
+    pub ray_stopped : (rows : List ℕ) → Collected None rows n walk → Front (rays.ray p st y) out None out
     unfolding private.falls private.linear turns le of_bits
-    ray_stopped c = go walk refl c
+    ray_stopped rows c = go walk refl c
       where
-        go : (w : Walked) → walk ≡ w → Collected None n w → Front (rays.ray p st y) out None out
+        go : (w : Walked) → walk ≡ w → Collected None rows n w → Front (rays.ray p st y) out None out
         go none e c = rw (ray_is, e) (record { count = refl; front = refl })
         go (these l far) e c = absurd c
 
-    module _ (c : RayRows) (found : Collected (Some c) n walk) where
-      abbrev l : List ℕ
-      l = c.rows.items
-
-      parts : (walk ≡ these l c.farthest) × (length l ≤ n) × Below n l
+    module _ (c : RayRows) (l : List ℕ) (found : Collected (Some c) l n walk) where
+      parts : (walk ≡ these l c.farthest) × (c.count ≡ length l) × (length l ≤ n) × Below n l
       parts = go walk refl found
         where
-          go : (w : Walked) → walk ≡ w → Collected (Some c) n w → (walk ≡ these l c.farthest) × (length l ≤ n) × Below n l
+          go : (w : Walked) → walk ≡ w → Collected (Some c) l n w → (walk ≡ these l c.farthest) × (c.count ≡ length l) × (length l ≤ n) × Below n l
           go none e g = cc
-          go (these m far) e g = (rw (g.0, g.1) e, rw (← g.0) at g.2, rw (← g.0) at g.3)
+          go (these m far) e g = (rw (g.0, g.2) e, rw (← g.0) at g.1, rw (← g.0) at g.3, rw (← g.0) at g.4)
 
       pub ray_few : length l ≤ n
-      ray_few = parts.1
+      ray_few = parts.2
 
       pub ray_below : Below n l
-      ray_below = parts.2
+      ray_below = parts.3
 
-      pub ray_found : falls_by n p.w p.u_free y l c.farthest ≡ true → n ≤ length out → Front (rays.ray p st y) out (Some (length l)) (l ++ drop (length l) out)
-      ray_found e h = rw (ray_is, parts.0, e) (record { count = some_fall n p.w p.u_free y l c.farthest e; front = at_front l out (omega (arith, ray_few)) })
+      pub ray_count : c.count ≡ length l
+      ray_count = parts.1
+
+      pub ray_found : falls_by n p.w p.u_free y l c.farthest ≡ true → n ≤ length out → Front (rays.ray p st y) out (Some c.count) (l ++ drop c.count out)
+      ray_found e h = rw (ray_is, parts.0, e, ray_count) (record { count = some_fall n p.w p.u_free y l c.farthest e; front = at_front l out (omega (arith, ray_few)) })
 
       pub ray_not : falls_by n p.w p.u_free y l c.farthest ≡ false → Front (rays.ray p st y) out None out
       ray_not e = rw (ray_is, parts.0, e) (record { count = refl; front = refl })

@@ -1,10 +1,21 @@
--- The free rows, as a loop gathers them, and the rows of a list as places.
-use Rattle.std.proofs.Common.{ℕ, ◌+◌, ◌≡◌, ◌≤◌, ◌<◌, ◌++◌, ◌∷◌, [], List, refl, add-one, get_or, length}
+-- One row: where a pass starts it; the free rows, as a loop gathers them, and the rows of a list as places.
+use Rattle.std.proofs.Common.{ℕ, ◌+◌, ◌≡◌, ◌≤◌, ◌<◌, ◌++◌, ◌∷◌, [], List, refl, add-one, arith, get_or, set, length}
+use lib.Ieee.{Float}
 use borrow.Author.Tests.{eq-eqb, ne_eqb}
 use Rattle.loops.specs.Loops.{those, turns}
 use Rattle.loops.proofs.Gather.{those-le, those-take, those_skip, those-gathered, each_at}
 use Rattle.exact_pass.specs.Below.{Below}
 use Rattle.exact_pass.specs.Pass.{free_rows}
+use Rattle.floats.specs.Ops.{at}
+use Rattle.box_rows.specs.Rows as box
+use Rattle.exact_pass.specs.Private as private
+
+-- the start of row i, which acts, where k rows before it act
+module _ (lo hi scale nu : List Float) (st : List ℕ) (i k : ℕ) (h : k ≤ i) {s : ℕ} (e : s ≡ box.state st i) where
+  pub row-started : {nu' : List Float} {st' : List ℕ} {v low high size x : Float} {t : ℕ} → (s ≡ 3 → ⊥) → v ≡ at nu i → low ≡ at lo i → high ≡ at hi i → size ≡ at scale i → t ≡ box.state_of low high size v
+      → st' ≡ set st i t → x ≡ box.placed low high t v → nu' ≡ set nu i x → private.Started (private.start_row lo hi scale i (private.started nu st k)) (i + 1) nu' st' (k + 1)
+  unfolding private.start_row
+  row-started f a b c d g q x r = record { start = rw (r, x, q, g, d, c, b, a, ne_eqb (box.state st i) 3 (rw e at f), add-one k); within = omega arith }
 
 pub free_none : (st : List ℕ) → [] ≡ free_rows st 0
 unfolding those turns

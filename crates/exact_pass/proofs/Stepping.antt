@@ -1,7 +1,7 @@
 -- One step of a pass, from what its calls promise.
 use Rattle.std.proofs.Common.{ℕ, ◌+◌, ◌-◌, ◌<◌, ◌≡◌, refl, ap, Bool, true, false, cond, Option, Some, None, IfSome, List, [], ◌∷◌, arith, length, get_or, take, drop, replicate}
 use Rattle.std.proofs.lemmas.List.{nil_from_length}
-use Rattle.loops.proofs.Turns.{turns_keep}
+use Rattle.loops.proofs.Turns.{turns_keep, turns_again}
 use lib.Ieee.{Float, lt}
 use Rattle.floats.specs.Ops.{◌⊖◌, ◌⊘◌, at, 0ᶠ}
 use Rattle.floats.specs.Helpers.{is_finite}
@@ -49,6 +49,12 @@ ratio_blocks lo hi l nu y alpha n below = turns_keep _ _ (λ i r. Blocks n r) (l
 
 pub ratio_within : (lo hi : List Float) (l : List ℕ) (nu y : List Float) (alpha : Float) (n : ℕ) (r : Blocking) (block : Block) → r ≡ pass.ratio_test lo hi l nu y alpha (length l) → Below n l → r.block ≡ Some block → block.row < n
 ratio_within lo hi l nu y alpha n r block e h s = let g : Blocks n r = rw e (ratio_blocks lo hi l nu y alpha n h) in rw s at g
+
+-- one more row
+pub ratio_again : (lo hi : List Float) (l : List ℕ) (nu y : List Float) (alpha : Float) (i : ℕ) {a : ℕ} {v x low high : Float} {r r' : Blocking} → r ≡ pass.ratio_test lo hi l nu y alpha i → a ≡ get_or l i 0 → v ≡ at nu a → x ≡ at y i → low ≡ at lo a → high ≡ at hi a
+    → r' ≡ box.ratio_row a v x low high r → r' ≡ pass.ratio_test lo hi l nu y alpha (i + 1)
+unfolding pass.ratio_test box.ratio_row nearer
+ratio_again lo hi l nu y alpha i h a v x low high e = turns_again _ _ i _ _ h (rw (e, high, low, x, v, a))
 
 -- ---- no bound is met
 

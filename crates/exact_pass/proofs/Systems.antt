@@ -4,10 +4,11 @@ use lib.Seq.{ext_get_or}
 use lib.Dec.{eqb}
 use lib.Ieee.{neg}
 use Rattle.loops.proofs.Updates.{updated_here, updated-long}
-use Rattle.floats.specs.Ops.{at, ◌⊖◌, ◌⊗◌}
+use Rattle.floats.specs.Ops.{at, ◌⊕◌, ◌⊖◌, ◌⊗◌}
 use borrow.Author.Tests.{le-leb}
 use Rattle.loops.specs.Loops.{turns, tab}
 use borrow.Rule.Slice.PartMut.{put_mid}
+use Rattle.loops.proofs.Turns.{turns_again}
 use Rattle.loops.proofs.Parts.{parts-start, parts_again, parts_done}
 use Rattle.loops.proofs.Fill.{tab-length, tab-at}
 use Rattle.least_norm.specs.LeastNorm.{least_norm}
@@ -42,6 +43,12 @@ module _ (w scale : List Float) (l : List ℕ) (m₀ : List Float) where
   matrix_done i m e f g h = parts_done row (length l) rows_long m₀ i m e f g h
 
 pub ruleset by_rows = (matrix-start, matrix_again, matrix_done)
+
+-- ---- what the solution leaves of a row, with one more of its entries
+
+pub residual_again : (r scale : List Float) (l : List ℕ) (z : List Float) (b : Float) (j : ℕ) {c : ℕ} {s x v e : Float} → s ≡ private.residual_row r scale l z b j → c ≡ get_or l j 0 → x ≡ at scale c → v ≡ at z j → e ≡ at r c → s ⊕ e ⊗ x ⊗ v ≡ private.residual_row r scale l z b (j + 1)
+unfolding private.residual_row
+residual_again r scale l z b j h c x v e = turns_again _ _ j _ _ h (rw (e, v, x, c))
 
 -- ---- the right-hand side, column by column
 

@@ -133,10 +133,10 @@ DirectedTo t l work b work' =
     work'
 
 -- the rows that a walk over n rows has, and their farthest; none where it was stopped
-abbrev pub Collected : Option RayRows → ℕ → walks.Walked → Type 0
-Collected c n walks.none = c ≡ None
-Collected c n (walks.these l far) =
-    MatchOption c ⊥ λ r. (r.rows.items ≡ l) × (r.farthest ≡ far) × (length l ≤ n) × Below n l
+abbrev pub Collected : Option RayRows → List ℕ → ℕ → walks.Walked → Type 0
+Collected c rows n walks.none = c ≡ None
+Collected c rows n (walks.these l far) =
+    MatchOption c ⊥ λ r. (rows ≡ l) × (r.count ≡ length l) × (r.farthest ≡ far) × (length l ≤ n) × Below n l
 
 -- the multipliers and states marked, of n rows
 abbrev pub marked : ℕ → List Float → List ℕ → pass.Trial

@@ -8,8 +8,6 @@ ghost use Rattle.box_rows.specs.Rows as box;
 ghost use Rattle.exact_pass.specs.Private as private;
 ghost use Rattle.exact_pass.specs.Promise as promise;
 
-use arrayvec::ArrayVec;
-use box_rows::MAX_ROWS;
 use box_rows::problem::BoxProblem;
 use row_values::RowValues;
 
@@ -65,10 +63,11 @@ pub struct Worst {
     pub row: Option<usize>,
 }
 
-// The rows of a ray, and the farthest of them over its scale.
-#[derive(Drop)]
+// How many rows a ray has, and the farthest of them over its scale. The rows stand in a list beside it, so that this pair
+// of numbers can be copied.
+#[derive(Clone, Copy)]
 pub struct RayRows {
-    pub rows: ArrayVec<usize, MAX_ROWS>,
+    pub count: usize,
     pub farthest: f64,
 }
 

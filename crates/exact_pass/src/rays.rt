@@ -1,5 +1,5 @@
 // The ray test: whether the problem falls without end along a direction y, and the rows where y is not zero.
-ghost use Rattle.std.specs.Prelude.{◌≡◌, ◌<◌, ◌≤◌, length};
+ghost use Rattle.std.specs.Prelude.{◌≡◌, ◌<◌, ◌≤◌, [], length};
 ghost use Rattle.box_rows.specs.Lent.{of};
 ghost use Rattle.exact_pass.specs.Ray as rays;
 ghost use Rattle.exact_pass.specs.Walk as walks;
@@ -13,7 +13,7 @@ use crate::row_values::RowValues;
 use crate::{DIVERGENCE, EXACT_RESIDUAL, RayRows};
 use arrayvec::ArrayVec;
 use box_rows::problem::ProblemRow;
-use box_rows::{IDLE, grows, size_of};
+use box_rows::{IDLE, MAX_ROWS, grows, size_of};
 
 // The largest size of a row that acts.
 #[tactic(auto, using(crate::proofs::Loops::turning), unfolding(crate::specs::Private::largest, crate::specs::Private::largest_row))]
@@ -33,16 +33,16 @@ fn largest(motion: &RowValues) -> f64
     worst
 }
 
-// The rows that count and their farthest, in one walk, or none where one that counts may not grow. A row does not count
-// where it is Idle or moves next to nothing.
-fn collect(motion: &RowValues, least: f64) -> Option<RayRows>
-    ensures { private.Collected result (length motion.now.values.now)
+// The rows that count, into an empty list, with how many and their farthest, in one walk; or none where one that counts
+// may not grow. A row does not count where it is Idle or moves next to nothing.
+fn collect(motion: &RowValues, least: f64, rows: &mut ArrayVec<usize, MAX_ROWS>) -> Option<RayRows>
+    requires { rows.old.items ≡ [] }
+    ensures { private.Collected result rows.new.items (length motion.now.values.now)
         (walks.walked motion.now.problem.now.lo.now motion.now.problem.now.hi.now motion.now.problem.now.scale.now
         motion.now.states.now motion.now.values.now least (length motion.now.values.now)) }
 {
     let p = motion.problem;
     let states = motion.states;
-    let mut rows = ArrayVec::new();
     let mut farthest = 0.0;
     for (a, y) in motion.values.iter().enumerate() {
         let size = size_of(*y, p.scale[a]);
@@ -55,7 +55,10 @@ fn collect(motion: &RowValues, least: f64) -> Option<RayRows>
         rows.push(a);
         farthest = floats::larger(farthest, size);
     }
-    Some(RayRows { rows, farthest })
+    Some(RayRows {
+        count: rows.len(),
+        farthest,
+    })
 }
 
 // A direction, and the rows of the ray along it.
@@ -154,12 +157,13 @@ pub fn ray(motion: &RowValues, rows: &mut [usize]) -> Option<usize>
     if s == 0.0 {
         return None;
     }
-    let found = collect(motion, EXACT_RESIDUAL * s)?;
-    let l = found.rows.as_slice();
+    let mut list = ArrayVec::new();
+    let found = collect(motion, EXACT_RESIDUAL * s, &mut list)?;
+    let l = list.as_slice();
     let ray = RayView { motion, rows: l };
     if falls(&ray, found.farthest) {
-        rows[..l.len()].copy_from_slice(l);
-        return Some(l.len());
+        rows[..found.count].copy_from_slice(l);
+        return Some(found.count);
     }
     None
 }

@@ -5,7 +5,7 @@ use Rattle.exact_pass.proofs.rays.collect.Goals as goal
 use Rattle.exact_pass.proofs.rays.collect.Goals.{then-states-a-eq-IDLE-via-then-states-a-eq-IDLE, then-states-a-eq-IDLE-via-else-states-a-eq-IDLE+then-size-least}
 
 pub loop-a-init : goal.loop-a-init
-loop-a-init c = rw c.new-rows.ensures (collect_start _ _ _ _ _ _)
+loop-a-init c = rw c.requires (collect_start _ _ _ _ _ _)
 
 pub loop-a-preserved-then-states-a-eq-IDLE : goal.loop-a-preserved-then-states-a-eq-IDLE
 loop-a-preserved-then-states-a-eq-IDLE c =

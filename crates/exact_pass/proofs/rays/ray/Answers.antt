@@ -8,15 +8,15 @@ returns-then-s c = ray_zero _ _ _ _ _ c.args.motion.now.value_each _ c.largest-s
 
 pub returns-in_err-found : goal.returns-in_err-found
 returns-in_err-found c =
-    rw c.from_residual.ensures (ray_stopped _ _ _ _ _ c.args.motion.now.value_each _ c.largest-s.ensures c.if-s.false c.in_err-found.ensures)
+    rw c.from_residual.ensures (ray_stopped _ _ _ _ _ c.args.motion.now.value_each _ c.largest-s.ensures c.if-s.false c.collect.new.rows.items c.in_err-found.ensures)
 
 pub returns-then-falls : goal.returns-then-falls
 returns-then-falls c =
     let fallen = rw c.as_slice-l.ensures.value at (sym c.falls.ensures ∙ c.if-falls.true) in
     rw (c.copy_from_slice.ensures.after, c.as_slice-l.ensures.value)
-    (ray_found _ _ _ _ _ c.args.motion.now.value_each _ c.largest-s.ensures c.if-s.false _ c.in_ok-found.ensures fallen (omega arith))
+    (ray_found _ _ _ _ _ c.args.motion.now.value_each _ c.largest-s.ensures c.if-s.false _ c.collect.new.rows.items c.in_ok-found.ensures fallen (omega arith))
 
 pub returns : goal.returns
 returns c =
     let risen = rw c.as_slice-l.ensures.value at (sym c.falls.ensures ∙ c.if-falls.false) in
-    ray_not _ _ _ _ _ c.args.motion.now.value_each _ c.largest-s.ensures c.if-s.false _ c.in_ok-found.ensures risen
+    ray_not _ _ _ _ _ c.args.motion.now.value_each _ c.largest-s.ensures c.if-s.false _ c.collect.new.rows.items c.in_ok-found.ensures risen
