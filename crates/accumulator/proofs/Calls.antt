@@ -9,7 +9,7 @@ use Rattle.floats.specs.Ops.{at}
 use Rattle.refusals.specs.declared.Refusal.{Refusal}
 use Rattle.refusals.specs.declared.Refusal.TheVariants.{NotFinite, ExactFull}
 use Rattle.accumulator.specs.declared.Accumulator.{Accumulator}
-use Rattle.accumulator.specs.Accumulators.{digits_in, EMPTY, with_free, with_product, add_free, add_product, then, shorter, both_finite, row_sum, row}
+use Rattle.accumulator.specs.Accumulators.{digits_in, EMPTY, words, added, free_term, product_term, with_free, with_product, add_free, add_product, then, shorter, both_finite, row_sum, row}
 use Rattle.accumulator.specs.Steps.{products}
 
 pub empty-is : record { words = replicate 67 0; products = 0; free = false } ≡ EMPTY
@@ -48,6 +48,18 @@ module _ (u : Float) (w nu : List Float) where
   unfolding row_sum turns with_free with_product EMPTY
   count zero = refl
   count (suc k) = ap (λ (n : ℕ). n + 1) (count k) ∙ add-one k
+
+  -- a row's words are the products' folded onto those of its free motion
+  pub row-state : (k : ℕ) → record {
+    words = turns k (added (words 0) (free_term u)) (λ j l. added l (product_term (at w j) (at nu j)));
+    products = k;
+    free = true;
+  } ≡ row_sum u w nu k
+  unfolding row_sum turns with_free with_product EMPTY
+  row-state zero = refl
+  row-state (suc k) =
+      ap (λ (n : ℕ). record { words = turns (suc k) (added (words 0) (free_term u)) (λ j l. added l (product_term (at w j) (at nu j))); products = n; free = true }) (sym (add-one k))
+      ∙ ap (λ (a : Accumulator). with_product a (at w k) (at nu k)) (row-state k)
 
   pub row-many : 32 < shorter w nu → Err ExactFull ≡ row u w nu
   unfolding row

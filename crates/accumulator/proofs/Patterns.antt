@@ -99,10 +99,10 @@ no_nan (fin s m e) h = tt
 pub not_infinite : (s : Bool) (m : ℕ) → m < sign_bit → is_finite (pattern s m) ≡ true → m < 0x7ff0000000000000
 not_infinite s m h f = lt_of_not-le (λ g. true≢false (sym f ∙ is-finite (pattern s m) ∙ ap is_fin (fields_of s m h ∙ alike s s (m / hidden_bit) 2047 (m % hidden_bit) (m % hidden_bit) refl (omega (arith, g, h)) refl) ∙ at_ones s (m % hidden_bit)))
 
-of-plus : (v : Float) → T (fits binary64 v) → pattern false (to_bits binary64 v) ≡ v
+pub of-plus : (v : Float) → T (fits binary64 v) → pattern false (to_bits binary64 v) ≡ v
 of-plus v h = ap (λ (x : ℕ). of_bits binary64 x) (zero-add (to_bits binary64 v)) ∙ of_bits-to_bits binary64 v h
 
-of_minus : (v : Float) → T (fits binary64 v) → sign_bit ≤ to_bits binary64 v → pattern true (to_bits binary64 v - sign_bit) ≡ v
+pub of_minus : (v : Float) → T (fits binary64 v) → sign_bit ≤ to_bits binary64 v → pattern true (to_bits binary64 v - sign_bit) ≡ v
 of_minus v h g =
     let e : sign_bit + (to_bits binary64 v - sign_bit) ≡ to_bits binary64 v = omega (arith, g) in
     ap (λ (x : ℕ). of_bits binary64 x) e ∙ of_bits-to_bits binary64 v h

@@ -68,7 +68,22 @@ carry-carried t a l j w c f n h k m g =
     let e : n + 0 * base ^ j ≡ n = omega arith in
     subst (λ (y : ℕ). Carried t a (set l j w) y (f * base ^ (j + 1))) e (word-carried t a l j w 0 c f n h k m g)
 
--- until there is none, or it is carried out of the top word
+-- ---- two words and a carry c added in two steps, over any base b: the steps' carries k and l make one
+
+pub steps-sum : (b x y c u k w l : ℕ) → u + b * k ≡ x + y → w + b * l ≡ u + c → w + b * (k + l) ≡ x + (y + c)
+steps-sum b x y c u k w l h g = omega (arith, h, g)
+
+pub steps_carry : (b x y c u k w l : ℕ) → u + b * k ≡ x + y → w + b * l ≡ u + c → x < b → y < b → c < 2 → k < 2 → l < 2 → k + l < 2
+steps_carry b x y c u zero w l h g xb yb cs ks ls = omega (arith, ls)
+steps_carry b x y c u (suc k) w zero h g xb yb cs ks ls = omega (arith, ks)
+steps_carry b x y c u (suc k) w (suc l) h g xb yb cs ks ls =
+    absurd (omega (arith, steps-sum b x y c u (suc k) w (suc l) h g, xb, yb, cs))
+
+pub carries-fit : (k l : ℕ) → k < 2 → l < 2 → k + l < base
+carries-fit k l h g = omega (arith, h, g)
+
+-- ---- the carry goes on until there is none, or it is carried out of the top word
+
 pub size_is : size ≡ base ^ 67
 unfolding size
 size_is = refl
@@ -140,7 +155,7 @@ size_pos = pow_pos 4288
 gathered : (u v n r s m q : ℕ) → q * s + m ≡ n → v + r * s ≡ u + n → v + r * s ≡ u + m + q * s
 gathered u v n r s m q e g = omega (arith, e, g)
 
-sum_is : (l₀ l : List ℕ) (n r : ℕ) → Words l → value l + r * size ≡ value l₀ + n → l ≡ added l₀ (signed false n)
+pub sum_is : (l₀ l : List ℕ) (n r : ℕ) → Words l → value l + r * size ≡ value l₀ + n → l ≡ added l₀ (signed false n)
 unfolding added residue
 sum_is l₀ l n r h e = settled l (value l₀ + n % size) (n / size) r h (gathered (value l₀) (value l) n r size (n % size) (n / size) (div-add-mod' n size) e)
 
@@ -150,7 +165,7 @@ opposite u v n r s m q e h g = omega (arith, e, h, g)
 none : (u v z r s : ℕ) → z ≡ 0 → u + r * s ≡ v + 0 → v + 0 * s ≡ u + z + r * s
 none u v z r s e g = omega (arith, e, g)
 
-difference-is : (l₀ l : List ℕ) (n r : ℕ) → Words l → value l₀ + r * size ≡ value l + n → l ≡ added l₀ (signed true n)
+pub difference-is : (l₀ l : List ℕ) (n r : ℕ) → Words l → value l₀ + r * size ≡ value l + n → l ≡ added l₀ (signed true n)
 unfolding added residue
 difference-is l₀ l zero r h e = settled l (value l₀ + 0 % size) r 0 h (none (value l₀) (value l) (0 % size) r size (zero-mod size) e)
 difference-is l₀ l (suc n) r h e =

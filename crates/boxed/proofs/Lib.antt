@@ -1,4 +1,5 @@
 pub mod Rows
+pub mod Later
 pub mod Stopping
 pub mod Testing
 pub mod Ends

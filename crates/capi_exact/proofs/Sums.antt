@@ -1,5 +1,5 @@
 -- Exact sums by plain numbers: what the tests of lengths tell, and what a copy leaves. Assumes nothing.
-use Rattle.std.proofs.Common.{◌≡◌, ℕ, suc, ◌+◌, ◌≤◌, Bool, true, false, leb, List, ◌++◌, length, take, drop, ◌∙◌, Ok, refl, ap, sym, leb-true, le-leb, arith, ℤ, pos, negsuc, zero, set}
+use Rattle.std.proofs.Common.{◌≡◌, ℕ, suc, ◌+◌, ◌≤◌, Bool, true, false, leb, List, ◌++◌, length, take, drop, ◌∙◌, Result, Ok, refl, ap, sym, leb-true, le-leb, arith, ℤ, pos, negsuc, zero, set}
 use mir.Syntax.{w8}
 use mir.Val.{to_z, of_z}
 use Rattle.std.proofs.lemmas.List.Edits.{sets-eq}
@@ -10,7 +10,8 @@ use lib.Ieee.{Float}
 use Rattle.capi_exact.specs.ExactNearest.{Answered, taken as fits}
 use Rattle.accumulator.specs.Accumulators.{meaning, sign_of}
 use Rattle.accumulator.specs.declared.Accumulator.{Accumulator}
-use Rattle.capi_exact.specs.Exact.{state, taken, reply, held, sign_taken, Signed}
+use Rattle.refusals.specs.declared.Refusal.{Refusal}
+use Rattle.capi_exact.specs.Exact.{state, taken, reply, held, Left, sign_taken, Signed}
 
 pub row_room : (words counts : List ℕ) → taken words counts ≡ true → (67 ≤ length words) × (2 ≤ length counts)
 unfolding taken
@@ -27,6 +28,10 @@ pub pasted_front : (r l : List ℕ) → length r ≡ 67 → 67 ≤ length l → 
 pasted_front r l h g =
     let e : 0 + length r ≡ 67 = omega (arith, h) in
     sym (sets-eq r l 0 (omega (arith, h, g)) ∙ ap (λ (n : ℕ). r ++ drop n l) e)
+
+-- a call whose slices are too short
+pub left-short : (x : Result Accumulator Refusal) (b : Bool) (words counts : List ℕ) → b ≡ false → Left (reply b x) 10 words words counts counts
+left-short x b words counts h = rw h (record { number_is = refl; words_are = refl; counts_are = refl })
 
 -- ---- the sign
 
